@@ -1,3 +1,6 @@
+pub use Rattle.image_emit.specs.Made
+pub use Rattle.image_soundness.specs.Memory
+pub use Rattle.image_soundness.specs.Sound
 pub mod Agreement
 pub mod Firsts
 pub mod Contents

@@ -12,8 +12,8 @@ use Rattle.image_pack.specs.declared.parts.SpanKind.{SpanKind}
 use Rattle.image_pack.specs.declared.parts.SpanKind.TheVariants.{Own, Channel as ChannelSpan, Provided as ProvidedSpan, Device as DeviceSpan, Kernel}
 use Rattle.image_pack.specs.declared.parts.SpanPart.{SpanPart}
 use Rattle.image_pack.specs.declared.parts.SubjectPart.{SubjectPart}
-use Rattle.image_soundness.specs.Memory.{Span, address_at, by_number, span_at}
-use Rattle.image_soundness.specs.Sound.{AreContents, IsSpanOf, address_of, is_kernel, kind_of, thing_spans}
+use Rattle.image_checks.specs.Memory.{Span, address_at, by_number, span_at}
+use Rattle.image_checks.specs.Sound.{AreContents, IsSpanOf, address_of, is_kernel, kind_of, thing_spans}
 use Rattle.image_verify.specs.Windows.{is_named, is_span_of, shown_address, shown_span, spans_by_number, state_span}
 use Rattle.muen_num.proofs.Lists.{find-map, map-map}
 use Rattle.muen_num.specs.Range.{numbers_below}

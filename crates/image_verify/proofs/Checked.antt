@@ -18,8 +18,8 @@ use Rattle.expand_kernel.specs.Expansion.{Expansion}
 use Rattle.image_pack.proofs.PartsKeep.{parts_keep}
 use Rattle.image_pack.specs.declared.parts.Image.{Image}
 use Rattle.image_pack.specs.declared.parts.SubjectPart.{SubjectPart}
-use Rattle.image_soundness.specs.Memory.{memory_of}
-use Rattle.image_soundness.specs.Sound.{ForEachSubject, HasWalks, ReadsTables, address_of, is_in_tables, led}
+use Rattle.image_checks.specs.Memory.{memory_of}
+use Rattle.image_checks.specs.Sound.{ForEachSubject, HasWalks, ReadsTables, address_of, is_in_tables, led}
 use Rattle.image_verify.proofs.AtIndexes.{at_pair, each_pair, granted_of, is_at, mapped_at, row_at, rows}
 use Rattle.image_verify.proofs.Leads.{are_windows, leads}
 use Rattle.image_verify.proofs.TablePages.{are_tables, entry_among}

@@ -5,7 +5,7 @@ use Rattle.image_pack.proofs.PartsKeep.{parts_keep}
 use Rattle.image_pack.specs.Parts.{IsParts}
 use Rattle.image_pack.specs.declared.parts.Image.{Image}
 use Rattle.image_pack.specs.declared.parts.SpanPart.{SpanPart}
-use Rattle.image_soundness.specs.Memory.{memory_of}
+use Rattle.image_checks.specs.Memory.{memory_of}
 use Rattle.ept_check.specs.Memory.{is_there, page_of}
 use Rattle.proof_start.proofs.MemoryFacts.{page_there, same_memory, span_with}
 

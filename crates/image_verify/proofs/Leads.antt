@@ -19,8 +19,8 @@ use Rattle.expand_kernel.proofs.Numbering.{can_map_granted}
 use Rattle.expand_kernel.specs.ByIndex.{CanMap, view_range}
 use Rattle.expand_kernel.specs.Expansion.{Expansion}
 use Rattle.image_pack.specs.declared.parts.Image.{Image}
-use Rattle.image_soundness.specs.Memory.{memory_of}
-use Rattle.image_soundness.specs.Sound.{address_of, led}
+use Rattle.image_checks.specs.Memory.{memory_of}
+use Rattle.image_checks.specs.Sound.{address_of, led}
 use Rattle.image_verify.proofs.Addresses.{address_shown}
 use Rattle.image_verify.proofs.Rooms.{Fits, as_many, keeps, views_fit}
 use Rattle.image_verify.specs.Filled.{IsFilled}

@@ -15,8 +15,8 @@ use Rattle.image_pack.specs.ImageConditions.{KeepsConditions}
 use Rattle.image_pack.specs.SpanConditions.{IsSpan}
 use Rattle.image_pack.specs.declared.parts.Image.{Image}
 use Rattle.image_pack.specs.declared.parts.SpanPart.{SpanPart}
-use Rattle.image_soundness.specs.Memory.{Span, bytes_of, by_number, memory_of, span_at}
-use Rattle.image_soundness.specs.Sound.{IsSpanOf, address_of, is_kernel, thing_spans}
+use Rattle.image_checks.specs.Memory.{Span, bytes_of, by_number, memory_of, span_at}
+use Rattle.image_checks.specs.Sound.{IsSpanOf, address_of, is_kernel, thing_spans}
 use Rattle.image_verify.proofs.Addresses.{HasSpan, address_shown, no_thing, passes_as, state_is, there_too, thing_beside}
 use Rattle.image_verify.proofs.InSpans.{in_span_there}
 use Rattle.image_verify.specs.Filled.{IsFilled}

@@ -18,8 +18,8 @@ use Rattle.image_pack.specs.declared.parts.Image.{Image}
 use Rattle.image_pack.specs.declared.parts.SpanKind.{SpanKind}
 use Rattle.image_pack.specs.declared.parts.SpanKind.TheVariants.{Own, Channel, Provided, Kernel, Device}
 use Rattle.image_pack.specs.declared.parts.SpanPart.{SpanPart}
-use Rattle.image_soundness.specs.Memory.{memory_of}
-use Rattle.image_soundness.specs.Sound.{is_in_tables, is_kernel, is_tables}
+use Rattle.image_checks.specs.Memory.{memory_of}
+use Rattle.image_checks.specs.Sound.{is_in_tables, is_kernel, is_tables}
 use Rattle.image_verify.proofs.InSpans.{in_span_there, same_bool}
 use Rattle.image_verify.specs.TablePages.{pages_of_all, pages_of_tables}
 use Rattle.muen_num.specs.Range.{numbers_below}

@@ -20,8 +20,8 @@ use Rattle.image_checks.specs.OwnPages.{SharesWithNone}
 use Rattle.image_pack.specs.Parts.{IsParts}
 use Rattle.image_pack.specs.declared.parts.Image.{Image}
 use Rattle.image_pack.specs.declared.parts.SubjectPart.{SubjectPart}
-use Rattle.image_soundness.specs.Memory.{Span, memory_of}
-use Rattle.image_soundness.specs.Sound.{AreContents, ForEachSubject, HasArea, HasBitmaps, HasPlanAndEvents, HaveOwnPages, IsFresh, IsSound, IsSpanOf, thing_spans}
+use Rattle.image_checks.specs.Memory.{Span, memory_of}
+use Rattle.image_checks.specs.Sound.{AreContents, ForEachSubject, HasArea, HasBitmaps, HasPlanAndEvents, HaveOwnPages, IsFresh, IsSound, IsSpanOf, thing_spans}
 use Rattle.image_verify.proofs.Checked.{stand_for}
 use Rattle.image_verify.specs.Filled.{IsFilled}
 use Rattle.image_verify.specs.Stand.{StandForTables}

@@ -4,8 +4,8 @@ use Rattle.ept_check.specs.Sound.{AreSound, CanBeChecked, HasOnePathPerTable}
 use Rattle.ept_check.specs.Tables.{tables_in}
 use Rattle.ept_check.specs.declared.types.SubjectTables.{SubjectTables}
 use Rattle.image_pack.specs.declared.parts.Image.{Image}
-use Rattle.image_soundness.specs.Memory.{memory_of}
-use Rattle.image_soundness.specs.Sound.{ForEachSubject, HasWalks, ReadsTables}
+use Rattle.image_checks.specs.Memory.{memory_of}
+use Rattle.image_checks.specs.Sound.{ForEachSubject, HasWalks, ReadsTables}
 use Rattle.policy_lawful.specs.source.Source.{Source}
 use Rattle.proof_build.specs.Built.{HasOnePathPerTable as HasOnePath}
 

@@ -13,10 +13,10 @@ use Rattle.image_checks.specs.OwnPages.{SharesWithNone}
 use Rattle.image_checks.specs.PlanFault.{IsPlanFault}
 use Rattle.image_checks.specs.declared.plan_owner.PlanOwner.{PlanOwner}
 use Rattle.image_checks.specs.declared.plan_owner.PlanOwner.TheVariants.{Plan as PlanItself, Subject as OfSubject, Device as OfDevice}
-use Rattle.image_emit.specs.Made.{thing_bytes}
+use Rattle.image_checks.specs.Made.{thing_bytes}
 use Rattle.image_pack.specs.declared.parts.Image.{Image}
-use Rattle.image_soundness.specs.Memory.{memory_of}
-use Rattle.image_soundness.specs.Sound.{AreContents, ForEachSubject, HasArea, HasBitmaps, HasPlanAndEvents, HaveOwnPages, IsFresh}
+use Rattle.image_checks.specs.Memory.{memory_of}
+use Rattle.image_checks.specs.Sound.{AreContents, ForEachSubject, HasArea, HasBitmaps, HasPlanAndEvents, HaveOwnPages, IsFresh}
 use Rattle.image_verify.specs.Filled.{IsFilled}
 use Rattle.image_verify.specs.TablePages.{pages_of_all}
 use Rattle.image_verify.specs.Windows.{tables_of_subjects}

@@ -2,8 +2,8 @@
 ghost use Rattle.std.specs.Prelude.{◌≡◌, ℕ, ◌/◌, ◌%◌, ◌++◌, IfOk, OnOk};
 ghost use Rattle.ept_check.specs.Sound.{AreTables};
 ghost use Rattle.ept_check.specs.Tables.{is_among};
-ghost use Rattle.image_soundness.specs.Memory.{memory_of};
-ghost use Rattle.image_soundness.specs.Sound.{is_in_tables, is_tables};
+ghost use Rattle.image_checks.specs.Memory.{memory_of};
+ghost use Rattle.image_checks.specs.Sound.{is_in_tables, is_tables};
 ghost use Rattle.image_verify.specs.TablePages.{pages_of_all, pages_of_span, pages_of_tables};
 
 use image_pack::{Parts, SpanKind, SpanPart};

@@ -2,10 +2,10 @@
 ghost use Rattle.std.specs.Prelude.{◌≡◌, ◌<◌, ◌⊎◌, Option, None, Some, true, length, IfOk};
 ghost use Rattle.expand_kernel.specs.Expansion.{Expansion, IsExpanded};
 ghost use Rattle.image_checks.specs.PlanFault.{IsPlanFault};
-ghost use Rattle.image_emit.specs.Made.{thing_bytes};
+ghost use Rattle.image_checks.specs.Made.{thing_bytes};
 ghost use Rattle.image_pack.specs.Parts.{IsParts};
 ghost use Rattle.image_pack.specs.declared.parts.Image.{Image};
-ghost use Rattle.image_soundness.specs.Sound.{IsSound};
+ghost use Rattle.image_checks.specs.Sound.{IsSound};
 ghost use Rattle.image_verify.specs.Verdict.{AreOfFiles, FirstOf, IsReadyFor, IsTableFault, IsTwice, IsVerdict, device_owner, in_order, named, plan_owner, subject_name, subject_owner};
 ghost use Rattle.image_verify.specs.declared.fault.Fault.{Fault};
 ghost use Rattle.image_verify.specs.declared.fault.Fault.TheVariants.{Fails};

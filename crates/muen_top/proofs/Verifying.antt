@@ -7,7 +7,7 @@ use Rattle.std.specs.Prelude.{if◌then◌else◌}
 use Rattle.std.proofs.lemmas.List.Elements.{All-weaker}
 use Rattle.binary_form.specs.Faults.{Tells, unpacked}
 use Rattle.binary_form.specs.declared.fault.ImageFault.{ImageFault}
-use Rattle.image_emit.specs.Made.{thing_bytes}
+use Rattle.image_verify.specs.Made.{thing_bytes}
 use Rattle.image_pack.specs.Image.{image as image_form}
 use Rattle.image_pack.specs.Parts.{IsImage}
 use Rattle.image_pack.specs.declared.parts.Image.{Image}

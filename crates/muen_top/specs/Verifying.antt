@@ -1,6 +1,6 @@
 -- What reading the files of `verify`, and the verdict, come to.
 use Rattle.std.specs.Prelude.{◌≡◌, ℕ, List, [], ◌∷◌, Option, Some, None, Ok, Err}
-use Rattle.image_emit.specs.Made.{thing_bytes}
+use Rattle.image_verify.specs.Made.{thing_bytes}
 use Rattle.image_pack.specs.Parts.{IsImage}
 use Rattle.image_pack.specs.declared.parts.Image.{Image}
 use Rattle.image_verify.specs.declared.fault.Fault.{Fault}

@@ -10,7 +10,7 @@ ghost use Rattle.muen_build.specs.Refusals.{lawful_policy_of};
 ghost use Rattle.muen_outside.specs.Store.{find_bytes};
 ghost use Rattle.muen_run.specs.RunText.{run_text};
 ghost use Rattle.policy_lawful.specs.Resolution.{source_of};
-ghost use Rattle.proof_build.specs.Built.{HasSpans};
+ghost use Rattle.image_verify.specs.Built.{HasSpans};
 ghost use Rattle.record_text.specs.Law.{IsOrderly};
 ghost use Rattle.muen_top.specs.Answers.{prints};
 ghost use Rattle.muen_top.specs.Calls.{ComesOfCommand};

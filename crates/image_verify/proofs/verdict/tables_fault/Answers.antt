@@ -3,7 +3,7 @@ use Rattle.std.specs.Prelude.{option_map}
 use Rattle.ept_check.specs.Sound.{CanBeChecked}
 use Rattle.ept_check.specs.Faults.{table_fault}
 use Rattle.ept_check.specs.declared.types.SubjectTables.{SubjectTables}
-use Rattle.image_soundness.specs.Memory.{memory_of}
+use Rattle.image_checks.specs.Memory.{memory_of}
 use Rattle.image_verify.proofs.Deciding.{fault_within, same_tables}
 use Rattle.image_verify.specs.Verdict.{named, tables_of}
 use Rattle.ept_check.specs.Memory.{Page}
