@@ -13,7 +13,7 @@ use Rattle.policy_lawful.specs.source.Source.{Source}
 use Rattle.policy_lawful.specs.source.Subject.{Subject}
 use Rattle.subject_model.specs.Alone.{Inbox, MsrValues, OwnState}
 use Rattle.subject_model.specs.SubjectState.{SubjectState}
-use Rattle.subject_model.specs.System.{System, idle, inbox_of, named, shown_to, state_of, subject_named, system_turn, turn_from, turn_in_slot, turn_of_member, turn_of_subject}
+use Rattle.subject_model.specs.System.{System, idle, inbox_of, named, pending, shown_to, state_of, subject_named, system_turn, turn_from, turn_in_slot, turn_of_member, turn_of_subject}
 use Rattle.view_text.specs.declared.TurnLine.{TurnLine}
 use Rattle.proof_views.specs.AloneRun.{Arrival, nothing, at_turn, alters, left_there, reaching, reaching_member, reaching_slot, reaching_subject}
 use Rattle.proof_views.proofs.Kept.{acted}
@@ -82,31 +82,46 @@ module _ (p : Source) (s : Subject) (tick : ℕ) (y : System) (inbox : Inbox) wh
   not_left None e = absurd (cc (e))
   not_left (Some st) e = absurd (cc (e))
 
-  of_inbox : (first : Bool) → at_turn (inbox_of p y s first tick) ≡ at_turn inbox → inbox.things ≡ shown_to p s y
-  unfolding inbox_of
-  of_inbox first e = let same : inbox_of p y s first tick ≡ inbox = cc (e) in sym (ap (λ (b : Inbox). b.things) same)
+  -- it is that of the system at its turn
+  abbrev IsIts : Type 0
+  IsIts = (first : Bool) × (inbox_of p y s first tick ≡ inbox)
 
-  of_subject : (first : Bool) (o : Option Subject) → reaching_subject p s tick first o y ≡ at_turn inbox → inbox.things ≡ shown_to p s y
+  of_inbox : (first : Bool) → at_turn (inbox_of p y s first tick) ≡ at_turn inbox → IsIts
+  of_inbox first e = (first, cc (e))
+
+  of_subject : (first : Bool) (o : Option Subject) → reaching_subject p s tick first o y ≡ at_turn inbox → IsIts
   of_subject first None e = absurd (cc (e))
   of_subject first (Some q) e =
       elim (bytes_eq q.name s.name)
-      as (λ b. cond b (at_turn (inbox_of p y s first tick)) (cond (list_any (alters s.name) q.monitors) (left_there (state_of (turn_of_subject p s.cpu tick first (Some q) y).state s.name)) nothing) ≡ at_turn inbox → inbox.things ≡ shown_to p s y) [
+      as (λ b. cond b (at_turn (inbox_of p y s first tick)) (cond (list_any (alters s.name) q.monitors) (left_there (state_of (turn_of_subject p s.cpu tick first (Some q) y).state s.name)) nothing) ≡ at_turn inbox → IsIts) [
         | true ↦ of_inbox first
         | false ↦ elim (list_any (alters s.name) q.monitors)
-            as (λ b. cond b (left_there (state_of (turn_of_subject p s.cpu tick first (Some q) y).state s.name)) nothing ≡ at_turn inbox → inbox.things ≡ shown_to p s y) [
+            as (λ b. cond b (left_there (state_of (turn_of_subject p s.cpu tick first (Some q) y).state s.name)) nothing ≡ at_turn inbox → IsIts) [
               | true ↦ λ e. absurd (not_left (state_of (turn_of_subject p s.cpu tick first (Some q) y).state s.name) e)
               | false ↦ λ e. absurd (cc (e))
             ]
       ] e
 
-  of_member : (first : Bool) (o : Option (List ℕ)) → reaching_member p s tick first o y ≡ at_turn inbox → inbox.things ≡ shown_to p s y
+  of_member : (first : Bool) (o : Option (List ℕ)) → reaching_member p s tick first o y ≡ at_turn inbox → IsIts
   of_member first None e = absurd (cc (e))
   of_member first (Some member) e = of_subject first (subject_named p member) e
 
-  of_slot : (o : Option Slot) → reaching_slot p s tick o y ≡ at_turn inbox → inbox.things ≡ shown_to p s y
+  of_slot : (o : Option Slot) → reaching_slot p s tick o y ≡ at_turn inbox → IsIts
   of_slot None e = absurd (cc (e))
   of_slot (Some slot) e = of_member slot.first (slice_get y.active slot.group) e
 
-  -- what its windows show is in it
+  pub arrived : reaching p s tick y ≡ at_turn inbox → (first : Bool) × (inbox_of p y s first tick ≡ inbox)
+  arrived e = of_slot (slot_in (frames_of p s.cpu) y.frame tick) e
+
+  -- what its windows show is in it, and what pends
   pub arrived_things : reaching p s tick y ≡ at_turn inbox → inbox.things ≡ shown_to p s y
-  arrived_things e = of_slot (slot_in (frames_of p s.cpu) y.frame tick) e
+  unfolding inbox_of
+  arrived_things e = let its = arrived e in sym (ap (λ (b : Inbox). b.things) its.1)
+
+  pub arrived_now : reaching p s tick y ≡ at_turn inbox → inbox.now ≡ pending y.now s.name
+  unfolding inbox_of
+  arrived_now e = let its = arrived e in sym (ap (λ (b : Inbox). b.now) its.1)
+
+  pub arrived_later : reaching p s tick y ≡ at_turn inbox → inbox.later ≡ pending y.later s.name
+  unfolding inbox_of
+  arrived_later e = let its = arrived e in sym (ap (λ (b : Inbox). b.later) its.1)

@@ -15,3 +15,4 @@ pub mod AloneViews
 mod Orders
 pub mod ThingsStay
 mod PrivateMemory
+mod PendingVectors

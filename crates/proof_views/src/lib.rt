@@ -1,7 +1,7 @@
 //! Laws over runs of the abstract system.
 //!
-//! What they speak of stands in specs/ (`Pages`, `LastViews`, `LinesOf`, `AloneRun`, `Changes`, `Private`). The functions here carry the laws; no command calls
-//! one.
+//! What they speak of stands in specs/ (`Pages`, `LastViews`, `LinesOf`, `AloneRun`, `Changes`, `Private`,
+//! `Raisers`). The functions here carry the laws; no command calls one.
 #![tactic(auto)]
 
 ghost use Rattle.std.specs.Prelude.{◌≡◌, ◌≤◌, ◌<◌, ◌&&◌, ℕ, suc, true, false, List, Some, All, IsTrue, map, option_map, slice_get};
@@ -20,9 +20,9 @@ ghost use Rattle.subject_model.specs.DeviceRecord.{DeviceRecord, NamedInput, dma
 ghost use Rattle.subject_model.specs.Law.{NamesEachOnce};
 ghost use Rattle.subject_model.specs.Reading.{are_distinct};
 ghost use Rattle.frame_clock.specs.Run.{run_to};
-ghost use Rattle.subject_model.specs.Alone.{Inbox, own_of, thing_in};
+ghost use Rattle.subject_model.specs.Alone.{Inbox, is_in, own_of, thing_in};
 ghost use Rattle.subject_model.specs.Clock.{inputs_at, order_at, run_of, system, takes};
-ghost use Rattle.subject_model.specs.System.{System, is_shown, named, start_of, state_of, subject_named, system_turn};
+ghost use Rattle.subject_model.specs.System.{System, is_shown, named, pending, start_of, state_of, subject_named, system_turn};
 ghost use Rattle.subject_model.specs.View.{Seen, through, view_of};
 ghost use Rattle.proof_views.specs.AloneRun.{at_turn, alone_view, is_altered, own_part, reaching_at, started_alone};
 ghost use Rattle.proof_views.specs.Changes.{IsSpared, input_changes, may_change, may_change_on, whose_turn};
@@ -30,6 +30,7 @@ ghost use Rattle.proof_views.specs.LastViews.{at_rest, behind, without_line};
 ghost use Rattle.proof_views.specs.LinesOf.{lines_of};
 ghost use Rattle.proof_views.specs.Pages.{IsStatePage};
 ghost use Rattle.proof_views.specs.Private.{IsPrivate, held_alone};
+ghost use Rattle.proof_views.specs.Raisers.{IsRaisedLater, IsRaisedNow};
 
 /// The page of a subject that no monitor may write is that of a state, with zeros elsewhere, after any
 /// number of ticks of every run: nothing else is ever written on it.
@@ -101,6 +102,21 @@ pub fn private_memory_is_the_subjects_own()
     ensures stores { (p : Source) (files : Held) (r : DeviceRecord) (s : Subject) (x : Thing) (bytes : List ℕ) (n : ℕ) (v : Seen) → IsLawful p → subject_named p s.name ≡ Some s
         → All (λ o. NamesEachOnce p.processor.logical_cpus o.1) r.orders → IsPrivate p s x → is_shown (windows_of p s) x ≡ true → thing_in (start_of p files).things x ≡ Some bytes
         → slice_get (view_of p files r s) n ≡ Some v → thing_in v.things x ≡ Some (held_alone (own_of p s) (reaching_at p files r s) (started_alone s) x bytes (suc n)) }
+{}
+
+/// Each vector that pends for a subject, after any number of ticks of every run, comes of an event that a
+/// subject of the policy declares to it (`event_of`) or, where it doesn't wait for a minor frame or an exit, of
+/// a device's interrupt that the policy grants it (`irq_of`); and so does each that reaches it at its turn
+/// (`reaching_at`). Those that wait are of events that do.
+pub fn pending_vectors_were_raised()
+    ensures now { (p : Source) (files : Held) (inputs : ℕ → List NamedInput) (order : ℕ → List ℕ) (n : ℕ) (name : List ℕ) (v : ℕ)
+        → is_in (pending (run_to (system p) inputs order n (start_of p files)).state.now name) v ≡ true → IsRaisedNow p name v }
+    ensures later { (p : Source) (files : Held) (inputs : ℕ → List NamedInput) (order : ℕ → List ℕ) (n : ℕ) (name : List ℕ) (v : ℕ)
+        → is_in (pending (run_to (system p) inputs order n (start_of p files)).state.later name) v ≡ true → IsRaisedLater p name v }
+    ensures reaches_now { (p : Source) (files : Held) (r : DeviceRecord) (s : Subject) (n : ℕ) (inbox : Inbox) (v : ℕ) → reaching_at p files r s n ≡ at_turn inbox
+        → is_in inbox.now v ≡ true → IsRaisedNow p s.name v }
+    ensures reaches_later { (p : Source) (files : Held) (r : DeviceRecord) (s : Subject) (n : ℕ) (inbox : Inbox) (v : ℕ) → reaching_at p files r s n ≡ at_turn inbox
+        → is_in inbox.later v ≡ true → IsRaisedLater p s.name v }
 {}
 
 /// A line of direct memory access writes only into regions on which its device's domain has a window with
