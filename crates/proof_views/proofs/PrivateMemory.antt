@@ -179,7 +179,7 @@ module _ (p : Source) (s : Subject) (x : Thing) (private : IsPrivate p s x) (is 
 
 module _ (p : Source) (files : Held) (r : DeviceRecord) (s : Subject) (x : Thing) (private : IsPrivate p s x) (lawful : IsLawful p) (is : subject_named p s.name ≡ Some s)
     (orders : All (λ e. NamesEachOnce p.processor.logical_cpus e.1) r.orders) (bytes : List ℕ) (starts : thing_in (start_of p files).things x ≡ Some bytes) where
-  once : All (λ e. IsTrue (are_distinct e.1)) r.orders
+  pub once : All (λ e. IsTrue (are_distinct e.1)) r.orders
   once = each_once p r orders
 
   each : AllByRecursion (λ (e : ℕ × List ℕ). NamesEachOnce p.processor.logical_cpus e.1) r.orders
@@ -195,7 +195,7 @@ module _ (p : Source) (files : Held) (r : DeviceRecord) (s : Subject) (x : Thing
       ∙ ap (option_map (after_store (stored_in (own_of p s) (reaching_at p files r s n) (alone_to (own_of p s) (reaching_at p files r s) n (started_alone s))) x))
       (to_turn p files r s x private lawful is once n ∙ h)
 
-  after_holds : (n : ℕ) → thing_in (after p files r s x private lawful is once n).things x ≡ Some (holds n)
+  pub after_holds : (n : ℕ) → thing_in (after p files r s x private lawful is once n).things x ≡ Some (holds n)
   after_holds zero = starts
   after_holds (suc n) = from_turn p files r s x private lawful is once n ∙ seen_holds n (after_holds n)
 

@@ -1,19 +1,21 @@
 //! Laws over runs of the abstract system.
 //!
 //! What they speak of stands in specs/ (`Pages`, `LastViews`, `LinesOf`, `AloneRun`, `Changes`, `Private`,
-//! `Raisers`). The functions here carry the laws; no command calls one.
+//! `Raisers`, `Writers`). The functions here carry the laws; no command calls one.
 #![tactic(auto)]
 
 ghost use Rattle.std.specs.Prelude.{◌≡◌, ◌≤◌, ◌<◌, ◌&&◌, ℕ, suc, true, false, List, Some, All, IsTrue, map, option_map, slice_get};
-ghost use Rattle.std.specs.List.{filter_map, list_any};
+ghost use Rattle.std.specs.List.{filter_map, find, list_any};
 ghost use Rattle.std.specs.Option.{IfSome};
+ghost use Rattle.std.specs.Str.{bytes_eq};
 ghost use Rattle.muen_num.specs.declared.access.AccessKind.TheVariants.{Write};
 ghost use Rattle.policy_lawful.specs.Dma.{dma_windows};
 ghost use Rattle.policy_lawful.specs.Lawful.{IsLawful};
 ghost use Rattle.policy_lawful.specs.Contents.{Held};
-ghost use Rattle.policy_lawful.specs.Thing.{Thing, same_thing};
+ghost use Rattle.policy_lawful.specs.Thing.{Thing, channel, same_thing};
 ghost use Rattle.policy_lawful.specs.Rights.{allows};
 ghost use Rattle.policy_lawful.specs.Windows.{windows_of};
+ghost use Rattle.policy_lawful.specs.source.Channel.{Channel};
 ghost use Rattle.policy_lawful.specs.source.Source.{Source};
 ghost use Rattle.policy_lawful.specs.source.Subject.{Subject};
 ghost use Rattle.subject_model.specs.DeviceRecord.{DeviceRecord, NamedInput, dma_input};
@@ -31,6 +33,7 @@ ghost use Rattle.proof_views.specs.LinesOf.{lines_of};
 ghost use Rattle.proof_views.specs.Pages.{IsStatePage};
 ghost use Rattle.proof_views.specs.Private.{IsPrivate, held_alone};
 ghost use Rattle.proof_views.specs.Raisers.{IsRaisedLater, IsRaisedNow};
+ghost use Rattle.proof_views.specs.Writers.{is_writer_of};
 
 /// The page of a subject that no monitor may write is that of a state, with zeros elsewhere, after any
 /// number of ticks of every run: nothing else is ever written on it.
@@ -102,6 +105,17 @@ pub fn private_memory_is_the_subjects_own()
     ensures stores { (p : Source) (files : Held) (r : DeviceRecord) (s : Subject) (x : Thing) (bytes : List ℕ) (n : ℕ) (v : Seen) → IsLawful p → subject_named p s.name ≡ Some s
         → All (λ o. NamesEachOnce p.processor.logical_cpus o.1) r.orders → IsPrivate p s x → is_shown (windows_of p s) x ≡ true → thing_in (start_of p files).things x ≡ Some bytes
         → slice_get (view_of p files r s) n ≡ Some v → thing_in v.things x ≡ Some (held_alone (own_of p s) (reaching_at p files r s) (started_alone s) x bytes (suc n)) }
+{}
+
+/// A channel is private memory of its writer (`IsPrivate`): a lawful policy has one subject that is (`is_writer_of`). So after
+/// any number of ticks it holds what the stores of the writer's own turns have made of the bytes of the start
+/// (`held_alone`). Each order of the record names each CPU once, as in every record that is read.
+pub fn channels_hold_what_their_writers_stored()
+    ensures private { (p : Source) (w : Subject) (name : List ℕ) (c : Channel) → IsLawful p → subject_named p w.name ≡ Some w → find (λ c. bytes_eq c.name name) p.channels ≡ Some c
+        → is_writer_of p w name ≡ true → IsPrivate p w (channel name) }
+    ensures holds { (p : Source) (files : Held) (r : DeviceRecord) (w : Subject) (name : List ℕ) (c : Channel) (bytes : List ℕ) (n : ℕ) → IsLawful p → subject_named p w.name ≡ Some w
+        → All (λ o. NamesEachOnce p.processor.logical_cpus o.1) r.orders → find (λ c. bytes_eq c.name name) p.channels ≡ Some c → is_writer_of p w name ≡ true → thing_in (start_of p files).things (channel name) ≡ Some bytes
+        → thing_in (run_to (system p) (inputs_at r) (order_at p r) n (start_of p files)).state.things (channel name) ≡ Some (held_alone (own_of p w) (reaching_at p files r w) (started_alone w) (channel name) bytes n) }
 {}
 
 /// Each vector that pends for a subject, after any number of ticks of every run, comes of an event that a

@@ -1,0 +1,10 @@
+use Rattle.policy_lawful.specs.Thing.{channel}
+use Rattle.proof_views.proofs.ChannelWriters.{channel_private}
+use Rattle.proof_views.proofs.PrivateMemory.{after_holds}
+use Rattle.proof_views.proofs.channels_hold_what_their_writers_stored.Goals as goal
+
+pub returns-clause-private : goal.returns-clause-private
+returns-clause-private c = channel_private
+
+pub returns-clause-holds : goal.returns-clause-holds
+returns-clause-holds c = λ p files r w name it bytes n lawful is orders there writes starts. after_holds p files r w (channel name) (channel_private p w name it lawful is there writes) lawful is orders bytes starts n
