@@ -1,10 +1,10 @@
 -- A channel is private memory of its writer: nobody else may change it.
-use Rattle.std.proofs.Common.{◌≡◌, ℕ, zero, suc, Bool, true, false, cond, List, [], ◌∷◌, ◌++◌, length, map, Option, Some, None, refl, sym, ap, subst, ◌∙◌, inl, inr}
+use Rattle.std.proofs.Common.{◌≡◌, ℕ, Bool, true, false, List, [], ◌∷◌, ◌++◌, length, map, Option, Some, None, refl, sym, ap, subst, ◌∙◌, inl, inr}
 use Rattle.std.specs.Prelude.{◌==◌, ◌&&◌, ◌||◌, filter, nat_le, not, option_and_then, option_map, unwrap_or}
 use Rattle.std.specs.List.{AllByRecursion, cons_option, filter_map, find, flat_map, list_all, list_any}
 use Rattle.std.specs.Option.{IfSome}
 use Rattle.std.specs.Str.{bytes_eq}
-use Rattle.std.proofs.lemmas.Bool.{and_from, and_parts, cases_Bool, eqb-true, false_from_ne_true, or_from, or_parts}
+use Rattle.std.proofs.lemmas.Bool.{and_from, and_parts, eqb-true, false_from_ne_true, or_from, or_parts}
 use Rattle.std.proofs.lemmas.List.Folds.{list_any-append}
 use Rattle.std.proofs.lemmas.Slice.Eq.{bytes_eq-Decides}
 use Rattle.muen_num.proofs.Each.{chained, each_append, each_flat, each_map, each_some, mapped}
@@ -191,8 +191,7 @@ module _ (p : Source) (name : List ℕ) where
   its_end q within writes =
       let some = any_some is_end (channel_ends p q) writes in
       let parts = and_parts (is_writer some.one.role) (bytes_eq some.one.channel name) some.passes in
-      let there = filter_in (λ e. bytes_eq e.channel name) (channel_ends p q) some.one some.within parts.1 in
-      (
+      let there = filter_in (λ e. bytes_eq e.channel name) (channel_ends p q) some.one some.within parts.1 in (
         some.one,
         filter_in (λ (e : List ℕ × ChannelEnd). is_writer e.1.role) (ends_of_channel p name) (q.name, some.one)
             (flat_in (λ (s : Subject). map (λ (e : ChannelEnd). (s.name, e)) (filter (λ e. bytes_eq e.channel name) (channel_ends p s))) p.subjects q (q.name, some.one) within

@@ -8,8 +8,6 @@ use Rattle.std.proofs.lemmas.Bool.{not-true, or_from, true≢false, false_from_n
 use Rattle.std.proofs.lemmas.List.Elements.{recursion_from_All}
 use Rattle.std.proofs.lemmas.Slice.Eq.{bytes_eq-Decides}
 use Rattle.frame_clock.specs.Run.{Turned, run_to, turns}
-use Rattle.guest_isa.specs.Step.{Stored}
-use Rattle.machine_layout.specs.Memory.{over}
 use Rattle.muen_num.proofs.Members.{any_in, find_in, passes_in}
 use Rattle.policy_lawful.proofs.KeptMajors.{MajorsKept, majors_kept}
 use Rattle.policy_lawful.proofs.KeptMembers.{MembersKept, members_kept}
@@ -22,22 +20,20 @@ use Rattle.policy_lawful.specs.Windows.{windows_of}
 use Rattle.policy_lawful.specs.source.Domain.{Domain}
 use Rattle.policy_lawful.specs.source.Source.{Source}
 use Rattle.policy_lawful.specs.source.Subject.{Subject}
-use Rattle.subject_model.proofs.KeyLaws.{same_things, things_apart, value_changed, value_other}
-use Rattle.subject_model.specs.Alone.{Inbox, MsrValues, OwnState, TurnAnswer, own_of, solo_turn, thing_in}
+use Rattle.subject_model.specs.Alone.{Inbox, MsrValues, OwnState, own_of, solo_turn, thing_in}
 use Rattle.subject_model.specs.Clock.{inputs_at, order_at, system}
 use Rattle.subject_model.specs.DeviceRecord.{DeviceRecord, NamedInput, port_input, memory_input, irq_input, dma_input}
 use Rattle.subject_model.specs.Law.{NamesEachOnce}
 use Rattle.subject_model.specs.Reading.{are_distinct}
-use Rattle.subject_model.specs.StatePage.{page_bytes}
 use Rattle.subject_model.specs.SubjectState.{SubjectState}
-use Rattle.subject_model.specs.System.{System, answered, change_thing, idle, inbox_of, is_shown, start_of, state_of, subject_named, system_turn, took, with_own, with_store}
-use Rattle.subject_model.specs.View.{Seen, ran_through, view_of}
+use Rattle.subject_model.specs.System.{System, idle, inbox_of, is_shown, start_of, state_of, subject_named, system_turn}
+use Rattle.subject_model.specs.View.{Seen, through, ran_through, view_of}
 use Rattle.view_text.specs.declared.TurnLine.{TurnLine}
 use Rattle.proof_views.specs.AloneRun.{Arrival, at_turn, alone_to, before, left_there, reaching, reaching_at, started_alone}
-use Rattle.proof_views.specs.Changes.{are_writable, input_changes, may_change}
+use Rattle.proof_views.specs.Changes.{after_store, are_writable, input_changes, may_change}
 use Rattle.proof_views.specs.LastViews.{behind}
 use Rattle.proof_views.specs.Members.{AreListed}
-use Rattle.proof_views.specs.Private.{IsPrivate, after_store, held_alone, stored_in}
+use Rattle.proof_views.specs.Private.{IsPrivate, held_alone, stored_in}
 use Rattle.proof_views.proofs.AloneViews.{each_once, own_here, turn_through}
 use Rattle.proof_views.proofs.ActiveMembers.{begun_listed}
 use Rattle.proof_views.proofs.Arrivals.{IsOther, arrival_cases, arrived_things}
@@ -45,9 +41,8 @@ use Rattle.proof_views.proofs.Kept.{acted}
 use Rattle.proof_views.proofs.LastViews.{begun_at, orders_distinct, seen_listed, seen_so}
 use Rattle.proof_views.proofs.OwnLines.{named_so}
 use Rattle.proof_views.proofs.OwnStates.{IsOwn}
-use Rattle.proof_views.proofs.ThingsStay.{begun_leaves, cpus_leave, not_same, others_answer, shown_all, shown_same}
-use Rattle.proof_views.proofs.TickParts.{none_before, none_behind, split_turns}
-use Rattle.proof_views.proofs.Unmoved.{by_raised}
+use Rattle.proof_views.proofs.ThingsStay.{begun_leaves, cpus_leave, map_same, others_answer, own_lands, shown_all, shown_same}
+use Rattle.proof_views.proofs.TickParts.{before_distinct, through_front, turns_listed, none_before, none_behind, split_turns}
 
 -- ---- who may not change it
 
@@ -135,26 +130,6 @@ module _ (p : Source) (files : Held) (r : DeviceRecord) (s : Subject) (x : Thing
 
 -- ---- its own turn
 
-map_same : (o : Option (List ℕ)) → option_map (λ bytes. bytes) o ≡ o
-map_same None = refl
-map_same (Some bytes) = refl
-
-store_lands : (x : Thing) (o : Option (Stored Thing)) (y : System) → thing_in (with_store o y).things x ≡ option_map (after_store o x) (thing_in y.things x)
-store_lands x None y = sym (map_same (thing_in y.things x))
-store_lands x (Some w) y =
-    let f : List ℕ → List ℕ = λ old. over old w.offset w.bytes in
-    elim (same_thing w.target x) as (λ b. same_thing w.target x ≡ b → thing_in (change_thing w.target f y.things) x ≡ option_map (λ bytes. cond b (f bytes) bytes) (thing_in y.things x)) [
-      | true ↦ λ e. subst (λ z. thing_in (change_thing w.target f y.things) z ≡ option_map f (thing_in y.things z)) (same_things w.target x e) (value_changed same_thing w.target f y.things)
-      | false ↦ λ e. value_other same_thing w.target x f y.things (things_apart w.target x (not_same w.target x e)) ∙ sym (map_same (thing_in y.things x))
-    ] refl
-
-own_lands : (p : Source) (s : Subject) (x : Thing) → same_thing (state s.name) x ≡ false → (a : TurnAnswer) (y : System) → thing_in (answered p s a y).things x ≡ option_map (after_store a.stored x) (thing_in y.things x)
-own_lands p s x page a y =
-    let own : System = with_own s.name a.state a.msr y in
-    ap (λ things. thing_in things x) (by_raised p s a.raised (took s.name a.taken (with_store a.stored own))).things
-    ∙ store_lands x a.stored own
-    ∙ ap (option_map (after_store a.stored x)) (value_other same_thing (state s.name) x (λ _. page_bytes a.state) y.things (things_apart (state s.name) x (not_same (state s.name) x page)))
-
 module _ (p : Source) (s : Subject) (x : Thing) (private : IsPrivate p s x) (is : subject_named p s.name ≡ Some s) (tick : ℕ) (y : System) (mine : OwnState) (h : IsOwn s y mine) where
   -- after a turn of its CPU the thing holds what it held, with the store of its own turn
   abbrev Lands : Arrival → Turned System TurnLine → Type 0
@@ -202,3 +177,29 @@ module _ (p : Source) (files : Held) (r : DeviceRecord) (s : Subject) (x : Thing
   pub seen_stores : (n : ℕ) (v : Seen) → is_shown (windows_of p s) x ≡ true → slice_get (view_of p files r s) n ≡ Some v → thing_in v.things x ≡ Some (holds (suc n))
   seen_stores n v shown seen =
       ap (λ (v : Seen). thing_in v.things x) (sym (seen_so p files r s n v seen)) ∙ shown_all p s x (ran_through p files r s.cpu n).state shown ∙ seen_holds n (after_holds n)
+
+  -- at the turn of another subject, by whether its own turn came before
+  module _ (q : Subject) (n : ℕ) where
+    abbrev front : List ℕ
+    front = before q.cpu (order_at p r n)
+
+    before_listed : AreListed p (begun_at p files r n).active
+    before_listed = begun_listed p files (members_kept p (rules_of lawful).rule_17) (inputs_at r) (order_at p r) n
+
+    by_order : (b : Bool) → list_any (λ c. c == s.cpu) front ≡ b → thing_in (turns (system p) n front (begun_at p files r n)).state.things x ≡ Some (holds (cond b (suc n) n))
+    by_order false out =
+        rest_leave p s x private (majors_kept p (rules_of lawful).rule_16) (members_kept p (rules_of lawful).rule_17) is n front (begun_at p files r n) before_listed out
+        ∙ begun_leaves p x n (inputs_at r n) (after p files r s x private lawful is once n) (inputs_spare p s x private (inputs_at r n))
+        ∙ after_holds n
+    by_order true there =
+        let its : System = (turns (system p) n (through s.cpu front) (begun_at p files r n)).state in
+        ap (λ (y : System). thing_in y.things x) (split_turns p n s.cpu front (begun_at p files r n))
+        ∙ rest_leave p s x private (majors_kept p (rules_of lawful).rule_16) (members_kept p (rules_of lawful).rule_17) is n (behind s.cpu front) its
+        (turns_listed p n (through s.cpu front) (begun_at p files r n) before_listed) (none_behind s.cpu front (before_distinct q.cpu (order_at p r n) (orders_distinct p r n once)))
+        ∙ ap (λ order. thing_in (turns (system p) n order (begun_at p files r n)).state.things x) (through_front s.cpu q.cpu (order_at p r n) there)
+        ∙ seen_holds n (after_holds n)
+
+    pub reaches_others : (inbox : Inbox) → is_shown (windows_of p q) x ≡ true → reaching_at p files r q n ≡ at_turn inbox → thing_in inbox.things x ≡ Some (holds (cond (list_any (λ c. c == s.cpu) front) (suc n) n))
+    reaches_others inbox shown reaches =
+        let its : System = (turns (system p) n front (begun_at p files r n)).state in
+        ap (λ things. thing_in things x) (arrived_things p q n its inbox reaches) ∙ shown_all p q x its shown ∙ by_order (list_any (λ c. c == s.cpu) front) refl

@@ -1,6 +1,6 @@
 -- What a turn, an input and a run leave of a thing that they may not change.
 use Rattle.std.proofs.Common.{◌≡◌, ℕ, zero, suc, ◌-◌, ◌<◌, ◌≤◌, Bool, true, false, cond, List, [], ◌∷◌, Option, Some, None, refl, sym, ap, subst, ◌∙◌, inl, inr, arith}
-use Rattle.std.specs.Prelude.{◌==◌, ◌&&◌, filter, option_and_then, slice_get}
+use Rattle.std.specs.Prelude.{◌==◌, ◌&&◌, filter, option_and_then, option_map, slice_get}
 use Rattle.std.specs.List.{cons_option, find, list_any}
 use Rattle.std.specs.Option.{IfSome}
 use Rattle.std.specs.Str.{bytes_eq}
@@ -21,17 +21,19 @@ use Rattle.policy_lawful.specs.Thing.{Thing, device_memory, same_thing, state}
 use Rattle.policy_lawful.specs.Windows.{Window, access_by, byte, holds, violation, windows_of}
 use Rattle.policy_lawful.specs.source.Source.{Source}
 use Rattle.policy_lawful.specs.source.Subject.{Subject}
-use Rattle.frame_clock.specs.Run.{all_taken, begun, run_to, turns}
+use Rattle.frame_clock.specs.Run.{Turned, all_taken, begun, run_to, turns}
 use Rattle.frame_clock.specs.Slot.{Slot}
 use Rattle.subject_model.proofs.DeviceWrites.{IsWritable, unwritten_stays}
-use Rattle.subject_model.proofs.KeyLaws.{same_thing_self, same_things, things_apart, value_other}
+use Rattle.subject_model.proofs.KeyLaws.{same_thing_self, same_things, things_apart, value_changed, value_other}
 use Rattle.subject_model.specs.Alone.{Inbox, Own, OwnState, Things, TurnAnswer, alone, own_of, reach_by, solo_turn, stepped, thing_in, unless_delivered, vector_for, waits}
 use Rattle.subject_model.specs.Clock.{begins, inputs_at, order_at, system, takes}
 use Rattle.subject_model.specs.DeviceRecord.{DeviceRecord, NamedInput, port_input, memory_input, irq_input, dma_input}
+use Rattle.subject_model.specs.Laws.{IsTurnOf}
 use Rattle.subject_model.specs.StatePage.{page_bytes}
 use Rattle.subject_model.specs.SubjectState.{SubjectState}
-use Rattle.subject_model.specs.System.{System, answered, inbox_of, is_shown, shown_to, start_of, subject_named, system_turn, took, with_own, with_store}
-use Rattle.proof_views.specs.Changes.{IsSpared, acting, are_writable, input_changes, may_change, may_change_on, whose_turn}
+use Rattle.subject_model.specs.System.{System, answered, change_thing, inbox_of, is_shown, named, shown_to, start_of, subject_named, system_turn, took, turn_answered, turn_from, turn_in_slot, turn_of_member, turn_of_subject, with_own, with_store}
+use Rattle.view_text.specs.declared.TurnLine.{TurnLine}
+use Rattle.proof_views.specs.Changes.{IsSpared, acting, after_store, are_writable, input_changes, may_change, may_change_on, whose_turn}
 use Rattle.proof_views.specs.Members.{AreListed, HasTurn}
 use Rattle.proof_views.proofs.ActiveMembers.{turn_listed}
 use Rattle.proof_views.proofs.Kept.{turn_cases}
@@ -116,6 +118,45 @@ turn_leaves p cpu tick y x may =
     turn_cases p cpu tick y (λ t. thing_in t.state.things x ≡ thing_in y.things x) refl (λ slot member q st values has.
     let its : may_change p q x ≡ false = subst (λ o. IfSome o (λ q. may_change p q x ≡ false)) (has_whose p cpu tick y slot member q has) may in
     others_answer p q x its (record { state = st; msrs = values }) (inbox_of p y q slot.first tick) y)
+
+-- ---- what it stores
+
+pub map_same : (o : Option (List ℕ)) → option_map (λ bytes. bytes) o ≡ o
+map_same None = refl
+map_same (Some bytes) = refl
+
+store_lands : (x : Thing) (o : Option (Stored Thing)) (y : System) → thing_in (with_store o y).things x ≡ option_map (after_store o x) (thing_in y.things x)
+store_lands x None y = sym (map_same (thing_in y.things x))
+store_lands x (Some w) y =
+    let f : List ℕ → List ℕ = λ old. over old w.offset w.bytes in
+    elim (same_thing w.target x) as (λ b. same_thing w.target x ≡ b → thing_in (change_thing w.target f y.things) x ≡ option_map (λ bytes. cond b (f bytes) bytes) (thing_in y.things x)) [
+      | true ↦ λ e. subst (λ z. thing_in (change_thing w.target f y.things) z ≡ option_map f (thing_in y.things z)) (same_things w.target x e) (value_changed same_thing w.target f y.things)
+      | false ↦ λ e. value_other same_thing w.target x f y.things (things_apart w.target x (not_same w.target x e)) ∙ sym (map_same (thing_in y.things x))
+    ] refl
+
+pub own_lands : (p : Source) (s : Subject) (x : Thing) → same_thing (state s.name) x ≡ false → (a : TurnAnswer) (y : System) → thing_in (answered p s a y).things x ≡ option_map (after_store a.stored x) (thing_in y.things x)
+own_lands p s x page a y =
+    let own : System = with_own s.name a.state a.msr y in
+    ap (λ things. thing_in things x) (by_raised p s a.raised (took s.name a.taken (with_store a.stored own))).things
+    ∙ store_lands x a.stored own
+    ∙ ap (option_map (after_store a.stored x)) (value_other same_thing (state s.name) x (λ _. page_bytes a.state) y.things (things_apart (state s.name) x (not_same (state s.name) x page)))
+
+-- the turn of this subject
+turn_is : (p : Source) (cpu tick : ℕ) (y : System) (s : Subject) (first : Bool) (st : SubjectState) (h : IsTurnOf p cpu tick y s first st)
+    → system_turn p cpu tick y ≡ turn_answered p cpu tick s st.pc (solo_turn (own_of p s) (record { state = st; msrs = h.values }) (inbox_of p y s first tick)) y
+turn_is p cpu tick y s first st h =
+    ap (λ o. turn_in_slot p cpu tick o y) h.in_slot
+    ∙ ap (λ o. turn_of_member p cpu tick h.slot.first o y) h.active
+    ∙ ap (λ o. turn_of_subject p cpu tick h.slot.first o y) h.is
+    ∙ ap (λ o. turn_from p cpu tick h.slot.first s o (named y.msrs s.name) y) h.stands
+    ∙ ap (λ o. turn_from p cpu tick h.slot.first s (Some st) o y) h.has
+    ∙ ap (λ b. turn_answered p cpu tick s st.pc (solo_turn (own_of p s) (record { state = st; msrs = h.values }) (inbox_of p y s b tick)) y) h.begins
+
+pub turn_stores : (p : Source) (cpu tick : ℕ) (y : System) (s : Subject) (first : Bool) (st : SubjectState) (h : IsTurnOf p cpu tick y s first st) (x : Thing) → same_thing (state s.name) x ≡ false
+    → thing_in (system_turn p cpu tick y).state.things x ≡ option_map (after_store (solo_turn (own_of p s) (record { state = st; msrs = h.values }) (inbox_of p y s first tick)).stored x) (thing_in y.things x)
+turn_stores p cpu tick y s first st h x page =
+    ap (λ (t : Turned System TurnLine). thing_in t.state.things x) (turn_is p cpu tick y s first st h)
+    ∙ own_lands p s x page (solo_turn (own_of p s) (record { state = st; msrs = h.values }) (inbox_of p y s first tick)) y
 
 some_not : {X : Type 0} (test : X → Bool) (o : Option X) (xs : List X) → list_any test (cons_option o xs) ≡ false → IfSome o (λ x. test x ≡ false) × (list_any test xs ≡ false)
 some_not test None xs h = (tt, h)

@@ -1,8 +1,8 @@
 -- The turns of a tick in parts: those through a subject's CPU, and those behind, which leave its own state.
-use Rattle.std.proofs.Common.{◌≡◌, ℕ, true, false, cond, List, [], ◌∷◌, ◌++◌, Some, refl, sym, ap, subst, ◌∙◌}
+use Rattle.std.proofs.Common.{◌≡◌, ℕ, Bool, true, false, cond, List, [], ◌∷◌, ◌++◌, Some, refl, sym, ap, subst, ◌∙◌}
 use Rattle.std.specs.Prelude.{◌==◌, ◌||◌, not}
 use Rattle.std.specs.List.{list_any}
-use Rattle.std.proofs.lemmas.Bool.{and_parts, eqb-true, not-true, or_from, or_parts}
+use Rattle.std.proofs.lemmas.Bool.{and_from, and_parts, eqb-true, not-true, or_from, or_parts}
 use Rattle.frame_clock.specs.Run.{turns}
 use Rattle.policy_lawful.proofs.KeptMajors.{MajorsKept}
 use Rattle.policy_lawful.proofs.KeptMembers.{MembersKept}
@@ -59,6 +59,40 @@ through_its cpu (c ∷ cs) there =
       | true ↦ λ e _. ap (λ n. n ∷ []) (eqb-true c cpu e)
       | false ↦ λ _ later. ap (λ xs. c ∷ xs) (through_its cpu cs later)
     ] refl there
+
+-- of the CPUs before one
+before_none : (test : ℕ → Bool) (cpu : ℕ) (order : List ℕ) → list_any test order ≡ false → list_any test (before cpu order) ≡ false
+before_none test cpu [] none = refl
+before_none test cpu (c ∷ cs) none =
+    let parts = or_parts (test c) (list_any test cs) none in
+    let later = before_none test cpu cs parts.1 in
+    elim (c == cpu) as (λ b. list_any test (cond b [] (c ∷ before cpu cs)) ≡ false) [
+      | true ↦ refl
+      | false ↦ or_from (test c) (list_any test (before cpu cs)) parts.0 later
+    ]
+
+pub before_distinct : (cpu : ℕ) (order : List ℕ) → are_distinct order ≡ true → are_distinct (before cpu order) ≡ true
+before_distinct cpu [] once = refl
+before_distinct cpu (c ∷ cs) once =
+    let parts = and_parts (not (list_any (λ m. m == c) cs)) (are_distinct cs) once in
+    let later = before_distinct cpu cs parts.1 in
+    let none = before_none (λ m. m == c) cpu cs (not-true (list_any (λ m. m == c) cs) parts.0) in
+    elim (c == cpu) as (λ b. are_distinct (cond b [] (c ∷ before cpu cs)) ≡ true) [
+      | true ↦ refl
+      | false ↦ and_from (not (list_any (λ m. m == c) (before cpu cs))) (are_distinct (before cpu cs)) (ap not none) later
+    ]
+
+-- those through one that comes before another
+pub through_front : (its other : ℕ) (order : List ℕ) → list_any (λ c. c == its) (before other order) ≡ true → through its (before other order) ≡ through its order
+through_front its other [] there = absurd (cc (there))
+through_front its other (c ∷ cs) there =
+    elim (c == other) as (λ b. list_any (λ c. c == its) (cond b [] (c ∷ before other cs)) ≡ true → through its (cond b [] (c ∷ before other cs)) ≡ through its (c ∷ cs)) [
+      | true ↦ λ k. absurd (cc (k))
+      | false ↦ λ k. elim (c == its) as (λ b. (b || list_any (λ c. c == its) (before other cs)) ≡ true → cond b (c ∷ []) (c ∷ through its (before other cs)) ≡ cond b (c ∷ []) (c ∷ through its cs)) [
+        | true ↦ λ _. refl
+        | false ↦ λ later. ap (λ xs. c ∷ xs) (through_front its other cs later)
+      ] k
+    ] there
 
 module _ (p : Source) (tick : ℕ) where
   pub turns_joined : (a b : List ℕ) (y : System) → (turns (system p) tick (a ++ b) y).state ≡ (turns (system p) tick b (turns (system p) tick a y).state).state

@@ -1,8 +1,10 @@
 -- Who changes what a thing holds: whose turn it is, where a turn may store, and what an input may write (this project's own).
-use Rattle.std.specs.Prelude.{◌≡◌, ℕ, ◌==◌, ◌&&◌, ◌||◌, Bool, false, List, [], ◌∷◌, Option, slice_get, option_and_then}
+use Rattle.std.specs.Prelude.{◌≡◌, ℕ, ◌==◌, ◌&&◌, ◌||◌, Bool, false, List, [], ◌∷◌, Option, Some, None, slice_get, option_and_then, if◌then◌else◌}
 use Rattle.std.specs.List.{cons_option, list_any}
 use Rattle.frame_clock.specs.Frames.{slot_in}
 use Rattle.frame_clock.specs.Run.{begun, run_to}
+use Rattle.guest_isa.specs.Step.{Stored}
+use Rattle.machine_layout.specs.Memory.{over}
 use Rattle.muen_num.specs.declared.access.AccessKind.TheVariants.{Write}
 use Rattle.policy_lawful.specs.Contents.{Held}
 use Rattle.policy_lawful.specs.Dma.{dma_windows}
@@ -36,6 +38,11 @@ input_changes p (port_input device port value) x = false
 input_changes p (memory_input device memory offset bytes) x = same_thing (device_memory device memory) x
 input_changes p (irq_input device irq) x = false
 input_changes p (dma_input device address bytes) x = are_writable (dma_windows p device) x
+
+-- what a thing holds after a store, which may go elsewhere
+abbrev pub after_store : Option (Stored Thing) → Thing → List ℕ → List ℕ
+after_store None x bytes = bytes
+after_store (Some w) x bytes = if same_thing w.target x then over bytes w.offset w.bytes else bytes
 
 -- ---- who has the turns
 

@@ -4,7 +4,7 @@
 //! `Raisers`, `Writers`). The functions here carry the laws; no command calls one.
 #![tactic(auto)]
 
-ghost use Rattle.std.specs.Prelude.{◌≡◌, ◌≤◌, ◌<◌, ◌&&◌, ℕ, suc, true, false, List, Some, All, IsTrue, map, option_map, slice_get};
+ghost use Rattle.std.specs.Prelude.{◌≡◌, ◌≤◌, ◌<◌, ◌==◌, ◌&&◌, if◌then◌else◌, ℕ, suc, Bool, true, false, List, Some, All, IsTrue, map, option_map, slice_get};
 ghost use Rattle.std.specs.List.{filter_map, find, list_any};
 ghost use Rattle.std.specs.Option.{IfSome};
 ghost use Rattle.std.specs.Str.{bytes_eq};
@@ -12,7 +12,7 @@ ghost use Rattle.muen_num.specs.declared.access.AccessKind.TheVariants.{Write};
 ghost use Rattle.policy_lawful.specs.Dma.{dma_windows};
 ghost use Rattle.policy_lawful.specs.Lawful.{IsLawful};
 ghost use Rattle.policy_lawful.specs.Contents.{Held};
-ghost use Rattle.policy_lawful.specs.Thing.{Thing, channel, same_thing};
+ghost use Rattle.policy_lawful.specs.Thing.{Thing, channel, same_thing, state};
 ghost use Rattle.policy_lawful.specs.Rights.{allows};
 ghost use Rattle.policy_lawful.specs.Windows.{windows_of};
 ghost use Rattle.policy_lawful.specs.source.Channel.{Channel};
@@ -22,12 +22,14 @@ ghost use Rattle.subject_model.specs.DeviceRecord.{DeviceRecord, NamedInput, dma
 ghost use Rattle.subject_model.specs.Law.{NamesEachOnce};
 ghost use Rattle.subject_model.specs.Reading.{are_distinct};
 ghost use Rattle.frame_clock.specs.Run.{run_to};
-ghost use Rattle.subject_model.specs.Alone.{Inbox, is_in, own_of, thing_in};
+ghost use Rattle.subject_model.specs.Alone.{Inbox, is_in, own_of, solo_turn, thing_in};
 ghost use Rattle.subject_model.specs.Clock.{inputs_at, order_at, run_of, system, takes};
-ghost use Rattle.subject_model.specs.System.{System, is_shown, named, pending, start_of, state_of, subject_named, system_turn};
+ghost use Rattle.subject_model.specs.Laws.{IsTurnOf};
+ghost use Rattle.subject_model.specs.SubjectState.{SubjectState};
+ghost use Rattle.subject_model.specs.System.{System, inbox_of, is_shown, named, pending, start_of, state_of, subject_named, system_turn};
 ghost use Rattle.subject_model.specs.View.{Seen, through, view_of};
-ghost use Rattle.proof_views.specs.AloneRun.{at_turn, alone_view, is_altered, own_part, reaching_at, started_alone};
-ghost use Rattle.proof_views.specs.Changes.{IsSpared, input_changes, may_change, may_change_on, whose_turn};
+ghost use Rattle.proof_views.specs.AloneRun.{at_turn, alone_view, before, is_altered, own_part, reaching_at, started_alone};
+ghost use Rattle.proof_views.specs.Changes.{IsSpared, after_store, input_changes, may_change, may_change_on, whose_turn};
 ghost use Rattle.proof_views.specs.LastViews.{at_rest, behind, without_line};
 ghost use Rattle.proof_views.specs.LinesOf.{lines_of};
 ghost use Rattle.proof_views.specs.Pages.{IsStatePage};
@@ -107,15 +109,21 @@ pub fn private_memory_is_the_subjects_own()
         → slice_get (view_of p files r s) n ≡ Some v → thing_in v.things x ≡ Some (held_alone (own_of p s) (reaching_at p files r s) (started_alone s) x bytes (suc n)) }
 {}
 
-/// A channel is private memory of its writer (`IsPrivate`): a lawful policy has one subject that is (`is_writer_of`). So after
+/// A channel is private memory of its writer (`IsPrivate`), of which a lawful policy has one (`is_writer_of`). So after
 /// any number of ticks it holds what the stores of the writer's own turns have made of the bytes of the start
-/// (`held_alone`). Each order of the record names each CPU once, as in every record that is read.
+/// (`held_alone`), and that is what reaches each subject that has a window on it: at its turn in a tick it has the
+/// writer's store of that tick too where the writer's CPU comes before its own in the tick's order. Each order of the
+/// record names each CPU once, as in every record that is read.
 pub fn channels_hold_what_their_writers_stored()
     ensures private { (p : Source) (w : Subject) (name : List ℕ) (c : Channel) → IsLawful p → subject_named p w.name ≡ Some w → find (λ c. bytes_eq c.name name) p.channels ≡ Some c
         → is_writer_of p w name ≡ true → IsPrivate p w (channel name) }
     ensures holds { (p : Source) (files : Held) (r : DeviceRecord) (w : Subject) (name : List ℕ) (c : Channel) (bytes : List ℕ) (n : ℕ) → IsLawful p → subject_named p w.name ≡ Some w
         → All (λ o. NamesEachOnce p.processor.logical_cpus o.1) r.orders → find (λ c. bytes_eq c.name name) p.channels ≡ Some c → is_writer_of p w name ≡ true → thing_in (start_of p files).things (channel name) ≡ Some bytes
         → thing_in (run_to (system p) (inputs_at r) (order_at p r) n (start_of p files)).state.things (channel name) ≡ Some (held_alone (own_of p w) (reaching_at p files r w) (started_alone w) (channel name) bytes n) }
+    ensures reaches { (p : Source) (files : Held) (r : DeviceRecord) (w : Subject) (name : List ℕ) (c : Channel) (bytes : List ℕ) (n : ℕ) (s : Subject) (inbox : Inbox) → IsLawful p → subject_named p w.name ≡ Some w
+        → All (λ o. NamesEachOnce p.processor.logical_cpus o.1) r.orders → find (λ c. bytes_eq c.name name) p.channels ≡ Some c → is_writer_of p w name ≡ true → thing_in (start_of p files).things (channel name) ≡ Some bytes
+        → is_shown (windows_of p s) (channel name) ≡ true → reaching_at p files r s n ≡ at_turn inbox → thing_in inbox.things (channel name)
+        ≡ Some (held_alone (own_of p w) (reaching_at p files r w) (started_alone w) (channel name) bytes (if list_any (λ c. c == w.cpu) (before s.cpu (order_at p r n)) then suc n else n)) }
 {}
 
 /// Each vector that pends for a subject, after any number of ticks of every run, comes of an event that a
@@ -143,13 +151,15 @@ pub fn devices_write_through_their_domain_alone()
 {}
 
 /// What a thing holds changes in a turn only where the subject whose turn it is (`whose_turn`) has a window with
-/// write on it, or where it is that subject's own state page (`may_change`); and by an input only where it is the
-/// device's memory that the input names, or where the device's domain has a window with write on it
-/// (`input_changes`). So over ticks of a run, a thing that none of their inputs and none of the subjects with a
-/// turn there may change (`IsSpared`) holds what it held.
+/// write on it, or where it is that subject's own state page (`may_change`); but for that page, by the one store of the
+/// subject's turn alone (`solo_turn`). An input changes it only where it is the device's memory that the input
+/// names, or where the device's domain has a window with write on it (`input_changes`). So over ticks of a run, a thing
+/// that none of their inputs and none of the subjects with a turn there may change (`IsSpared`) holds what it held.
 pub fn things_change_through_windows_alone()
     ensures turns { (p : Source) (cpu tick : ℕ) (y : System) (x : Thing) → IfSome (whose_turn p cpu tick y) (λ q. may_change p q x ≡ false)
         → thing_in (system_turn p cpu tick y).state.things x ≡ thing_in y.things x }
+    ensures stores { (p : Source) (cpu tick : ℕ) (y : System) (s : Subject) (first : Bool) (st : SubjectState) (h : IsTurnOf p cpu tick y s first st) (x : Thing) → same_thing (state s.name) x ≡ false
+        → thing_in (system_turn p cpu tick y).state.things x ≡ option_map (after_store (solo_turn (own_of p s) (record { state = st; msrs = h.values }) (inbox_of p y s first tick)).stored x) (thing_in y.things x) }
     ensures inputs { (p : Source) (i : NamedInput) (y : System) (x : Thing) → input_changes p i x ≡ false → thing_in (takes p i y).things x ≡ thing_in y.things x }
     ensures ticks { (p : Source) (files : Held) (r : DeviceRecord) (x : Thing) (m n : ℕ) → m ≤ n → ((k : ℕ) → m ≤ k → k < n → IsSpared p files r x k)
         → thing_in (run_to (system p) (inputs_at r) (order_at p r) n (start_of p files)).state.things x ≡ thing_in (run_to (system p) (inputs_at r) (order_at p r) m (start_of p files)).state.things x }
