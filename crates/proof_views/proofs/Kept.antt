@@ -63,7 +63,7 @@ module _ (p : Source) (P : System → Type 0)
   pub begun_keeps : (tick : ℕ) (is : List NamedInput) (y : System) → P y → P (begun (system p) tick is y)
   begun_keeps tick is y h = inputs_keep is (begins p tick y) (begins_keep tick y h)
 
-  turns_keep : (tick : ℕ) (cpus : List ℕ) (y : System) → P y → P (turns (system p) tick cpus y).state
+  pub turns_keep : (tick : ℕ) (cpus : List ℕ) (y : System) → P y → P (turns (system p) tick cpus y).state
   turns_keep tick [] y h = h
   turns_keep tick (cpu ∷ cpus) y h = turns_keep tick cpus (system_turn p cpu tick y).state (turn_keeps cpu tick y h)
 

@@ -2,11 +2,18 @@ pub mod Kept
 pub mod Unmoved
 pub mod Untouched
 pub mod StatePages
-mod LastViews
+pub mod LastViews
 pub mod ActiveMembers
 pub mod SlotCpus
 pub mod OwnLines
 pub mod LinesOfViews
+pub mod MonitorCpus
 pub mod OwnStates
-mod AloneViews
+pub mod TickParts
+pub mod Arrivals
+pub mod AloneViews
 mod Orders
+pub mod ThingsStay
+mod PrivateMemory
+mod PendingVectors
+mod ChannelWriters

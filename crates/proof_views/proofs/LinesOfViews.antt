@@ -53,7 +53,7 @@ numbers_distinct zero = refl
 numbers_distinct (suc n) = distinct_behind (numbers_below n) n (numbers_distinct n) (none_above n n (omega arith))
 
 -- of the orders of a record
-order_distinct : (o : Option (ℕ × List ℕ)) (cpus : ℕ) → IfSome o (λ e. IsTrue (are_distinct e.1)) → are_distinct (option_map_or (λ e. e.1) o (numbers_below cpus)) ≡ true
+pub order_distinct : (o : Option (ℕ × List ℕ)) (cpus : ℕ) → IfSome o (λ e. IsTrue (are_distinct e.1)) → are_distinct (option_map_or (λ e. e.1) o (numbers_below cpus)) ≡ true
 order_distinct None cpus h = numbers_distinct cpus
 order_distinct (Some e) cpus h = h
 

@@ -1,17 +1,21 @@
--- The own state of a subject: what its turn makes of it; and where no monitor may write it, nothing else changes it.
-use Rattle.std.proofs.Common.{◌≡◌, ℕ, Bool, false, List, [], ◌∷◌, Option, Some, None, refl, ap, ◌∙◌}
+-- The own state of a subject: what its turn makes of it, and who else leaves it.
+use Rattle.std.proofs.Common.{◌≡◌, ℕ, Bool, false, List, [], ◌∷◌, map, Option, Some, None, refl, ap, ◌∙◌, inl, inr}
 use Rattle.std.specs.Prelude.{◌==◌, option_map}
+use Rattle.std.specs.List.{list_any}
 use Rattle.std.specs.Option.{IfSome}
 use Rattle.std.specs.Str.{bytes_eq}
+use Rattle.std.proofs.lemmas.Bool.{eqb-false}
 use Rattle.guest_isa.specs.Step.{Stored}
 use Rattle.machine_layout.specs.Memory.{over}
 use Rattle.policy_lawful.proofs.KeptMajors.{MajorsKept}
 use Rattle.policy_lawful.proofs.KeptMembers.{MembersKept}
+use Rattle.policy_lawful.specs.Contents.{Held}
 use Rattle.policy_lawful.specs.Events.{irq_of}
 use Rattle.policy_lawful.specs.Thing.{Thing, device_memory, same_thing, state}
 use Rattle.policy_lawful.specs.source.Source.{Source}
 use Rattle.policy_lawful.specs.source.Subject.{Subject}
 use Rattle.subject_model.specs.DeviceRecord.{NamedInput, port_input, memory_input, irq_input, dma_input}
+use Rattle.subject_model.specs.Resources.{msrs_of}
 use Rattle.subject_model.specs.StatePage.{page_bytes, state_in}
 use Rattle.subject_model.specs.SubjectState.{SubjectState}
 use Rattle.frame_clock.specs.Run.{Turned, all_taken, begun}
@@ -19,15 +23,18 @@ use Rattle.view_text.specs.declared.TurnLine.{TurnLine}
 use Rattle.subject_model.specs.Alone.{MsrValues, OwnState, TurnAnswer, own_of, solo_turn, thing_in}
 use Rattle.subject_model.specs.Clock.{begins, line_writes, system, takes}
 use Rattle.subject_model.specs.Laws.{StoresElsewhere}
-use Rattle.subject_model.specs.System.{System, answered, inbox_of, named, state_of, subject_named, system_turn, took, with_own, with_store, with_write}
+use Rattle.subject_model.specs.System.{System, answered, change_thing, inbox_of, named, start_of, state_of, subject_named, system_turn, took, with_own, with_store, with_write}
 use Rattle.subject_model.proofs.DeviceWrites.{line_things, page_stays}
-use Rattle.subject_model.proofs.KeyLaws.{names_apart, things_apart, value_changed, value_other}
-use Rattle.proof_views.specs.AloneRun.{is_altered, on_page}
+use Rattle.subject_model.proofs.StartLists.{named_map}
+use Rattle.subject_model.proofs.KeyLaws.{cases_thing, names_apart, things_apart, value_changed, value_other}
+use Rattle.proof_views.specs.AloneRun.{alters, on_page, started_alone}
 use Rattle.proof_views.specs.Members.{AreListed}
 use Rattle.proof_views.proofs.Kept.{acted, turn_cases}
 use Rattle.proof_views.proofs.OwnLines.{not_of, other_name, turn_on}
+use Rattle.proof_views.proofs.StatePages.{first_paged}
 use Rattle.proof_views.proofs.Unmoved.{by_irq, by_raised}
-use Rattle.proof_views.proofs.Untouched.{solo_elsewhere}
+use Rattle.proof_views.proofs.MonitorCpus.{MonitorsKept, spares_others}
+use Rattle.proof_views.proofs.Untouched.{solo_spares}
 
 -- this is a subject's own state, with its MSRs
 pub record IsOwn (s : Subject) (y : System) (mine : OwnState) : Type 0 where
@@ -42,6 +49,13 @@ pub record StaysOwn (s : Subject) (y z : System) : Type 0 where
 pub own_stays : (s : Subject) (y z : System) (mine : OwnState) → StaysOwn s y z → IsOwn s y mine → IsOwn s z mine
 own_stays s y z mine stays h = record { state = ap (option_map state_in) stays.page ∙ h.state; msrs = stays.msrs ∙ h.msrs }
 
+-- ---- the start
+
+pub started_own : (p : Source) (s : Subject) → subject_named p s.name ≡ Some s → (files : Held) → IsOwn s (start_of p files) (started_alone s)
+unfolding start_of
+started_own p s is files =
+    record { state = ap (option_map state_in) (first_paged p files s is); msrs = named_map (λ n. map (λ m. (m.index, 0)) (msrs_of n)) p.subjects s.name ∙ ap (option_map (λ n. map (λ m. (m.index, 0)) (msrs_of n))) is }
+
 -- ---- a store
 
 pub store_msrs : (o : Option (Stored Thing)) (y : System) → (with_store o y).msrs ≡ y.msrs
@@ -55,22 +69,60 @@ store_stays s (Some w) y h =
 
 -- ---- the answer of another subject, and its own
 
+other_msrs : (p : Source) (s q : Subject) (a : TurnAnswer) (y : System) → (q.name ≡ s.name → ⊥) → named (answered p q a y).msrs s.name ≡ named y.msrs s.name
+other_msrs p s q a y ne =
+    let own : System = with_own q.name a.state a.msr y in
+    ap (λ ms. named ms s.name) (by_raised p q a.raised (took q.name a.taken (with_store a.stored own))).msrs
+    ∙ ap (λ ms. named ms s.name) (store_msrs a.stored own)
+    ∙ value_other bytes_eq q.name s.name (with_write a.msr) y.msrs (names_apart q.name s.name ne)
+
+own_page_stays : (s q : Subject) (a : TurnAnswer) (y : System) → (q.name ≡ s.name → ⊥) → thing_in (with_own q.name a.state a.msr y).things (state s.name) ≡ thing_in y.things (state s.name)
+own_page_stays s q a y ne =
+    value_other same_thing (state q.name) (state s.name) (λ _. page_bytes a.state) y.things (things_apart (state q.name) (state s.name) (λ e. ne (cc (e))))
+
 pub other_answer : (p : Source) (s q : Subject) (a : TurnAnswer) (y : System) → (q.name ≡ s.name → ⊥) → StoresElsewhere s a.stored → StaysOwn s y (answered p q a y)
 other_answer p s q a y ne elsewhere =
     let own : System = with_own q.name a.state a.msr y in
-    let rest = by_raised p q a.raised (took q.name a.taken (with_store a.stored own)) in
     record {
-      page = ap (λ things. thing_in things (state s.name)) rest.things
+      page = ap (λ things. thing_in things (state s.name)) (by_raised p q a.raised (took q.name a.taken (with_store a.stored own))).things
           ∙ store_stays s a.stored own elsewhere
-          ∙ value_other same_thing (state q.name) (state s.name) (λ _. page_bytes a.state) y.things (things_apart (state q.name) (state s.name) (λ e. ne (cc (e))));
-      msrs = ap (λ ms. named ms s.name) rest.msrs
-          ∙ ap (λ ms. named ms s.name) (store_msrs a.stored own)
-          ∙ value_other bytes_eq q.name s.name (with_write a.msr) y.msrs (names_apart q.name s.name ne);
+          ∙ own_page_stays s q a y ne;
+      msrs = other_msrs p s q a y ne;
     }
+
+-- wherever it stores, the page is there, with some state
+abbrev HasPage : Subject → System → Type 0
+HasPage s y = (page : List ℕ) × (thing_in y.things (state s.name) ≡ Some page)
+
+store_has : (s : Subject) (o : Option (Stored Thing)) (y : System) → HasPage s y → HasPage s (with_store o y)
+store_has s None y h = h
+store_has s (Some w) y h =
+    elim (cases_thing w.target (state s.name)) as (λ _. HasPage s (with_store (Some w) y)) [
+      | inl e ↦ (
+        over h.0 w.offset w.bytes,
+        ap (λ (x : Thing). thing_in (change_thing x (λ old. over old w.offset w.bytes) y.things) (state s.name)) e
+            ∙ value_changed same_thing (state s.name) (λ old. over old w.offset w.bytes) y.things
+            ∙ ap (option_map (λ old. over old w.offset w.bytes)) h.1,
+      )
+      | inr ne ↦ (h.0, value_other same_thing w.target (state s.name) (λ old. over old w.offset w.bytes) y.things (things_apart w.target (state s.name) ne) ∙ h.1)
+    ]
+
+other_has : (p : Source) (s q : Subject) (a : TurnAnswer) (y : System) → (q.name ≡ s.name → ⊥) → HasPage s y → HasPage s (answered p q a y)
+other_has p s q a y ne h =
+    let own : System = with_own q.name a.state a.msr y in
+    let has = store_has s a.stored own (h.0, own_page_stays s q a y ne ∙ h.1) in
+    (has.0, ap (λ things. thing_in things (state s.name)) (by_raised p q a.raised (took q.name a.taken (with_store a.stored own))).things ∙ has.1)
 
 page_there : (o : Option (List ℕ)) (st : SubjectState) → option_map state_in o ≡ Some st → (page : List ℕ) × (o ≡ Some page)
 page_there None st h = absurd (cc (h))
 page_there (Some page) st h = (page, refl)
+
+-- another one's answer leaves some state on it
+pub other_left : (p : Source) (s q : Subject) (a : TurnAnswer) (y : System) (mine : OwnState) → (q.name ≡ s.name → ⊥) → IsOwn s y mine → (st : SubjectState) × IsOwn s (answered p q a y) (record mine { state = st })
+other_left p s q a y mine ne h =
+    let page = page_there (thing_in y.things (state s.name)) mine.state h.state in
+    let has = other_has p s q a y ne (page.0, page.1) in
+    (state_in has.0, record { state = ap (option_map state_in) has.1; msrs = other_msrs p s q a y ne ∙ h.msrs })
 
 pub own_answer : (p : Source) (s : Subject) (a : TurnAnswer) (y : System) (mine : OwnState) → IsOwn s y mine → StoresElsewhere s a.stored → IsOwn s (answered p s a y) (record { state = on_page a.state; msrs = with_write a.msr mine.msrs })
 own_answer p s a y mine h elsewhere =
@@ -114,21 +166,27 @@ pub record IsOthers (s : Subject) (y : System) (t : Turned System TurnLine) : Ty
   pub stays : StaysOwn s y t.state
   pub line : IfSome t.line (λ l. bytes_eq l.subject s.name ≡ false)
 
-nothing_done : (s : Subject) (y : System) → StaysOwn s y y
+pub nothing_done : (s : Subject) (y : System) → StaysOwn s y y
 nothing_done s y = record { page = refl; msrs = refl }
 
-module _ (p : Source) (s : Subject) (none : is_altered p s ≡ false) (cpu tick : ℕ) (y : System) where
-  pub others_acted : (first : Bool) (member : List ℕ) (q : Subject) → subject_named p member ≡ Some q → (q.name ≡ s.name → ⊥) → (st : SubjectState) (values : MsrValues) → IsOthers s y (acted p cpu tick first q st values y)
-  others_acted first member q is ne st values =
+pub stays_through : (s : Subject) (x y z : System) → StaysOwn s x y → StaysOwn s y z → StaysOwn s x z
+stays_through s x y z a b = record { page = b.page ∙ a.page; msrs = b.msrs ∙ a.msrs }
+
+module _ (p : Source) (s : Subject) (cpu tick : ℕ) (y : System) where
+  -- of one that may not write its page
+  pub others_acted : (first : Bool) (q : Subject) → list_any (alters s.name) q.monitors ≡ false → (q.name ≡ s.name → ⊥) → (st : SubjectState) (values : MsrValues) → IsOthers s y (acted p cpu tick first q st values y)
+  others_acted first q spares ne st values =
       let mine : OwnState = record { state = st; msrs = values } in
       let answer : TurnAnswer = solo_turn (own_of p q) mine (inbox_of p y q first tick) in
       record {
-        stays = other_answer p s q answer y ne (solo_elsewhere p s none q member is mine (inbox_of p y q first tick));
+        stays = other_answer p s q answer y ne (solo_spares p s q spares mine (inbox_of p y q first tick));
         line = not_of tick cpu st.pc s.name q.name ne answer.what;
       }
 
-  pub others_turn : MajorsKept p → MembersKept p → subject_named p s.name ≡ Some s → AreListed p y.active → (cpu == s.cpu) ≡ false → IsOthers s y (system_turn p cpu tick y)
-  others_turn majors members is h apart =
+  -- of one on another CPU
+  pub others_turn : MajorsKept p → MembersKept p → MonitorsKept p → subject_named p s.name ≡ Some s → AreListed p y.active → (cpu == s.cpu) ≡ false → IsOthers s y (system_turn p cpu tick y)
+  others_turn majors members monitors is h apart =
       turn_cases p cpu tick y (IsOthers s y) (record { stays = nothing_done s y; line = tt }) (λ slot member q st values has.
       let on = turn_on p majors members cpu tick y h slot member q has in
-      others_acted slot.first member q has.is (other_name p s q member is has.is (ap (λ c. c == s.cpu) on ∙ apart)) st values)
+      let elsewhere : (q.cpu == s.cpu) ≡ false = ap (λ c. c == s.cpu) on ∙ apart in
+      others_acted slot.first q (spares_others p monitors member q has.is s is (eqb-false q.cpu s.cpu elsewhere)) (other_name p s q member is has.is elsewhere) st values)

@@ -217,7 +217,10 @@ none_found test u (y ∷ ys) x none h =
       | false ↦ λ e. none_found test u ys x parts.1 e
     ] h
 
-pub solo_elsewhere : (p : Source) (s : Subject) → is_altered p s ≡ false → (q : Subject) (member : List ℕ) → subject_named p member ≡ Some q → (mine : OwnState) (inbox : Inbox) → StoresElsewhere s (solo_turn (own_of p q) mine inbox).stored
+pub solo_spares : (p : Source) (s q : Subject) → list_any (alters s.name) q.monitors ≡ false → (mine : OwnState) (inbox : Inbox) → StoresElsewhere s (solo_turn (own_of p q) mine inbox).stored
 unfolding own_of
+solo_spares p s q none mine inbox = turn_elsewhere s (own_of p q) mine inbox (windows_spare p s.name q none)
+
+pub solo_elsewhere : (p : Source) (s : Subject) → is_altered p s ≡ false → (q : Subject) (member : List ℕ) → subject_named p member ≡ Some q → (mine : OwnState) (inbox : Inbox) → StoresElsewhere s (solo_turn (own_of p q) mine inbox).stored
 solo_elsewhere p s none q member is mine inbox =
-    turn_elsewhere s (own_of p q) mine inbox (windows_spare p s.name q (none_found (λ q. list_any (alters s.name) q.monitors) (λ q. bytes_eq q.name member) p.subjects q none is))
+    solo_spares p s q (none_found (λ q. list_any (alters s.name) q.monitors) (λ q. bytes_eq q.name member) p.subjects q none is) mine inbox
