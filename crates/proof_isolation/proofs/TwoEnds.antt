@@ -1,26 +1,20 @@
 -- What is printed of members is the same in two systems that agree on them.
-use Rattle.std.proofs.Common.{◌≡◌, ℕ, true, List, min, Option, Some, refl, sym, ap, subst, ◌∙◌, arith}
+use Rattle.std.proofs.Common.{min, sym, ap, subst, ◌∙◌, arith}
 use Rattle.std.specs.List.{flat_map}
-use Rattle.std.specs.Option.{option_map_or}
 use Rattle.std.specs.Prelude.{option_map}
-use Rattle.policy_flows.specs.Flows.{IsClosed, is_member}
 use Rattle.policy_lawful.specs.Contents.{Held}
 use Rattle.policy_lawful.specs.Lawful.{IsLawful}
-use Rattle.policy_lawful.specs.Thing.{Thing, is_device, state, thing_tag}
-use Rattle.policy_lawful.specs.Windows.{windows_of}
+use Rattle.policy_lawful.specs.Thing.{state}
 use Rattle.policy_lawful.specs.source.Source.{Source}
-use Rattle.policy_lawful.specs.source.Subject.{Subject}
 use Rattle.subject_model.specs.Alone.{thing_in}
 use Rattle.subject_model.specs.Clock.{run_of}
 use Rattle.subject_model.specs.DeviceRecord.{DeviceRecord}
 use Rattle.subject_model.specs.StatePage.{state_in}
-use Rattle.subject_model.specs.System.{is_shown, subject_named}
-use Rattle.subject_model.specs.Trace.{state_text, subject_text, thing_text}
-use Rattle.proof_views.specs.ViewText.{region_text, turn_text}
+use Rattle.subject_model.specs.Trace.{state_text}
+use Rattle.proof_views.specs.ViewText.{turn_text}
 use Rattle.proof_views.specs.LinesOf.{lines_of}
 use Rattle.proof_isolation.specs.Agree.{Agree}
-use Rattle.proof_isolation.specs.Alike.{AreAlike}
-use Rattle.proof_isolation.specs.TwoTexts.{ArePrintedAlike, HasDistinctOrders, PrintsMembersAlike}
+use Rattle.proof_isolation.specs.TwoTexts.{HasDistinctOrders, PrintsMembersAlike}
 use Rattle.proof_isolation.proofs.Alike.{same_name}
 use Rattle.proof_isolation.proofs.TwoSystems.{ends_alike}
 use Rattle.proof_isolation.proofs.TwoTexts.{same_lines}
