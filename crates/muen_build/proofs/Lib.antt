@@ -10,3 +10,4 @@ pub mod Placing
 pub mod Refusing
 pub mod Rooms
 pub mod Steps
+pub mod Unnamed

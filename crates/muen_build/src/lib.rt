@@ -19,6 +19,7 @@ mod accepted;
 mod contents;
 mod given;
 mod image_bytes;
+mod named;
 mod things;
 
 pub use accepted::{Accepted, BuildError, ComponentFiles};
@@ -27,6 +28,7 @@ pub use given::Given;
 pub use image_bytes::{build, image};
 use muen_num::Seq;
 use muen_outside::Files;
+pub use named::names_file;
 use policy_lawful::{Lawful, Refusal};
 use region_alloc::Placed;
 use std::alloc::Global;

@@ -21,7 +21,7 @@ use crate::run::known_as;
 use expand_kernel::{Expanded, expand};
 use image_pack::{Parts, unpack};
 use image_verify::Fault;
-use muen_build::{Given, contents_of, lawful};
+use muen_build::{Given, contents_of, lawful, names_file};
 use muen_num::limits::{IMAGE_MOST, POLICY_MOST};
 use muen_num::{NoMemory, Seq};
 use muen_outside::{Files, Sink, SinkFault, put_pieces};
@@ -76,29 +76,34 @@ fn read_policy<'a, F: Files>(
     Ok(PolicyRead { policy, document })
 }
 
-// What the regions of a policy hold, after its document and an image, whose files' bytes these are.
+// What the regions of a policy hold, after its document and an image, whose files' bytes these are. The
+// image's bytes are let go before where no content is of its file.
 fn read_contents<'a, F: Files>(
     alloc: Global,
     image: &str,
-    bytes: &[u8],
+    bytes: Seq<u8>,
     policy: &str,
     document: &[u8],
     lawful: &Lawful,
     files: &mut F,
 ) -> Result<Seq<Seq<u8>>, CommandError<'a>>
-    ensures ok { IfOk result (HasContents ((policy.now, document.now) ∷ (image.now, bytes.now) ∷ []) lawful.now (F.held files.old) (F.history files.old) (F.history files.new)) }
-    ensures err { IfErr result (LacksAny ((policy.now, document.now) ∷ (image.now, bytes.now) ∷ []) (source_of lawful.now) (F.held files.old) (F.history files.old) (F.history files.new)) }
+    ensures ok { IfOk result (HasContents ((policy.now, document.now) ∷ (image.now, bytes) ∷ []) lawful.now (F.held files.old) (F.history files.old) (F.history files.new)) }
+    ensures err { IfErr result (LacksAny ((policy.now, document.now) ∷ (image.now, bytes) ∷ []) (source_of lawful.now) (F.held files.old) (F.history files.old) (F.history files.new)) }
     ensures held { F.held files.new ≡ F.held files.old }
 {
-    let given = [
-        Given {
-            name: policy,
-            bytes: document,
-        },
-        Given { name: image, bytes },
-    ];
-    let things = contents_of(alloc, &given, lawful, files)?;
-    Ok(things)
+    let of_policy = Given {
+        name: policy,
+        bytes: document,
+    };
+    if names_file(lawful, image) {
+        let of_image = Given {
+            name: image,
+            bytes: bytes.items(),
+        };
+        return Ok(contents_of(alloc, &[of_policy, of_image], lawful, files)?);
+    }
+    drop(bytes);
+    Ok(contents_of(alloc, &[of_policy], lawful, files)?)
 }
 
 // What is judged: an image, for a lawful policy, whose regions hold this at the start.
@@ -128,7 +133,7 @@ fn read_all<'a, F: Files>(
     let things = read_contents(
         alloc,
         image,
-        bytes.items(),
+        bytes,
         policy,
         document.items(),
         &lawful,

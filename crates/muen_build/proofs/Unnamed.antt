@@ -1,0 +1,102 @@
+-- Bytes that are given under a name that no content has: they say nothing.
+use Rattle.std.proofs.Common.{◌≡◌, inl, inr, ℕ, true, false, List, [], ◌∷◌, ◌++◌, Option, Some, None, refl, sym, ap, subst, ◌∙◌, true≢false}
+use Rattle.std.specs.Prelude.{if◌then◌else◌}
+use Rattle.std.specs.FinMap.{insert}
+use Rattle.std.specs.List.{All}
+use Rattle.std.specs.Option.{option_or}
+use Rattle.std.specs.Str.{bytes_eq}
+use Rattle.std.proofs.lemmas.Bool.{cases_Bool}
+use Rattle.std.proofs.lemmas.List.Elements.{All-head, All-tail}
+use Rattle.std.proofs.lemmas.Slice.Eq.{bytes_eq-Decides}
+use Rattle.muen_outside.specs.Looks.{AreOthers, ShowAll, ShowsAnswer}
+use Rattle.muen_outside.specs.States.{History, Look}
+use Rattle.muen_outside.specs.Store.{Store, find_bytes}
+use Rattle.muen_outside.proofs.HeldMap.{keeps_others}
+use Rattle.muen_build.specs.Accepting.{ErrorSays, Files, HasContents, IsAskedBy, LacksContents, LookedBeside, Names, RefusesContents, WithGiven, insert_all}
+use Rattle.muen_build.specs.Looks.{names_file}
+use Rattle.muen_build.specs.declared.accepted.BuildError.{BuildError}
+use Rattle.muen_build.specs.declared.accepted.BuildError.TheVariants.{FileFault, Refused}
+use Rattle.muen_build.proofs.Looks.{same_self}
+use Rattle.policy_lawful.specs.Resolution.{Resolution, source_of}
+use Rattle.policy_lawful.specs.refusal.Refusal.{Refusal}
+use Rattle.policy_lawful.specs.source.Source.{Source}
+
+find_both : (name : List ℕ) (xs ys : Files) → find_bytes name (xs ++ ys) ≡ option_or (find_bytes name xs) (find_bytes name ys)
+find_both name [] ys = refl
+find_both name (e ∷ es) ys =
+    elim (bytes_eq name e.0) as (λ b. (if b then Some e.1 else find_bytes name (es ++ ys)) ≡ option_or (if b then Some e.1 else find_bytes name es) (find_bytes name ys)) [
+      | true ↦ refl
+      | false ↦ find_both name es ys
+    ]
+
+module _ (names : Names) (file bytes : List ℕ) (unnamed : names file ≡ false) where
+  -- names that are asked for are others
+  differs : (name : List ℕ) → names name ≡ true → bytes_eq file name ≡ false
+  differs name asked =
+      elim (cases_Bool (bytes_eq file name)) [
+        | inl e ↦ absurd (true≢false (sym asked ∙ ap names (sym ((bytes_eq-Decides file name).0 e)) ∙ unnamed))
+        | inr n ↦ n
+      ]
+
+  others : (looks : List Look) → All (IsAskedBy names) looks → AreOthers looks file
+  others [] asked = tt
+  others (l ∷ ls) asked = (differs l.name (All-head (IsAskedBy names) l ls asked).0, others ls (All-tail (IsAskedBy names) l ls asked))
+
+  -- files agree with the looks as they did
+  shown : (m : Store) (looks : List Look) → AreOthers looks file → ShowAll m looks → ShowAll (insert m file bytes) looks
+  shown m [] apart shows = tt
+  shown m (l ∷ ls) apart shows = (
+    subst (λ o. ShowsAnswer o l.most l.got)
+        (sym (keeps_others m file bytes l.name (λ e. true≢false (sym (same_self file) ∙ sym (ap (bytes_eq file) e) ∙ apart.0)))) shows.0,
+    shown m ls apart.1 shows.1,
+  )
+
+  given_last : (m : Store) (given : Files) → insert_all m (given ++ (file, bytes) ∷ []) ≡ insert_all (insert m file bytes) given
+  given_last m [] = refl
+  given_last m (e ∷ es) = ap (λ k. insert k e.0 e.1) (given_last m es)
+
+  only : (looks : List Look) (name b : List ℕ) → AreOthers looks file → find_bytes name ((file, bytes) ∷ []) ≡ Some b → AreOthers looks name
+  only looks name b apart is =
+      elim (bytes_eq name file) as (λ t. bytes_eq name file ≡ t → (if t then Some bytes else None) ≡ Some b → AreOthers looks name) [
+        | true ↦ λ e found. subst (AreOthers looks) (sym ((bytes_eq-Decides name file).0 e)) apart
+        | false ↦ λ e found. absurd (cc)
+      ] refl is
+
+  module _ (given : Files) (looks : List Look) (asked : All (IsAskedBy names) looks) where
+    -- what is so with what is given is so with these too
+    with_more : (Such : Store → Type 0) → WithGiven given looks Such → WithGiven (given ++ (file, bytes) ∷ []) looks Such
+    with_more Such all m shows = subst Such (sym (given_last m given)) (all (insert m file bytes) (shown m looks (others looks asked) shows))
+
+    others_of_all : ((name b : List ℕ) → find_bytes name given ≡ Some b → AreOthers looks name) → (name b : List ℕ) → find_bytes name (given ++ (file, bytes) ∷ []) ≡ Some b → AreOthers looks name
+    others_of_all of_given name b is =
+        elim (find_bytes name given) as (λ o. find_bytes name given ≡ o → option_or o (find_bytes name ((file, bytes) ∷ [])) ≡ Some b → AreOthers looks name) [
+          | Some c ↦ λ e found. of_given name c e
+          | None ↦ λ e found. only looks name b (others looks asked) found
+        ] refl (sym (find_both name given ((file, bytes) ∷ [])) ∙ is)
+
+    beside : (held : Option Store) (old new : History) → LookedBeside given held old new looks → LookedBeside (given ++ (file, bytes) ∷ []) held old new looks
+    beside held old new h = record { history = h.history; single = h.single; others = others_of_all h.others; told = h.told }
+
+module _ (given : Files) (file bytes : List ℕ) (held : Option Store) (old new : History) where
+  -- contents that were read without them are those that are read with them
+  pub has_unnamed : (r : Resolution) (things : List (List ℕ)) → names_file (source_of r) file ≡ false → HasContents given r held old new things → HasContents (given ++ (file, bytes) ∷ []) r held old new things
+  has_unnamed r things unnamed h = record {
+    looks = h.looks;
+    looked = beside (names_file (source_of r)) file bytes unnamed given h.looks h.asked held old new h.looked;
+    asked = h.asked;
+    fit = with_more (names_file (source_of r)) file bytes unnamed given h.looks h.asked _ h.fit;
+    are = with_more (names_file (source_of r)) file bytes unnamed given h.looks h.asked _ h.are;
+  }
+
+  -- and so if there are none
+  pub lacks_unnamed : (p : Source) (error : BuildError) → names_file p file ≡ false → LacksContents given p held old new error → LacksContents (given ++ (file, bytes) ∷ []) p held old new error
+  lacks_unnamed p error unnamed h = record {
+    looks = h.looks;
+    looked = beside (names_file p) file bytes unnamed given h.looks h.asked held old new h.looked;
+    asked = h.asked;
+    says = says error h.says;
+  } where
+    says : (error : BuildError) → ErrorSays given (RefusesContents p) h.looks error → ErrorSays (given ++ (file, bytes) ∷ []) (RefusesContents p) h.looks error
+    says (Refused r) (inl e) = inl e
+    says (Refused r) (inr all) = inr (with_more (names_file p) file bytes unnamed given h.looks h.asked (λ files. RefusesContents p files r) all)
+    says FileFault fault = fault
