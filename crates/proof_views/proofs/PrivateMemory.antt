@@ -1,5 +1,5 @@
 -- What a subject alone may change holds what its own turns have stored there.
-use Rattle.std.proofs.Common.{◌≡◌, ℕ, zero, suc, Bool, true, false, cond, List, [], ◌∷◌, Option, Some, None, refl, sym, ap, subst, ◌∙◌}
+use Rattle.std.proofs.Common.{◌≡◌, ℕ, ◌<◌, arith, zero, suc, Bool, true, false, cond, List, [], ◌∷◌, Option, Some, None, refl, sym, ap, subst, ◌∙◌}
 use Rattle.std.specs.Prelude.{◌==◌, ◌||◌, IsTrue, not, option_map, slice_get}
 use Rattle.std.specs.Option.{option_map_or}
 use Rattle.std.specs.List.{All, AllByRecursion, list_any}
@@ -21,7 +21,7 @@ use Rattle.policy_lawful.specs.source.Domain.{Domain}
 use Rattle.policy_lawful.specs.source.Source.{Source}
 use Rattle.policy_lawful.specs.source.Subject.{Subject}
 use Rattle.subject_model.specs.Alone.{Inbox, MsrValues, OwnState, own_of, solo_turn, thing_in}
-use Rattle.subject_model.specs.Clock.{inputs_at, order_at, system}
+use Rattle.subject_model.specs.Clock.{inputs_at, order_at, run_of, system}
 use Rattle.subject_model.specs.DeviceRecord.{DeviceRecord, NamedInput, port_input, memory_input, irq_input, dma_input}
 use Rattle.subject_model.specs.Law.{NamesEachOnce}
 use Rattle.subject_model.specs.Reading.{are_distinct}
@@ -38,7 +38,7 @@ use Rattle.proof_views.proofs.AloneViews.{each_once, own_here, turn_through}
 use Rattle.proof_views.proofs.ActiveMembers.{begun_listed}
 use Rattle.proof_views.proofs.Arrivals.{IsOther, arrival_cases, arrived_things}
 use Rattle.proof_views.proofs.Kept.{acted}
-use Rattle.proof_views.proofs.LastViews.{begun_at, orders_distinct, seen_listed, seen_so}
+use Rattle.proof_views.proofs.LastViews.{begun_at, orders_distinct, seen_listed, seen_so, seen_there}
 use Rattle.proof_views.proofs.OwnLines.{named_so}
 use Rattle.proof_views.proofs.OwnStates.{IsOwn}
 use Rattle.proof_views.proofs.ThingsStay.{begun_leaves, cpus_leave, map_same, others_answer, own_lands, shown_all, shown_same}
@@ -127,6 +127,13 @@ module _ (p : Source) (files : Held) (r : DeviceRecord) (s : Subject) (x : Thing
       ap (λ things. thing_in things x) (arrived_things p s 0 (here 0) inbox reaches)
       ∙ shown_all p s x (here 0) shown
       ∙ to_turn 0
+
+  pub private_left : (n : ℕ) → is_shown (windows_of p s) x ≡ true → r.end ≡ suc n → option_map (λ v. thing_in v.things x) (slice_get (view_of p files r s) n) ≡ Some (thing_in (run_of p files r).state.things x)
+  unfolding run_of
+  private_left n shown ends =
+      let there : n < r.end = omega (arith, ends) in
+      ap (option_map (λ (v : Seen). thing_in v.things x)) (seen_there p files r s n there)
+      ∙ ap Some (shown_all p s x (ran_through p files r s.cpu n).state shown ∙ sym (from_turn n) ∙ ap (λ e. thing_in (after e).things x) (sym ends))
 
 -- ---- its own turn
 

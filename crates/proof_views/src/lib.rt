@@ -94,9 +94,10 @@ pub fn views_are_those_of_subjects_alone()
 {}
 
 /// What a subject alone may change (`IsPrivate`) holds what the subject itself has left there: at its turn it has the bytes
-/// that the subject's view of the tick before has, and at first those of the start; and the view of each tick has what
-/// the stores of the subject's own turns have made of these (`held_alone`), by what reached it (`reaching_at`). The policy is
-/// lawful, and each order of the record names each CPU once, as in every record that is read.
+/// that the subject's view of the tick before has, and at first those of the start; the view of each tick has what
+/// the stores of the subject's own turns have made of these (`held_alone`), by what reached it (`reaching_at`); and the run
+/// leaves what the last view has, of which the digest is printed. The policy is lawful, and each order of the record
+/// names each CPU once, as in every record that is read.
 pub fn private_memory_is_the_subjects_own()
     ensures kept { (p : Source) (files : Held) (r : DeviceRecord) (s : Subject) (x : Thing) (n : ℕ) (inbox : Inbox) (v : Seen) → IsLawful p → subject_named p s.name ≡ Some s
         → All (λ o. NamesEachOnce p.processor.logical_cpus o.1) r.orders → IsPrivate p s x → reaching_at p files r s (suc n) ≡ at_turn inbox → slice_get (view_of p files r s) n ≡ Some v
@@ -107,6 +108,9 @@ pub fn private_memory_is_the_subjects_own()
     ensures stores { (p : Source) (files : Held) (r : DeviceRecord) (s : Subject) (x : Thing) (bytes : List ℕ) (n : ℕ) (v : Seen) → IsLawful p → subject_named p s.name ≡ Some s
         → All (λ o. NamesEachOnce p.processor.logical_cpus o.1) r.orders → IsPrivate p s x → is_shown (windows_of p s) x ≡ true → thing_in (start_of p files).things x ≡ Some bytes
         → slice_get (view_of p files r s) n ≡ Some v → thing_in v.things x ≡ Some (held_alone (own_of p s) (reaching_at p files r s) (started_alone s) x bytes (suc n)) }
+    ensures left { (p : Source) (files : Held) (r : DeviceRecord) (s : Subject) (x : Thing) (n : ℕ) → IsLawful p → subject_named p s.name ≡ Some s
+        → All (λ o. NamesEachOnce p.processor.logical_cpus o.1) r.orders → IsPrivate p s x → is_shown (windows_of p s) x ≡ true → r.end ≡ suc n
+        → option_map (λ v. thing_in v.things x) (slice_get (view_of p files r s) n) ≡ Some (thing_in (run_of p files r).state.things x) }
 {}
 
 /// A channel is private memory of its writer (`IsPrivate`), of which a lawful policy has one (`is_writer_of`). So after

@@ -1,5 +1,5 @@
 use Rattle.proof_views.proofs.AloneViews.{each_once}
-use Rattle.proof_views.proofs.PrivateMemory.{reaches_as_seen, reaches_first, seen_stores}
+use Rattle.proof_views.proofs.PrivateMemory.{private_left, reaches_as_seen, reaches_first, seen_stores}
 use Rattle.proof_views.proofs.private_memory_is_the_subjects_own.Goals as goal
 
 pub returns-clause-kept : goal.returns-clause-kept
@@ -10,3 +10,6 @@ returns-clause-first c = λ p files r s x inbox lawful is orders private shown r
 
 pub returns-clause-stores : goal.returns-clause-stores
 returns-clause-stores c = λ p files r s x bytes n v lawful is orders private shown starts seen. seen_stores p files r s x private lawful is orders bytes starts n v shown seen
+
+pub returns-clause-left : goal.returns-clause-left
+returns-clause-left c = λ p files r s x n lawful is orders private shown ends. private_left p files r s x private lawful is (each_once p r orders) n shown ends
