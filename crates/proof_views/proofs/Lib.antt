@@ -16,3 +16,4 @@ mod Orders
 pub mod ThingsStay
 mod PrivateMemory
 mod PendingVectors
+mod ComposedRuns

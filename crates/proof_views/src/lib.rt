@@ -25,6 +25,7 @@ ghost use Rattle.subject_model.specs.Clock.{inputs_at, order_at, run_of, system,
 ghost use Rattle.subject_model.specs.System.{System, is_shown, named, pending, start_of, state_of, subject_named, system_turn};
 ghost use Rattle.subject_model.specs.View.{Seen, through, view_of};
 ghost use Rattle.proof_views.specs.AloneRun.{at_turn, alone_view, is_altered, own_part, reaching_at, started_alone};
+ghost use Rattle.proof_views.specs.Composed.{alone_in_run, composed};
 ghost use Rattle.proof_views.specs.Changes.{IsSpared, input_changes, may_change, may_change_on, whose_turn};
 ghost use Rattle.proof_views.specs.LastViews.{at_rest, behind, without_line};
 ghost use Rattle.proof_views.specs.LinesOf.{lines_of};
@@ -139,4 +140,14 @@ pub fn things_change_through_windows_alone()
     ensures inputs { (p : Source) (i : NamedInput) (y : System) (x : Thing) → input_changes p i x ≡ false → thing_in (takes p i y).things x ≡ thing_in y.things x }
     ensures ticks { (p : Source) (files : Held) (r : DeviceRecord) (x : Thing) (m n : ℕ) → m ≤ n → ((k : ℕ) → m ≤ k → k < n → IsSpared p files r x k)
         → thing_in (run_to (system p) (inputs_at r) (order_at p r) n (start_of p files)).state.things x ≡ thing_in (run_to (system p) (inputs_at r) (order_at p r) m (start_of p files)).state.things x }
+{}
+
+/// **The whole is its parts.** The run of the system on a record is that of its subjects alone, put together
+/// (`composed`): each turn of the joint run, its line and what it changes, is that of its subject alone, which knows nothing but
+/// its own state after so many ticks of its run alone (`alone_in_run`) and its inbox; and what reaches a subject is the
+/// start's contents, the devices' inputs, and what turns of others have stored, raised and handed over. The policy is
+/// lawful, and each order of the record names each CPU once, as in every record that is read.
+pub fn runs_are_composed_of_subjects_alone()
+    ensures { (p : Source) (files : Held) (r : DeviceRecord) → IsLawful p → All (λ o. NamesEachOnce p.processor.logical_cpus o.1) r.orders
+        → run_to (composed (alone_in_run p files r) p) (inputs_at r) (order_at p r) r.end (start_of p files) ≡ run_of p files r }
 {}
