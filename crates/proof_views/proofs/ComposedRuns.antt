@@ -1,8 +1,8 @@
 -- The joint run is put together of the runs of its subjects alone.
-use Rattle.std.proofs.Common.{◌≡◌, ℕ, zero, suc, true, false, List, [], ◌∷◌, Option, Some, None, refl, sym, ap, subst, ◌∙◌}
+use Rattle.std.proofs.Common.{◌≡◌, ℕ, zero, suc, Bool, true, false, cond, List, [], ◌∷◌, Option, Some, None, refl, sym, ap, subst, ◌∙◌}
 use Rattle.std.specs.Prelude.{◌==◌, IsTrue, not, slice_get}
 use Rattle.std.specs.List.{All, cons_option, find, list_any}
-use Rattle.std.proofs.lemmas.Bool.{and_parts, eq-eqb, eqb-true, false_from_ne_true, not-true, or_left, or_right, true≢false}
+use Rattle.std.proofs.lemmas.Bool.{and_from, and_parts, eq-eqb, eqb-true, false_from_ne_true, not-true, or_from, or_left, or_parts, or_right, true≢false}
 use Rattle.std.proofs.lemmas.List.Elements.{recursion_from_All}
 use Rattle.frame_clock.specs.Frames.{slot_in}
 use Rattle.frame_clock.specs.Run.{Ran, Turned, after_lines, all_taken, begun, run_to, tick_ran, turns}
@@ -19,11 +19,12 @@ use Rattle.policy_lawful.specs.source.Subject.{Subject}
 use Rattle.subject_model.specs.DeviceRecord.{DeviceRecord, NamedInput}
 use Rattle.subject_model.specs.Law.{NamesEachOnce}
 use Rattle.subject_model.specs.Reading.{are_distinct}
-use Rattle.subject_model.specs.Alone.{OwnState}
+use Rattle.subject_model.specs.Alone.{OwnState, own_of}
 use Rattle.subject_model.specs.Clock.{begins, inputs_at, order_at, run_of, system, takes}
 use Rattle.subject_model.specs.System.{System, start_of, subject_named, system_turn, turn_from, turn_in_slot, turn_of_member, turn_of_subject}
 use Rattle.view_text.specs.declared.TurnLine.{TurnLine}
-use Rattle.proof_views.specs.Composed.{alone_in_run, composed, composed_in_slot, composed_of_member, composed_of_subject, composed_turn}
+use Rattle.proof_views.specs.AloneRun.{after_tick, alone_to, before, reaching, reaching_at, started_alone}
+use Rattle.proof_views.specs.Composed.{AreFed, alone_in_run, composed, composed_in_slot, composed_of_member, composed_of_subject, composed_turn, fed_at}
 use Rattle.proof_views.specs.Members.{AreListed}
 use Rattle.proof_views.proofs.ActiveMembers.{begun_listed, turn_listed}
 use Rattle.proof_views.proofs.AloneViews.{each_once, run_alone}
@@ -82,14 +83,35 @@ module _ (p : Source) (alone : Subject → ℕ → OwnState) where
         let parts = and_parts (not (list_any (λ m. m == c) cs)) (are_distinct cs) once in
         let out = not-true (list_any (λ m. m == c) cs) parts.0 in
         let turned : Turned System TurnLine = system_turn p c tick y in
-        let same : composed_turn alone p c tick y ≡ turned =
-        turn_composed c y listed (λ s is on. own s is (or_left (c == s.cpu) (list_any (λ c. c == s.cpu) cs) (eq-eqb c s.cpu (sym on)))) in
-        let rest : turns (composed alone p) tick cs turned.state ≡ turns (system p) tick cs turned.state =
-        turns_composed cs turned.state (turn_listed p c tick y listed) parts.1 (λ s is there.
+        let same = turn_composed c y listed (λ s is on. own s is (or_left (c == s.cpu) (list_any (λ c. c == s.cpu) cs) (eq-eqb c s.cpu (sym on)))) in
+        let rest = turns_composed cs turned.state (turn_listed p c tick y listed) parts.1 (λ s is there.
         own_stays s y turned.state (alone s tick) (others_turn p s c tick y majors members monitors is listed (apart c cs s.cpu out there)).stays
         (own s is (or_right (c == s.cpu) (list_any (λ c. c == s.cpu) cs) there))) in
         ap (λ (t : Turned System TurnLine). record { lines = cons_option t.line (turns (composed alone p) tick cs t.state).lines; state = (turns (composed alone p) tick cs t.state).state }) same
         ∙ ap (λ (b : Ran System TurnLine). record { lines = cons_option turned.line b.lines; state = b.state }) rest
+
+-- ---- those before a CPU
+
+any_before : (test : ℕ → Bool) (cpu : ℕ) (order : List ℕ) → list_any test order ≡ false → list_any test (before cpu order) ≡ false
+any_before test cpu [] none = refl
+any_before test cpu (c ∷ cs) none =
+    let parts = or_parts (test c) (list_any test cs) none in
+    let later = any_before test cpu cs parts.1 in
+    elim (c == cpu) as (λ b. list_any test (cond b [] (c ∷ before cpu cs)) ≡ false) [
+      | true ↦ refl
+      | false ↦ or_from (test c) (list_any test (before cpu cs)) parts.0 later
+    ]
+
+before_distinct : (cpu : ℕ) (order : List ℕ) → are_distinct order ≡ true → are_distinct (before cpu order) ≡ true
+before_distinct cpu [] once = refl
+before_distinct cpu (c ∷ cs) once =
+    let parts = and_parts (not (list_any (λ m. m == c) cs)) (are_distinct cs) once in
+    let later = before_distinct cpu cs parts.1 in
+    let out = any_before (λ m. m == c) cpu cs (not-true (list_any (λ m. m == c) cs) parts.0) in
+    elim (c == cpu) as (λ b. are_distinct (cond b [] (c ∷ before cpu cs)) ≡ true) [
+      | true ↦ refl
+      | false ↦ and_from (not (list_any (λ m. m == c) (before cpu cs))) (are_distinct (before cpu cs)) (ap not out) later
+    ]
 
 -- ---- a run
 
@@ -125,11 +147,51 @@ module _ (p : Source) (files : Held) (r : DeviceRecord) (lawful : IsLawful p) (o
         ap (λ (b : Ran System TurnLine). after_lines b.lines (tick_ran (composed alone p) n (inputs_at r n) (order_at p r n) b.state)) same
         ∙ ap (after_lines (joint n).lines) (tick_composed n own (order_at p r n) (once n))
 
+    -- what reaches a subject in it
+    fed_same : (n : ℕ) → ((s : Subject) → subject_named p s.name ≡ Some s → IsOwn s (joint n).state (alone s n)) → parts n ≡ joint n → (s : Subject) → fed_at alone p files r s n ≡ reaching_at p files r s n
+    fed_same n own same s =
+        let front : List ℕ = before s.cpu (order_at p r n) in
+        ap (λ (b : Ran System TurnLine). reaching p s n (tick_ran (composed alone p) n (inputs_at r n) front b.state).state) same
+        ∙ ap (λ (b : Ran System TurnLine). reaching p s n b.state) (tick_composed n own front (before_distinct s.cpu (order_at p r n) (once n)))
+
+    -- where the parts are fed by it, it is the joint run, and they are those of the joint run
+    only_so : AreFed alone p files r → (n : ℕ) → (parts n ≡ joint n) × ((s : Subject) → subject_named p s.name ≡ Some s → alone s n ≡ alone_in_run p files r s n)
+    only_so fed zero = (refl, λ s is. fed s is 0)
+    only_so fed (suc n) =
+        let earlier = only_so fed n in
+        let own : (s : Subject) → subject_named p s.name ≡ Some s → IsOwn s (joint n).state (alone s n) = λ s is. subst (IsOwn s (joint n).state) (sym (earlier.1 s is)) (alone_there n s is) in (
+          next_composed n own earlier.0,
+          λ s is. fed s is (suc n)
+              ∙ ap (λ arrival. after_tick (own_of p s) arrival (alone_to (own_of p s) (fed_at alone p files r s) n (started_alone s))) (fed_same n own earlier.0 s)
+              ∙ ap (after_tick (own_of p s) (reaching_at p files r s n)) (sym (fed s is n) ∙ earlier.1 s is),
+        )
+
   run_composed : (n : ℕ) → parts (alone_in_run p files r) n ≡ joint n
   run_composed zero = refl
   run_composed (suc n) = next_composed (alone_in_run p files r) n (alone_there n) (run_composed n)
+
+  run_feeds : AreFed (alone_in_run p files r) p files r
+  run_feeds s is zero = refl
+  run_feeds s is (suc n) =
+      ap (after_tick (own_of p s) (reaching_at p files r s n)) (run_feeds s is n)
+      ∙ ap (λ arrival. after_tick (own_of p s) arrival (alone_to (own_of p s) (fed_at (alone_in_run p files r) p files r s) n (started_alone s))) (sym (fed_same (alone_in_run p files r) n (alone_there n) (run_composed n) s))
 
 pub runs_composed : (p : Source) (files : Held) (r : DeviceRecord) → IsLawful p → All (λ e. NamesEachOnce p.processor.logical_cpus e.1) r.orders
     → run_to (composed (alone_in_run p files r) p) (inputs_at r) (order_at p r) r.end (start_of p files) ≡ run_of p files r
 unfolding run_of
 runs_composed p files r lawful orders = run_composed p files r lawful orders r.end
+
+pub ticks_composed : (p : Source) (files : Held) (r : DeviceRecord) (n : ℕ) → IsLawful p → All (λ e. NamesEachOnce p.processor.logical_cpus e.1) r.orders
+    → run_to (composed (alone_in_run p files r) p) (inputs_at r) (order_at p r) n (start_of p files) ≡ run_to (system p) (inputs_at r) (order_at p r) n (start_of p files)
+ticks_composed p files r n lawful orders = run_composed p files r lawful orders n
+
+pub runs_feed : (p : Source) (files : Held) (r : DeviceRecord) → IsLawful p → All (λ e. NamesEachOnce p.processor.logical_cpus e.1) r.orders → AreFed (alone_in_run p files r) p files r
+runs_feed p files r lawful orders = run_feeds p files r lawful orders
+
+pub only_run : (p : Source) (files : Held) (r : DeviceRecord) (alone : Subject → ℕ → OwnState) (n : ℕ) → IsLawful p → All (λ e. NamesEachOnce p.processor.logical_cpus e.1) r.orders → AreFed alone p files r
+    → run_to (composed alone p) (inputs_at r) (order_at p r) n (start_of p files) ≡ run_to (system p) (inputs_at r) (order_at p r) n (start_of p files)
+only_run p files r alone n lawful orders fed = (only_so p files r lawful orders alone fed n).0
+
+pub only_parts : (p : Source) (files : Held) (r : DeviceRecord) (alone : Subject → ℕ → OwnState) (s : Subject) (n : ℕ) → IsLawful p → subject_named p s.name ≡ Some s → All (λ e. NamesEachOnce p.processor.logical_cpus e.1) r.orders → AreFed alone p files r
+    → alone s n ≡ alone_in_run p files r s n
+only_parts p files r alone s n lawful is orders fed = (only_so p files r lawful orders alone fed n).1 s is

@@ -1,8 +1,8 @@
 -- The whole put together of its parts (this project's own): the turns are those of subjects alone, each by its own state of its run
 -- alone; what a turn sends (its store, the events that it raises, a handover) is put into the whole.
-use Rattle.std.specs.Prelude.{ℕ, Bool, List, Option, Some, None, slice_get}
+use Rattle.std.specs.Prelude.{◌≡◌, ℕ, Bool, List, Option, Some, None, slice_get}
 use Rattle.frame_clock.specs.Frames.{slot_in}
-use Rattle.frame_clock.specs.Run.{Clocked, Turned}
+use Rattle.frame_clock.specs.Run.{Clocked, Turned, run_to, tick_ran}
 use Rattle.frame_clock.specs.Slot.{Slot}
 use Rattle.policy_lawful.specs.Contents.{Held}
 use Rattle.policy_lawful.specs.Frames.{frames_of}
@@ -10,10 +10,10 @@ use Rattle.policy_lawful.specs.source.Source.{Source}
 use Rattle.policy_lawful.specs.source.Subject.{Subject}
 use Rattle.subject_model.specs.DeviceRecord.{DeviceRecord, NamedInput}
 use Rattle.subject_model.specs.Alone.{OwnState, own_of, solo_turn}
-use Rattle.subject_model.specs.Clock.{begins, takes}
-use Rattle.subject_model.specs.System.{System, idle, inbox_of, subject_named, turn_answered}
+use Rattle.subject_model.specs.Clock.{begins, inputs_at, order_at, takes}
+use Rattle.subject_model.specs.System.{System, idle, inbox_of, start_of, subject_named, turn_answered}
 use Rattle.view_text.specs.declared.TurnLine.{TurnLine}
-use Rattle.proof_views.specs.AloneRun.{alone_to, reaching_at, started_alone}
+use Rattle.proof_views.specs.AloneRun.{Arrival, alone_to, before, reaching, reaching_at, started_alone}
 
 -- a subject alone after so many ticks of a run, by what reaches it there
 abbrev pub alone_in_run : Source → Held → DeviceRecord → Subject → ℕ → OwnState
@@ -43,3 +43,16 @@ composed_turn alone p cpu tick y = composed_in_slot alone p cpu tick (slot_in (f
 -- **the parts on the clock**, by the own states of the subjects alone
 abbrev pub composed : (Subject → ℕ → OwnState) → Source → Clocked System NamedInput TurnLine
 composed alone p = record { begins = begins p; takes = takes p; turn = composed_turn alone p }
+
+-- ---- what feeds the parts
+
+-- what reaches a subject in a tick of the parts' own run
+abbrev pub fed_at : (Subject → ℕ → OwnState) → Source → Held → DeviceRecord → Subject → ℕ → Arrival
+fed_at alone p files r s tick =
+    reaching p s tick (tick_ran (composed alone p) tick (inputs_at r tick) (before s.cpu (order_at p r tick))
+    (run_to (composed alone p) (inputs_at r) (order_at p r) tick (start_of p files)).state).state
+
+-- the own states of each subject are those of its run alone by what the parts' own run sends it, and by nothing of the joint run
+abbrev pub AreFed : (Subject → ℕ → OwnState) → Source → Held → DeviceRecord → Type 0
+AreFed alone p files r =
+    (s : Subject) → subject_named p s.name ≡ Some s → (n : ℕ) → alone s n ≡ alone_to (own_of p s) (fed_at alone p files r s) n (started_alone s)

@@ -20,12 +20,12 @@ ghost use Rattle.subject_model.specs.DeviceRecord.{DeviceRecord, NamedInput, dma
 ghost use Rattle.subject_model.specs.Law.{NamesEachOnce};
 ghost use Rattle.subject_model.specs.Reading.{are_distinct};
 ghost use Rattle.frame_clock.specs.Run.{run_to};
-ghost use Rattle.subject_model.specs.Alone.{Inbox, is_in, own_of, thing_in};
+ghost use Rattle.subject_model.specs.Alone.{Inbox, OwnState, is_in, own_of, thing_in};
 ghost use Rattle.subject_model.specs.Clock.{inputs_at, order_at, run_of, system, takes};
 ghost use Rattle.subject_model.specs.System.{System, is_shown, named, pending, start_of, state_of, subject_named, system_turn};
 ghost use Rattle.subject_model.specs.View.{Seen, through, view_of};
 ghost use Rattle.proof_views.specs.AloneRun.{at_turn, alone_view, is_altered, own_part, reaching_at, started_alone};
-ghost use Rattle.proof_views.specs.Composed.{alone_in_run, composed};
+ghost use Rattle.proof_views.specs.Composed.{AreFed, alone_in_run, composed};
 ghost use Rattle.proof_views.specs.Changes.{IsSpared, input_changes, may_change, may_change_on, whose_turn};
 ghost use Rattle.proof_views.specs.LastViews.{at_rest, behind, without_line};
 ghost use Rattle.proof_views.specs.LinesOf.{lines_of};
@@ -145,9 +145,21 @@ pub fn things_change_through_windows_alone()
 /// **The whole is its parts.** The run of the system on a record is that of its subjects alone, put together
 /// (`composed`): each turn of the joint run, its line and what it changes, is that of its subject alone, which knows nothing but
 /// its own state after so many ticks of its run alone (`alone_in_run`) and its inbox; and what reaches a subject is the
-/// start's contents, the devices' inputs, and what turns of others have stored, raised and handed over. The policy is
-/// lawful, and each order of the record names each CPU once, as in every record that is read.
+/// start's contents, the devices' inputs, and what turns of others have stored, raised and handed over (`run`, and `ticks`
+/// after any number of ticks). What reaches each subject there is what the parts put together send it, so that
+/// the joint run isn't needed to say what the parts are (`fed`); and there is no other way to put them together: whichever
+/// own states are those of runs alone that are fed in that way (`AreFed`), their composition is the joint run
+/// (`only_run`), and they are those of the joint run (`only_parts`). The policy is lawful, and each order of the record names
+/// each CPU once, as in every record that is read.
 pub fn runs_are_composed_of_subjects_alone()
-    ensures { (p : Source) (files : Held) (r : DeviceRecord) → IsLawful p → All (λ o. NamesEachOnce p.processor.logical_cpus o.1) r.orders
+    ensures run { (p : Source) (files : Held) (r : DeviceRecord) → IsLawful p → All (λ o. NamesEachOnce p.processor.logical_cpus o.1) r.orders
         → run_to (composed (alone_in_run p files r) p) (inputs_at r) (order_at p r) r.end (start_of p files) ≡ run_of p files r }
+    ensures ticks { (p : Source) (files : Held) (r : DeviceRecord) (n : ℕ) → IsLawful p → All (λ o. NamesEachOnce p.processor.logical_cpus o.1) r.orders
+        → run_to (composed (alone_in_run p files r) p) (inputs_at r) (order_at p r) n (start_of p files) ≡ run_to (system p) (inputs_at r) (order_at p r) n (start_of p files) }
+    ensures fed { (p : Source) (files : Held) (r : DeviceRecord) → IsLawful p → All (λ o. NamesEachOnce p.processor.logical_cpus o.1) r.orders
+        → AreFed (alone_in_run p files r) p files r }
+    ensures only_run { (p : Source) (files : Held) (r : DeviceRecord) (alone : Subject → ℕ → OwnState) (n : ℕ) → IsLawful p → All (λ o. NamesEachOnce p.processor.logical_cpus o.1) r.orders
+        → AreFed alone p files r → run_to (composed alone p) (inputs_at r) (order_at p r) n (start_of p files) ≡ run_to (system p) (inputs_at r) (order_at p r) n (start_of p files) }
+    ensures only_parts { (p : Source) (files : Held) (r : DeviceRecord) (alone : Subject → ℕ → OwnState) (s : Subject) (n : ℕ) → IsLawful p → subject_named p s.name ≡ Some s
+        → All (λ o. NamesEachOnce p.processor.logical_cpus o.1) r.orders → AreFed alone p files r → alone s n ≡ alone_in_run p files r s n }
 {}
