@@ -46,7 +46,7 @@ module _ (p : Source) (alone : Subject → ℕ → OwnState) where
   module _ (majors : MajorsKept p) (members : MembersKept p) (monitors : MonitorsKept p) (tick : ℕ) where
     -- ---- a turn
 
-    -- by the state that the system has of who has it, which is that of its run alone
+    -- by own states that the system has of the subjects of the CPU
     module _ (cpu : ℕ) (y : System) (listed : AreListed p y.active) (own : (s : Subject) → subject_named p s.name ≡ Some s → s.cpu ≡ cpu → IsOwn s y (alone s tick)) where
       same_subject : (slot : Slot) → slot_in (frames_of p cpu) y.frame tick ≡ Some slot → (member : List ℕ) → slice_get y.active slot.group ≡ Some member → (o : Option Subject) → subject_named p member ≡ o
           → composed_of_subject alone p cpu tick slot.first o y ≡ turn_of_subject p cpu tick slot.first o y
@@ -130,8 +130,9 @@ module _ (p : Source) (files : Held) (r : DeviceRecord) (lawful : IsLawful p) (o
       run_alone p s is lawful files r (recursion_from_All (λ (e : ℕ × List ℕ). NamesEachOnce p.processor.logical_cpus e.1) r.orders orders) n
 
   module _ (alone : Subject → ℕ → OwnState) where
-    abbrev parts : ℕ → Ran System TurnLine
-    parts n = run_to (composed alone p) (inputs_at r) (order_at p r) n (start_of p files)
+    -- the run of the subjects put together
+    abbrev together : ℕ → Ran System TurnLine
+    together n = run_to (composed alone p) (inputs_at r) (order_at p r) n (start_of p files)
 
     tick_composed : (n : ℕ) → ((s : Subject) → subject_named p s.name ≡ Some s → IsOwn s (joint n).state (alone s n)) → (cpus : List ℕ) → are_distinct cpus ≡ true
         → tick_ran (composed alone p) n (inputs_at r n) cpus (joint n).state ≡ tick_ran (system p) n (inputs_at r n) cpus (joint n).state
@@ -142,20 +143,20 @@ module _ (p : Source) (files : Held) (r : DeviceRecord) (lawful : IsLawful p) (o
         ∙ turns_composed p alone (majors_kept p (rules_of lawful).rule_16) members (monitors_kept p (rules_of lawful).rule_24) n cpus y (begun_listed p files members (inputs_at r) (order_at p r) n) distinct
         (λ s is _. begun_stays p s n (inputs_at r n) (joint n).state (alone s n) (own s is))
 
-    next_composed : (n : ℕ) → ((s : Subject) → subject_named p s.name ≡ Some s → IsOwn s (joint n).state (alone s n)) → parts n ≡ joint n → parts (suc n) ≡ joint (suc n)
+    next_composed : (n : ℕ) → ((s : Subject) → subject_named p s.name ≡ Some s → IsOwn s (joint n).state (alone s n)) → together n ≡ joint n → together (suc n) ≡ joint (suc n)
     next_composed n own same =
         ap (λ (b : Ran System TurnLine). after_lines b.lines (tick_ran (composed alone p) n (inputs_at r n) (order_at p r n) b.state)) same
         ∙ ap (after_lines (joint n).lines) (tick_composed n own (order_at p r n) (once n))
 
     -- what reaches a subject in it
-    fed_same : (n : ℕ) → ((s : Subject) → subject_named p s.name ≡ Some s → IsOwn s (joint n).state (alone s n)) → parts n ≡ joint n → (s : Subject) → fed_at alone p files r s n ≡ reaching_at p files r s n
+    fed_same : (n : ℕ) → ((s : Subject) → subject_named p s.name ≡ Some s → IsOwn s (joint n).state (alone s n)) → together n ≡ joint n → (s : Subject) → fed_at alone p files r s n ≡ reaching_at p files r s n
     fed_same n own same s =
         let front : List ℕ = before s.cpu (order_at p r n) in
         ap (λ (b : Ran System TurnLine). reaching p s n (tick_ran (composed alone p) n (inputs_at r n) front b.state).state) same
         ∙ ap (λ (b : Ran System TurnLine). reaching p s n b.state) (tick_composed n own front (before_distinct s.cpu (order_at p r n) (once n)))
 
-    -- where the parts are fed by it, it is the joint run, and they are those of the joint run
-    only_so : AreFed alone p files r → (n : ℕ) → (parts n ≡ joint n) × ((s : Subject) → subject_named p s.name ≡ Some s → alone s n ≡ alone_in_run p files r s n)
+    -- where it feeds the subjects' runs alone, it is the joint run, and they are those of the joint run
+    only_so : AreFed alone p files r → (n : ℕ) → (together n ≡ joint n) × ((s : Subject) → subject_named p s.name ≡ Some s → alone s n ≡ alone_in_run p files r s n)
     only_so fed zero = (refl, λ s is. fed s is 0)
     only_so fed (suc n) =
         let earlier = only_so fed n in
@@ -166,7 +167,7 @@ module _ (p : Source) (files : Held) (r : DeviceRecord) (lawful : IsLawful p) (o
               ∙ ap (after_tick (own_of p s) (reaching_at p files r s n)) (sym (fed s is n) ∙ earlier.1 s is),
         )
 
-  run_composed : (n : ℕ) → parts (alone_in_run p files r) n ≡ joint n
+  run_composed : (n : ℕ) → together (alone_in_run p files r) n ≡ joint n
   run_composed zero = refl
   run_composed (suc n) = next_composed (alone_in_run p files r) n (alone_there n) (run_composed n)
 

@@ -46,13 +46,13 @@ composed alone p = record { begins = begins p; takes = takes p; turn = composed_
 
 -- ---- what feeds the parts
 
--- what reaches a subject in a tick of the parts' own run
+-- what reaches a subject in a tick of the run in which they are put together
 abbrev pub fed_at : (Subject → ℕ → OwnState) → Source → Held → DeviceRecord → Subject → ℕ → Arrival
 fed_at alone p files r s tick =
     reaching p s tick (tick_ran (composed alone p) tick (inputs_at r tick) (before s.cpu (order_at p r tick))
     (run_to (composed alone p) (inputs_at r) (order_at p r) tick (start_of p files)).state).state
 
--- the own states of each subject are those of its run alone by what the parts' own run sends it, and by nothing of the joint run
+-- these own states of each subject are those of its run alone by what reaches it there; nothing is of the joint run
 abbrev pub AreFed : (Subject → ℕ → OwnState) → Source → Held → DeviceRecord → Type 0
 AreFed alone p files r =
     (s : Subject) → subject_named p s.name ≡ Some s → (n : ℕ) → alone s n ≡ alone_to (own_of p s) (fed_at alone p files r s) n (started_alone s)

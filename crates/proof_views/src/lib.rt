@@ -1,7 +1,7 @@
 //! Laws over runs of the abstract system.
 //!
 //! What they speak of stands in specs/ (`Pages`, `LastViews`, `LinesOf`, `AloneRun`, `Changes`, `Private`,
-//! `Raisers`). The functions here carry the laws; no command calls one.
+//! `Raisers`, `Composed`). The functions here carry the laws; no command calls one.
 #![tactic(auto)]
 
 ghost use Rattle.std.specs.Prelude.{◌≡◌, ◌≤◌, ◌<◌, ◌&&◌, ℕ, suc, true, false, List, Some, All, IsTrue, map, option_map, slice_get};
@@ -144,13 +144,13 @@ pub fn things_change_through_windows_alone()
 
 /// **The whole is its parts.** The run of the system on a record is that of its subjects alone, put together
 /// (`composed`): each turn of the joint run, its line and what it changes, is that of its subject alone, which knows nothing but
-/// its own state after so many ticks of its run alone (`alone_in_run`) and its inbox; and what reaches a subject is the
-/// start's contents, the devices' inputs, and what turns of others have stored, raised and handed over (`run`, and `ticks`
-/// after any number of ticks). What reaches each subject there is what the parts put together send it, so that
-/// the joint run isn't needed to say what the parts are (`fed`); and there is no other way to put them together: whichever
-/// own states are those of runs alone that are fed in that way (`AreFed`), their composition is the joint run
-/// (`only_run`), and they are those of the joint run (`only_parts`). The policy is lawful, and each order of the record names
-/// each CPU once, as in every record that is read.
+/// its own state after so many ticks of its run alone (`alone_in_run`) and its inbox; and what reaches a subject there is of
+/// the start's contents, of the devices' inputs, and of what turns, its own and those of others, have stored, raised
+/// and handed over (`run`, and `ticks` after any number of ticks). It comes of the composition itself, so that the
+/// joint run isn't needed to say what the runs alone are (`fed`). And there is no other composition: whichever own states are
+/// those of runs alone that are fed so (`AreFed`), they are those of the joint run (`only_parts`), and put
+/// together they are the joint run (`only_run`). The policy is lawful, and each order of the record names each CPU once, as in
+/// every record that is read.
 pub fn runs_are_composed_of_subjects_alone()
     ensures run { (p : Source) (files : Held) (r : DeviceRecord) → IsLawful p → All (λ o. NamesEachOnce p.processor.logical_cpus o.1) r.orders
         → run_to (composed (alone_in_run p files r) p) (inputs_at r) (order_at p r) r.end (start_of p files) ≡ run_of p files r }
