@@ -169,7 +169,7 @@ module _ (p : Source) (s : Subject) (is : subject_named p s.name ≡ Some s) (la
       in_turns p (monitors_kept p (rules_of lawful).rule_24) s is (majors_kept p (rules_of lawful).rule_16) (members_kept p (rules_of lawful).rule_17) n (order_at p r n) (begun (system p) n (inputs_at r n) (after n)) mine
       (begun_listed p files (members_kept p (rules_of lawful).rule_17) (inputs_at r) (order_at p r) n) (begun_stays p s n (inputs_at r n) (after n) mine h) (there n).0 (there n).1
 
-  run_alone : (n : ℕ) → IsOwn s (after n) (alone_after n)
+  pub run_alone : (n : ℕ) → IsOwn s (after n) (alone_after n)
   run_alone zero = started_own p s is files
   run_alone (suc n) = let before = in_tick n (alone_after n) (run_alone n) in record { state = before.after.state; msrs = before.after.msrs }
 

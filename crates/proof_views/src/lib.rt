@@ -1,7 +1,7 @@
 //! Laws over runs of the abstract system.
 //!
 //! What they speak of stands in specs/ (`Pages`, `LastViews`, `LinesOf`, `AloneRun`, `Changes`, `Private`,
-//! `Raisers`, `Writers`). The functions here carry the laws; no command calls one.
+//! `Raisers`, `Writers`, `Composed`). The functions here carry the laws; no command calls one.
 #![tactic(auto)]
 
 ghost use Rattle.std.specs.Prelude.{◌≡◌, ◌≤◌, ◌<◌, ◌==◌, ◌&&◌, if◌then◌else◌, ℕ, suc, Bool, true, false, List, Some, All, IsTrue, map, option_map, slice_get};
@@ -22,13 +22,14 @@ ghost use Rattle.subject_model.specs.DeviceRecord.{DeviceRecord, NamedInput, dma
 ghost use Rattle.subject_model.specs.Law.{NamesEachOnce};
 ghost use Rattle.subject_model.specs.Reading.{are_distinct};
 ghost use Rattle.frame_clock.specs.Run.{run_to};
-ghost use Rattle.subject_model.specs.Alone.{Inbox, is_in, own_of, solo_turn, thing_in};
+ghost use Rattle.subject_model.specs.Alone.{Inbox, OwnState, is_in, own_of, solo_turn, thing_in};
 ghost use Rattle.subject_model.specs.Clock.{inputs_at, order_at, run_of, system, takes};
 ghost use Rattle.subject_model.specs.Laws.{IsTurnOf};
 ghost use Rattle.subject_model.specs.SubjectState.{SubjectState};
 ghost use Rattle.subject_model.specs.System.{System, inbox_of, is_shown, named, pending, start_of, state_of, subject_named, system_turn};
 ghost use Rattle.subject_model.specs.View.{Seen, through, view_of};
 ghost use Rattle.proof_views.specs.AloneRun.{at_turn, alone_view, before, is_altered, own_part, reaching_at, started_alone};
+ghost use Rattle.proof_views.specs.Composed.{AreFed, alone_in_run, composed};
 ghost use Rattle.proof_views.specs.Changes.{IsSpared, after_store, input_changes, may_change, may_change_on, whose_turn};
 ghost use Rattle.proof_views.specs.LastViews.{at_rest, behind, without_line};
 ghost use Rattle.proof_views.specs.LinesOf.{lines_of};
@@ -167,4 +168,26 @@ pub fn things_change_through_windows_alone()
     ensures inputs { (p : Source) (i : NamedInput) (y : System) (x : Thing) → input_changes p i x ≡ false → thing_in (takes p i y).things x ≡ thing_in y.things x }
     ensures ticks { (p : Source) (files : Held) (r : DeviceRecord) (x : Thing) (m n : ℕ) → m ≤ n → ((k : ℕ) → m ≤ k → k < n → IsSpared p files r x k)
         → thing_in (run_to (system p) (inputs_at r) (order_at p r) n (start_of p files)).state.things x ≡ thing_in (run_to (system p) (inputs_at r) (order_at p r) m (start_of p files)).state.things x }
+{}
+
+/// **The whole is its parts.** The run of the system on a record is that of its subjects alone, put together
+/// (`composed`): each turn of the joint run, its line and what it changes, is that of its subject alone, which knows nothing but
+/// its own state after so many ticks of its run alone (`alone_in_run`) and its inbox; and what reaches a subject there is of
+/// the start's contents, of the devices' inputs, and of what turns, its own and those of others, have stored, raised
+/// and handed over (`run`, and `ticks` after any number of ticks). It comes of the composition itself, so that the
+/// joint run isn't needed to say what the runs alone are (`fed`). And there is no other composition: whichever own states are
+/// those of runs alone that are fed so (`AreFed`), they are those of the joint run (`only_parts`), and put
+/// together they are the joint run (`only_run`). The policy is lawful, and each order of the record names each CPU once, as in
+/// every record that is read.
+pub fn runs_are_composed_of_subjects_alone()
+    ensures run { (p : Source) (files : Held) (r : DeviceRecord) → IsLawful p → All (λ o. NamesEachOnce p.processor.logical_cpus o.1) r.orders
+        → run_to (composed (alone_in_run p files r) p) (inputs_at r) (order_at p r) r.end (start_of p files) ≡ run_of p files r }
+    ensures ticks { (p : Source) (files : Held) (r : DeviceRecord) (n : ℕ) → IsLawful p → All (λ o. NamesEachOnce p.processor.logical_cpus o.1) r.orders
+        → run_to (composed (alone_in_run p files r) p) (inputs_at r) (order_at p r) n (start_of p files) ≡ run_to (system p) (inputs_at r) (order_at p r) n (start_of p files) }
+    ensures fed { (p : Source) (files : Held) (r : DeviceRecord) → IsLawful p → All (λ o. NamesEachOnce p.processor.logical_cpus o.1) r.orders
+        → AreFed (alone_in_run p files r) p files r }
+    ensures only_run { (p : Source) (files : Held) (r : DeviceRecord) (alone : Subject → ℕ → OwnState) (n : ℕ) → IsLawful p → All (λ o. NamesEachOnce p.processor.logical_cpus o.1) r.orders
+        → AreFed alone p files r → run_to (composed alone p) (inputs_at r) (order_at p r) n (start_of p files) ≡ run_to (system p) (inputs_at r) (order_at p r) n (start_of p files) }
+    ensures only_parts { (p : Source) (files : Held) (r : DeviceRecord) (alone : Subject → ℕ → OwnState) (s : Subject) (n : ℕ) → IsLawful p → subject_named p s.name ≡ Some s
+        → All (λ o. NamesEachOnce p.processor.logical_cpus o.1) r.orders → AreFed alone p files r → alone s n ≡ alone_in_run p files r s n }
 {}
