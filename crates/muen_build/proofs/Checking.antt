@@ -6,6 +6,7 @@ use Rattle.std.specs.List.{flat_map, list_any}
 use Rattle.std.proofs.lemmas.List.Folds.{list_any-append, list_any_at}
 use Rattle.muen_num.specs.Search.{as_refusal, first_in}
 use Rattle.muen_num.proofs.FirstSteps.{first_step}
+use Rattle.muen_num.proofs.Lists.{list_any-map}
 use Rattle.muen_num.proofs.SearchLaws.{first_in-append, first_over-map}
 use Rattle.muen_outside.specs.Looks.{ShowAll}
 use Rattle.muen_outside.specs.States.{History, Look}
@@ -118,10 +119,6 @@ module _ {X : Type 0} (why : X → Why) (asks : X → Names) (given : Files) (al
 
 -- ---- elements that are filled each for itself
 
-list_any-map : {X Y : Type 0} (test : Y → Bool) (f : X → Y) (xs : List X) → list_any test (map f xs) ≡ list_any (λ x. test (f x)) xs
-list_any-map test f [] = refl
-list_any-map test f (x ∷ xs) = ap (λ b. test (f x) || b) (list_any-map test f xs)
-
 module _ {X : Type 0} (f : X → Filled) (xs : List X) (given : Files) where
   abbrev each_names : Names
   each_names = any_names (λ x. filled_names (f x)) xs
@@ -196,6 +193,25 @@ module _ (r : Resolution) (h : IsResolved r) where
       ∙ ap (list_any (λ f. filled_names f n)) (sym (filled_by_index r h))
       ∙ list_any-append (λ f. filled_names f n) (map filled_region r.memory) (flat_map (brought_at r.components) r.subjects)
       ∙ ap (λ b. all_names (map filled_region r.memory) n || b) (list_any-flat_map (λ f. filled_names f n) (brought_at r.components) r.subjects)
+
+  brought_one : (n : List ℕ) (s : Subject) → all_names (brought_at r.components s) n ≡ list_any (λ x. is_of_file n x.content) (provided_at r.components s.component)
+  unfolding brought_at
+  brought_one n s = list_any-map (λ f. filled_names f n) (filled_provided s.name) (provided_at r.components s.component)
+
+  -- by the contents themselves
+  named_in : (n : List ℕ)
+      → names_file (source_of r) n ≡ (list_any (λ x. is_of_file n x.content) r.memory || list_any (λ s. list_any (λ x. is_of_file n x.content) (provided_at r.components s.component)) r.subjects)
+  named_in n =
+      names_are n
+      ∙ ap (λ b. b || brought_names r.components r.subjects n) (list_any-map (λ f. filled_names f n) filled_region r.memory)
+      ∙ ap (λ t. list_any (λ x. is_of_file n x.content) r.memory || list_any t r.subjects) (λ i s. brought_one n s i)
+
+  -- .. one that stands in memory, or else one that a component brings along
+  pub named_first : (n : List ℕ) → list_any (λ x. is_of_file n x.content) r.memory ≡ true → names_file (source_of r) n ≡ true
+  named_first n h = named_in n ∙ ap (λ b. b || list_any (λ s. list_any (λ x. is_of_file n x.content) (provided_at r.components s.component)) r.subjects) h
+
+  pub named_second : (n : List ℕ) → list_any (λ x. is_of_file n x.content) r.memory ≡ false → names_file (source_of r) n ≡ list_any (λ s. list_any (λ x. is_of_file n x.content) (provided_at r.components s.component)) r.subjects
+  named_second n h = named_in n ∙ ap (λ b. b || list_any (λ s. list_any (λ x. is_of_file n x.content) (provided_at r.components s.component)) r.subjects) h
 
   of_memory : (n : List ℕ) → all_names (map filled_region r.memory) n ≡ true → names_file (source_of r) n ≡ true
   of_memory n is = names_are n ∙ or_left (all_names (map filled_region r.memory) n) (brought_names r.components r.subjects n) is

@@ -13,7 +13,9 @@ use Rattle.muen_outside.specs.States.{History, Look}
 use Rattle.muen_outside.specs.Store.{Store, find_bytes}
 use Rattle.muen_outside.proofs.HeldMap.{keeps_others}
 use Rattle.muen_build.specs.Accepting.{ErrorSays, Files, HasContents, IsAskedBy, LacksContents, LookedBeside, Names, RefusesContents, WithGiven, insert_all}
+use Rattle.image_emit.specs.Made.{thing_bytes}
 use Rattle.muen_build.specs.Looks.{names_file}
+use Rattle.muen_build.specs.Refusals.{contents_refused}
 use Rattle.muen_build.specs.declared.accepted.BuildError.{BuildError}
 use Rattle.muen_build.specs.declared.accepted.BuildError.TheVariants.{FileFault, Refused}
 use Rattle.muen_build.proofs.Looks.{same_self}
@@ -84,8 +86,8 @@ module _ (given : Files) (file bytes : List ℕ) (held : Option Store) (old new 
     looks = h.looks;
     looked = beside (names_file (source_of r)) file bytes unnamed given h.looks h.asked held old new h.looked;
     asked = h.asked;
-    fit = with_more (names_file (source_of r)) file bytes unnamed given h.looks h.asked _ h.fit;
-    are = with_more (names_file (source_of r)) file bytes unnamed given h.looks h.asked _ h.are;
+    fit = with_more (names_file (source_of r)) file bytes unnamed given h.looks h.asked (λ files. contents_refused files (source_of r) ≡ None) h.fit;
+    are = with_more (names_file (source_of r)) file bytes unnamed given h.looks h.asked (λ files. things ≡ thing_bytes files r) h.are;
   }
 
   -- and so if there are none

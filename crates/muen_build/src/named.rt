@@ -1,8 +1,8 @@
 //! Which files the contents of a policy name.
-ghost use Rattle.std.specs.Prelude.{◌≡◌, ℕ, List, map};
+ghost use Rattle.std.specs.Prelude.{◌≡◌};
+ghost use Rattle.std.specs.List.{list_any};
+ghost use Rattle.policy_lawful.specs.ByIndex.{provided_at};
 ghost use Rattle.policy_lawful.specs.Resolution.{source_of};
-ghost use Rattle.muen_build.specs.Accepting.{all_names, brought_names};
-ghost use Rattle.muen_build.specs.Filling.{filled_provided, filled_region};
 ghost use Rattle.muen_build.specs.Looks.{is_of_file, names_file};
 
 use policy_lawful::source::{Content, Provided, Region};
@@ -20,7 +20,7 @@ fn is_of_file(file: &str, content: &Content) -> bool
 
 // Whether one of these regions' contents is.
 fn memory_names(file: &str, memory: &[Region]) -> bool
-    ensures { result ≡ all_names (map filled_region memory.now) file.now }
+    ensures { result ≡ list_any (λ r. is_of_file file.now r.content) memory.now }
 {
     memory
         .iter()
@@ -29,14 +29,14 @@ fn memory_names(file: &str, memory: &[Region]) -> bool
 
 // Whether one of those that a subject's component brings along is.
 fn provided_name(file: &str, provided: &[Provided]) -> bool
-    ensures { (subject : List ℕ) → result ≡ all_names (map (filled_provided subject) provided.now) file.now }
+    ensures { result ≡ list_any (λ x. is_of_file file.now x.content) provided.now }
 {
     provided.iter().any(|x| is_of_file(file, &x.content))
 }
 
 // Whether one of those that all subjects' components bring along is.
 fn components_name(file: &str, policy: &Resolved) -> bool
-    ensures { result ≡ brought_names policy.now.components policy.now.subjects file.now }
+    ensures { result ≡ list_any (λ s. list_any (λ x. is_of_file file.now x.content) (provided_at policy.now.components s.component)) policy.now.subjects }
 {
     policy
         .subjects()
