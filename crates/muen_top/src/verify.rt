@@ -76,8 +76,52 @@ fn read_policy<'a, F: Files>(
     Ok(PolicyRead { policy, document })
 }
 
-// What the regions of a policy hold, after its document and an image, whose files' bytes these are. The
-// image's bytes are let go before where no content is of its file.
+// What the regions of a policy hold, after its document and an image, whose files' bytes these are.
+fn read_with_image<'a, F: Files>(
+    alloc: Global,
+    image: &str,
+    bytes: &[u8],
+    policy: &str,
+    document: &[u8],
+    lawful: &Lawful,
+    files: &mut F,
+) -> Result<Seq<Seq<u8>>, CommandError<'a>>
+    ensures ok { IfOk result (HasContents ((policy.now, document.now) ∷ (image.now, bytes.now) ∷ []) lawful.now (F.held files.old) (F.history files.old) (F.history files.new)) }
+    ensures err { IfErr result (LacksAny ((policy.now, document.now) ∷ (image.now, bytes.now) ∷ []) (source_of lawful.now) (F.held files.old) (F.history files.old) (F.history files.new)) }
+    ensures held { F.held files.new ≡ F.held files.old }
+{
+    let given = [
+        Given {
+            name: policy,
+            bytes: document,
+        },
+        Given { name: image, bytes },
+    ];
+    let things = contents_of(alloc, &given, lawful, files)?;
+    Ok(things)
+}
+
+// .. after its document alone.
+fn read_without_image<'a, F: Files>(
+    alloc: Global,
+    policy: &str,
+    document: &[u8],
+    lawful: &Lawful,
+    files: &mut F,
+) -> Result<Seq<Seq<u8>>, CommandError<'a>>
+    ensures ok { IfOk result (HasContents ((policy.now, document.now) ∷ []) lawful.now (F.held files.old) (F.history files.old) (F.history files.new)) }
+    ensures err { IfErr result (LacksAny ((policy.now, document.now) ∷ []) (source_of lawful.now) (F.held files.old) (F.history files.old) (F.history files.new)) }
+    ensures held { F.held files.new ≡ F.held files.old }
+{
+    let given = [Given {
+        name: policy,
+        bytes: document,
+    }];
+    let things = contents_of(alloc, &given, lawful, files)?;
+    Ok(things)
+}
+
+// What they hold. The image's bytes are let go before where no content is of its file.
 fn read_contents<'a, F: Files>(
     alloc: Global,
     image: &str,
@@ -91,19 +135,11 @@ fn read_contents<'a, F: Files>(
     ensures err { IfErr result (LacksAny ((policy.now, document.now) ∷ (image.now, bytes) ∷ []) (source_of lawful.now) (F.held files.old) (F.history files.old) (F.history files.new)) }
     ensures held { F.held files.new ≡ F.held files.old }
 {
-    let of_policy = Given {
-        name: policy,
-        bytes: document,
-    };
     if names_file(lawful, image) {
-        let of_image = Given {
-            name: image,
-            bytes: bytes.items(),
-        };
-        return Ok(contents_of(alloc, &[of_policy, of_image], lawful, files)?);
+        return read_with_image(alloc, image, bytes.items(), policy, document, lawful, files);
     }
     drop(bytes);
-    Ok(contents_of(alloc, &[of_policy], lawful, files)?)
+    read_without_image(alloc, policy, document, lawful, files)
 }
 
 // What is judged: an image, for a lawful policy, whose regions hold this at the start.

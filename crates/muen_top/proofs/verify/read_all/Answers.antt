@@ -22,7 +22,7 @@ pub returns-in_err-things-clause-err : goal.returns-in_err-things-clause-err
 returns-in_err-things-clause-err g c =
     let left = err_from_is_err_and c.from_residual-in_err-things.result c.from_residual-in_err-things.ensures.1 in
     let image = c.in_ok-parts.ensures in
-    let lacks = rw (c.items-2.ensures, c.items-3.ensures) at c.in_err-things.ensures.err in
+    let lacks = rw (c.items-2.ensures) at c.in_err-things.ensures.err in
     rw (left.1, left.2)
     (contents_lack c.args.image.now _ _ _ _ c.in_ok-parts.field-0.bytes image.ok c.read_image.ensures.held c.in_ok-parts.field-0.parts image.parts.1 c.args.policy.now _
     c.in_ok-lawful.field-0.document c.in_ok-lawful.field-0.policy (rw c.items.ensures at c.in_ok-lawful.ensures.ok) _ (c.read_policy.ensures.held ∙ c.read_image.ensures.held) _ lacks.build_error c.in_err-things.field-0.0 lacks.lacks lacks.made)
@@ -33,4 +33,4 @@ returns-clause-ok g c =
     let image = c.in_ok-parts.ensures in
     contents_have c.args.image.now _ _ _ _ c.in_ok-parts.field-0.bytes image.ok c.read_image.ensures.held c.in_ok-parts.field-0.parts image.parts.1 c.args.policy.now _
     c.in_ok-lawful.field-0.document c.in_ok-lawful.field-0.policy (rw c.items.ensures at c.in_ok-lawful.ensures.ok) _ (c.read_policy.ensures.held ∙ c.read_image.ensures.held) _ c.in_ok-things.things
-    (rw (c.items-2.ensures, c.items-3.ensures) at c.in_ok-things.ensures.ok) image.parts.0
+    (rw (c.items-2.ensures) at c.in_ok-things.ensures.ok) image.parts.0
