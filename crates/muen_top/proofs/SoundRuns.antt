@@ -1,5 +1,6 @@
 -- What the program answers where files hold a policy, or an image that is sound for one, and a record of its devices.
 use Rattle.std.proofs.Common.{◌≡◌, ℕ, List, Option, None, Some, refl, sym, ap, ◌∙◌}
+use Rattle.std.specs.Prelude.{IsTrue}
 use Rattle.std.proofs.lemmas.List.Elements.{All-weaker}
 use Rattle.binary_form.specs.Faults.{unpacked}
 use Rattle.binary_form.proofs.Theorem.{back}
@@ -16,7 +17,8 @@ use Rattle.muen_outside.specs.Store.{Store}
 use Rattle.policy_lawful.specs.Contents.{Held}
 use Rattle.policy_lawful.specs.source.Source.{Source}
 use Rattle.record_text.specs.DeviceRecord.{DeviceRecord}
-use Rattle.record_text.specs.Reading.{record_of}
+use Rattle.record_text.specs.Law.{NamesEachOnce}
+use Rattle.record_text.specs.Reading.{are_distinct, record_of}
 use Rattle.proof_runs.proofs.ImageRuns.{image_bench_is, image_runs}
 use Rattle.flow_report.specs.TwoTexts.{HasDistinctOrders, PrintsMembersAlike}
 use Rattle.flow_report.proofs.TwoEnds.{printed_alike}
@@ -74,7 +76,9 @@ module _ (m : Store) (name inputs : List ℕ) (p : Source) (r : DeviceRecord) (s
 
 -- no order of a record that is read names a CPU twice
 distinct_orders : (m : Store) (inputs : List ℕ) (p : Source) (r : DeviceRecord) → HoldsRecord m inputs p r → HasDistinctOrders r
-distinct_orders m inputs p r says = All-weaker _ _ (λ o each. each.distinct) r.orders (record_is_read (devices_of p) says.text r says.says).orders
+distinct_orders m inputs p r says =
+    All-weaker (λ (o : ℕ × List ℕ). NamesEachOnce (devices_of p).cpus o.1) (λ (o : ℕ × List ℕ). IsTrue (are_distinct o.1)) (λ o each. each.distinct) r.orders
+    (record_is_read (devices_of p) says.text r says.says).orders
 
 module _ (m : Store) (name inputs : List ℕ) (p : Source) (r : DeviceRecord) (says : HoldsRecord m inputs p r) where
   pub boot_alike : HoldsPolicy m name p → PrintsMembersAlike p m r
