@@ -1,0 +1,2 @@
+//! An instance of the law of two systems.
+#![tactic(auto)]
