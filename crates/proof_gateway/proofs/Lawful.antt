@@ -3,7 +3,7 @@ use Rattle.std.proofs.Common.{◌≡◌, ℕ, List, [], ◌∷◌, true, false, 
 use Rattle.std.specs.Prelude.{codes}
 use Rattle.std.specs.List.{All}
 use Rattle.std.proofs.lemmas.List.Elements.{All-from_recursion}
-use Rattle.policy_flows.specs.Flows.{IsClosed, closure_of, flows_to, is_member}
+use Rattle.proof_isolation.specs.Flows.{IsClosed, closure_of, flows_to, is_member}
 use Rattle.policy_lawful.specs.Events.{event_of}
 use Rattle.policy_lawful.specs.Domains.{offence_21, offence_22, offence_23, offence_24}
 use Rattle.policy_lawful.specs.Lawful.{IsLawful, offences, unlawful}
@@ -25,11 +25,11 @@ pub lawful_with_more : IsLawful more_memory
 unfolding unlawful offences offence_1 offence_2 offence_3 offence_4 offence_5 offence_6 offence_7 offence_8 offence_9 offence_10 offence_11 offence_12 offence_13 offence_14 offence_15 offence_16 offence_17 offence_18 offence_19 offence_20 offence_21 offence_22 offence_23 offence_24 first_overlap window_extents windows_of
 lawful_with_more = refl
 
-set_of_cipher : (code : List ℕ) → closure_of (with_black [] [] code) (codes "cipher") ≡ members
+pub set_of_cipher : (code : List ℕ) → closure_of (with_black [] [] code) (codes "cipher") ≡ members
 unfolding closure_of flows_to windows_of event_of
 set_of_cipher code = refl
 
-set_with_more : closure_of more_memory (codes "cipher") ≡ members
+pub set_with_more : closure_of more_memory (codes "cipher") ≡ members
 unfolding closure_of flows_to windows_of event_of
 set_with_more = refl
 

@@ -4,9 +4,9 @@ use Rattle.std.specs.Prelude.{Option, Some, None, codes, option_and_then}
 use Rattle.std.specs.List.{AllByRecursion, find, list_any}
 use Rattle.std.specs.Str.{bytes_eq}
 use Rattle.std.proofs.lemmas.Bool.{cases_Bool}
-use Rattle.muen_num.specs.Range.{numbers_below}
-use Rattle.muen_num.specs.declared.limits.TheConstants.{LAST_PORT}
-use Rattle.policy_flows.specs.Flows.{is_member}
+use Rattle.proof_isolation.specs.Flows.{is_member}
+use Rattle.proof_isolation.specs.Range.{numbers_below}
+use Rattle.proof_isolation.specs.limits.TheConstants.{LAST_PORT}
 use Rattle.policy_lawful.specs.Events.{event_of, irq_of}
 use Rattle.policy_lawful.specs.Windows.{windows_of}
 use Rattle.policy_lawful.specs.source.Mapping.{Mapping}
@@ -50,7 +50,9 @@ no_one (x ∷ xs) = no_one xs
 
 no_ports : (p : Source) (s : Subject) → port_ranges_of p s ≡ [] → ports_of p s ≡ []
 unfolding ports_of
-no_ports p s none = ap (λ ranges. filter (λ port. list_any (λ r. has_port r port) ranges) (numbers_below (LAST_PORT + 1))) none ∙ no_one (numbers_below (LAST_PORT + 1))
+no_ports p s none =
+    let ports = numbers_below (LAST_PORT + 1) in
+    ap (λ ranges. filter (λ port. list_any (λ r. has_port r port) ranges) ports) none ∙ no_one ports
 
 pub members_have_no_ports : (regions : List Region) (windows : List Mapping) (code : List ℕ) → OfMembers (λ s. ports_of (with_black regions windows code) s ≡ [])
 unfolding port_ranges_of
@@ -63,6 +65,6 @@ members_have_no_ports regions windows code = let p = with_black regions windows 
 
 -- ---- what a member is given for itself, and which events it raises
 
-own_by : (p q : Source) (s : Subject) → windows_of p s ≡ windows_of q s → ports_of p s ≡ ports_of q s → own_of p s ≡ own_of q s
+pub own_by : (p q : Source) (s : Subject) → windows_of p s ≡ windows_of q s → ports_of p s ≡ ports_of q s → own_of p s ≡ own_of q s
 unfolding own_of
 own_by p q s windows ports = cc (windows, ports)

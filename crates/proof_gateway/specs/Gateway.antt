@@ -1,8 +1,8 @@
 -- Three systems that differ in the subject that has the network (this project's own): the gateway, the same with another program there,
 -- and the same with more memory there.
 use Rattle.std.specs.Prelude.{ℕ, List, [], ◌∷◌, ◌++◌, Some, None, codes}
-use Rattle.muen_num.specs.declared.mode.EventMode.{EventMode}
-use Rattle.muen_num.specs.declared.mode.EventMode.TheVariants.{Asap, Async}
+use Rattle.proof_isolation.specs.mode.EventMode.{EventMode}
+use Rattle.proof_isolation.specs.mode.EventMode.TheVariants.{Asap, Async}
 use Rattle.policy_lawful.specs.rights.Rights.TheVariants.{Rw, Rx}
 use Rattle.policy_lawful.specs.rights.Caching.TheVariants.{Wb}
 use Rattle.policy_lawful.specs.rights.Role.TheVariants.{Writer, Reader}
@@ -207,9 +207,12 @@ black_code =
 abbrev pub gateway : Source
 gateway = with_black [] [] black_code
 
+abbrev pub halt_code : List ℕ
+halt_code = 23 ∷ 0 ∷ 0 ∷ 0 ∷ 0 ∷ 0 ∷ 0 ∷ 0 ∷ []
+
 -- `black` halts at once
 abbrev pub other_black : Source
-other_black = with_black [] [] (23 ∷ 0 ∷ 0 ∷ 0 ∷ 0 ∷ 0 ∷ 0 ∷ 0 ∷ [])
+other_black = with_black [] [] halt_code
 
 abbrev pub pad : Region
 pad = memory (codes "pad") 1048576 Zero
