@@ -1,6 +1,6 @@
 -- The gateway and another one that differs in what `black` has agree on the members.
-use Rattle.std.proofs.Common.{◌≡◌, ℕ, Bool, true, false, cond, List, [], ◌∷◌, filter, map, refl, sym, ap, subst, ◌∙◌, ◌<◌, inl, inr}
-use Rattle.std.specs.Prelude.{Option, Some, None, codes, ◌==◌}
+use Rattle.std.proofs.Common.{◌≡◌, ℕ, Bool, true, false, List, [], ◌∷◌, filter, map, refl, sym, ap, subst, ◌∙◌, inl, inr}
+use Rattle.std.specs.Prelude.{Some, codes, ◌==◌}
 use Rattle.std.specs.List.{All, AllByRecursion}
 use Rattle.std.proofs.lemmas.Bool.{cases_Bool}
 use Rattle.std.proofs.lemmas.List.Elements.{All-nil}
@@ -13,15 +13,13 @@ use Rattle.policy_lawful.specs.source.Mapping.{Mapping}
 use Rattle.policy_lawful.specs.source.Region.{Region}
 use Rattle.policy_lawful.specs.source.Source.{Source}
 use Rattle.policy_lawful.specs.source.SourceWay.{SourceWay}
-use Rattle.policy_lawful.specs.source.SourceWay.TheVariants.{Call, Trap}
 use Rattle.policy_lawful.specs.source.Subject.{Subject}
 use Rattle.policy_lawful.specs.Thing.{Thing}
 use Rattle.subject_model.specs.Alone.{own_of, thing_in}
 use Rattle.subject_model.specs.Clock.{inputs_at}
 use Rattle.subject_model.specs.DeviceRecord.{NamedInput, port_input, irq_input}
-use Rattle.subject_model.specs.Resources.{ports_of}
 use Rattle.subject_model.specs.System.{is_shown, start_of, subject_named}
-use Rattle.proof_isolation.specs.Agree.{Agree, AgreeFor, AgreeOnFrames, WritesTheSame, hands_over, irq_to, is_first, only_to, own_slot, plain_frame, touches, unchosen}
+use Rattle.proof_isolation.specs.Agree.{Agree, AgreeFor, WritesTheSame, hands_over, irq_to, is_first, only_to, own_slot, plain_frame, touches, unchosen}
 use Rattle.proof_gateway.specs.Gateway.{with_black, plain, keys, slots, cipher, members, network}
 use Rattle.proof_gateway.proofs.Contents.{same_contents}
 use Rattle.proof_gateway.proofs.Members.{OfMembers, each_member, members_have_no_ports, own_by}

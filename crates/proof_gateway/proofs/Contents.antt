@@ -1,5 +1,5 @@
 -- The bytes at the start of what the windows of members show: the same whatever `black` is.
-use Rattle.std.proofs.Common.{◌≡◌, ℕ, Bool, true, false, cond, List, [], ◌∷◌, ◌++◌, map, refl, sym, ap, subst, ◌∙◌, inl, inr, true≢false}
+use Rattle.std.proofs.Common.{◌≡◌, ℕ, Bool, true, false, List, [], ◌∷◌, ◌++◌, map, refl, sym, ap, subst, ◌∙◌, inl, inr, true≢false}
 use Rattle.std.specs.Prelude.{Option, Some, None, codes}
 use Rattle.std.specs.List.{AllByRecursion, find, flat_map, list_any}
 use Rattle.std.specs.Option.{option_map_or}
@@ -12,13 +12,12 @@ use Rattle.policy_lawful.specs.source.Content.TheVariants.{Zero, Fill, Inline, F
 use Rattle.policy_lawful.specs.source.Mapping.{Mapping}
 use Rattle.policy_lawful.specs.source.Region.{Region}
 use Rattle.policy_lawful.specs.source.Source.{Source}
-use Rattle.policy_lawful.specs.source.Subject.{Subject}
 use Rattle.subject_model.proofs.KeyLaws.{same_things}
 use Rattle.subject_model.proofs.StartLists.{made_of}
 use Rattle.subject_model.specs.Alone.{thing_in}
 use Rattle.subject_model.specs.System.{first_page, is_shown, start_of}
 use Rattle.policy_lawful.specs.Thing.{state}
-use Rattle.proof_gateway.specs.Gateway.{with_black, memory, plain, keys, slots, cipher}
+use Rattle.proof_gateway.specs.Gateway.{with_black, plain, keys, slots, cipher}
 use Rattle.proof_gateway.proofs.Members.{OfMembers}
 
 -- ---- of what is declared of a thing

@@ -14,7 +14,7 @@ use Rattle.policy_lawful.specs.source.Mapping.{Mapping}
 use Rattle.policy_lawful.specs.source.Region.{Region}
 use Rattle.policy_lawful.specs.source.Source.{Source}
 use Rattle.policy_lawful.specs.source.Subject.{Subject}
-use Rattle.proof_gateway.specs.Gateway.{with_black, black, black_code, plain, keys, slots, cipher, members, gateway, more_memory, pad, on_pad}
+use Rattle.proof_gateway.specs.Gateway.{with_black, black, black_code, plain, keys, slots, cipher, members, more_memory, pad, on_pad}
 
 -- whatever the code of `black` is
 pub lawful : (code : List ℕ) → IsLawful (with_black [] [] code)

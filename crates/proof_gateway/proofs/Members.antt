@@ -1,24 +1,21 @@
 -- Whatever holds of each of the four members holds of a member; and what a policy says of members, whatever `black` is.
-use Rattle.std.proofs.Common.{◌≡◌, ℕ, Bool, true, false, cond, List, [], ◌∷◌, ◌++◌, filter, map, refl, sym, ap, subst, ◌∙◌, ◌+◌, ◌==◌, inl, inr, true≢false}
-use Rattle.std.specs.Prelude.{Option, Some, None, codes, option_and_then}
+use Rattle.std.proofs.Common.{◌≡◌, ℕ, Bool, true, List, [], ◌∷◌, filter, refl, sym, ap, subst, ◌∙◌, ◌+◌, inl, inr, true≢false}
+use Rattle.std.specs.Prelude.{Some}
 use Rattle.std.specs.List.{AllByRecursion, find, list_any}
 use Rattle.std.specs.Str.{bytes_eq}
 use Rattle.std.proofs.lemmas.Bool.{cases_Bool}
 use Rattle.proof_isolation.specs.Flows.{is_member}
 use Rattle.proof_isolation.specs.Range.{numbers_below}
 use Rattle.proof_isolation.specs.limits.TheConstants.{LAST_PORT}
-use Rattle.policy_lawful.specs.Events.{event_of, irq_of}
 use Rattle.policy_lawful.specs.Windows.{windows_of}
 use Rattle.policy_lawful.specs.source.Mapping.{Mapping}
 use Rattle.policy_lawful.specs.source.Region.{Region}
 use Rattle.policy_lawful.specs.source.Source.{Source}
-use Rattle.policy_lawful.specs.source.SourceWay.{SourceWay}
-use Rattle.policy_lawful.specs.source.SourceWay.TheVariants.{Call, Trap}
 use Rattle.policy_lawful.specs.source.Subject.{Subject}
 use Rattle.subject_model.specs.Alone.{own_of}
 use Rattle.subject_model.specs.Resources.{has_port, port_ranges_of, ports_of}
 use Rattle.subject_model.specs.System.{subject_named}
-use Rattle.proof_gateway.specs.Gateway.{with_black, black, plain, keys, slots, cipher, members}
+use Rattle.proof_gateway.specs.Gateway.{with_black, plain, keys, slots, cipher, members}
 
 -- ---- by cases over the members
 
