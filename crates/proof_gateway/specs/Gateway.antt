@@ -23,9 +23,9 @@ use Rattle.policy_lawful.specs.source.Source.{Source}
 use Rattle.policy_lawful.specs.source.Subject.{Subject}
 use Rattle.subject_model.specs.DeviceRecord.{DeviceRecord, port_input, irq_input}
 
--- ---- the components, an instruction to a line
+-- ---- the components; an instruction has eight bytes, and a line
 
--- counts, and sends each number
+-- stores 7 in its channel, then each next number, with a call after each
 abbrev pub feed_code : List ℕ
 feed_code =
     1 ∷ 16 ∷ 0 ∷ 0 ∷ 7 ∷ 0 ∷ 0 ∷ 0
@@ -36,7 +36,7 @@ feed_code =
     ∷ 4 ∷ 19 ∷ 0 ∷ 0 ∷ 0 ∷ 0 ∷ 0 ∷ 0
     ∷ 13 ∷ 0 ∷ 0 ∷ 0 ∷ 232 ∷ 255 ∷ 255 ∷ 255 ∷ []
 
--- combines a job with a key, and sends the result
+-- puts data and key together, again and again: stores the exclusive or in its channel, and calls
 abbrev pub crypt_code : List ℕ
 crypt_code =
     1 ∷ 32 ∷ 0 ∷ 0 ∷ 0 ∷ 0 ∷ 96 ∷ 0
@@ -190,7 +190,7 @@ with_black regions windows code = record {
   device_domains = [];
 }
 
--- adds up what it reads, and sends the sum
+-- waits for events; at that of `sealed` it sends a byte of what stands there to a port
 abbrev pub black_code : List ℕ
 black_code =
     1 ∷ 32 ∷ 0 ∷ 0 ∷ 0 ∷ 16 ∷ 96 ∷ 0
