@@ -1,0 +1,5 @@
+mod Lawful
+mod Members
+mod Contents
+mod Agree
+mod TwoGateways
