@@ -5,7 +5,7 @@ use Rattle.std.specs.List.{AllByRecursion, find, flat_map, list_any}
 use Rattle.std.specs.Option.{option_map_or}
 use Rattle.std.proofs.lemmas.Bool.{cases_Bool}
 use Rattle.policy_lawful.specs.Contents.{Held, content_bytes, initial_bytes}
-use Rattle.policy_lawful.specs.Thing.{Item, Thing, channel, channel_item, component_by, device_items, item_of, items_of, placed_items, provided, provided_items, region, region_item, same_thing, things_of}
+use Rattle.policy_lawful.specs.Thing.{Item, Thing, channel, channel_item, component_by, device_items, item_of, items_of, placed_items, provided, provided_items, region, region_item, same_thing, state, things_of}
 use Rattle.policy_lawful.specs.Windows.{Window, windows_of}
 use Rattle.policy_lawful.specs.source.Content.{Content}
 use Rattle.policy_lawful.specs.source.Content.TheVariants.{Zero, Fill, Inline, File}
@@ -16,7 +16,6 @@ use Rattle.subject_model.proofs.KeyLaws.{same_things}
 use Rattle.subject_model.proofs.StartLists.{made_of}
 use Rattle.subject_model.specs.Alone.{thing_in}
 use Rattle.subject_model.specs.System.{first_page, is_shown, start_of}
-use Rattle.policy_lawful.specs.Thing.{state}
 use Rattle.proof_gateway.specs.Gateway.{with_black, plain, keys, slots, cipher}
 use Rattle.proof_gateway.proofs.Members.{OfMembers}
 
