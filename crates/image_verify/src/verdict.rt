@@ -148,20 +148,23 @@ fn tables_fault(alloc: Global, expanded: &Expanded, image: Parts) -> Result<Opti
 /// The verdict on an image, whoever made it, for a lawful policy whose regions hold these bytes at the
 /// start, by number: the first condition of a sound image that fails, and whose it is; `None` where none
 /// does. First the contents are asked, then for each subject its bitmaps, its area of MSRs, its state and
-/// that it has these for itself, then the plan and the events, and then the tables.
+/// that it has these for itself, then the plan and the events, and then the tables. What regions hold is let
+/// go before the image's memory is made.
 ///
 /// # Errors
 /// Memory is refused.
 pub fn verify(
     alloc: Global,
     expanded: &Expanded,
-    things: &[Seq<u8>],
+    things: Seq<Seq<u8>>,
     image: Parts,
 ) -> Result<Option<Fault>, NoMemory>
-    requires { AreOfFiles expanded.now.lawful things.now }
-    ensures verdict { IfOk result (λ o. (files : Held) → things.now ≡ thing_bytes files expanded.now.lawful → IsVerdict expanded.now files image o) }
+    requires { AreOfFiles expanded.now.lawful things }
+    ensures verdict { IfOk result (λ o. (files : Held) → things ≡ thing_bytes files expanded.now.lawful → IsVerdict expanded.now files image o) }
 {
-    if let Some(owner) = contents_fault(alloc, expanded, things, &image)? {
+    let owner = contents_fault(alloc, expanded, things.items(), &image)?;
+    drop(things);
+    if let Some(owner) = owner {
         return Ok(Some(Fault::Fails {
             condition: Condition::Contents,
             owner: Owner::Named(owner),

@@ -186,11 +186,11 @@ fn read_all<'a, F: Files>(
 fn verdict(
     alloc: Global,
     expanded: Expanded,
-    things: &[Seq<u8>],
+    things: Seq<Seq<u8>>,
     parts: Parts,
 ) -> Result<Option<Fault>, NoMemory>
-    requires { AreOfFiles expanded.lawful things.now }
-    ensures { IfOk result (IsFound parts expanded.lawful things.now) }
+    requires { AreOfFiles expanded.lawful things }
+    ensures { IfOk result (IsFound parts expanded.lawful things) }
 {
     image_verify::verify(alloc, &expanded, things, parts)
 }
@@ -206,7 +206,7 @@ fn judged(alloc: Global, read: ToJudge) -> Result<Option<Fault>, NoMemory>
         things,
     } = read;
     let expanded = expand(alloc, policy)?;
-    verdict(alloc, expanded, things.items(), parts)
+    verdict(alloc, expanded, things, parts)
 }
 
 fn put_sound<S: Sink>(out: &mut S) -> Result<(), SinkFault>

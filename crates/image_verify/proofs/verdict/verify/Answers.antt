@@ -1,4 +1,4 @@
-use Rattle.std.proofs.Common.{◌≡◌, None, subst}
+use Rattle.std.proofs.Common.{◌≡◌, ◌∙◌, None, subst}
 use Rattle.image_checks.specs.Contents.{IsContentsFault}
 use Rattle.image_pack.specs.Parts.{IsParts}
 use Rattle.image_verify.proofs.VerdictLaws.{are_kept}
@@ -15,7 +15,7 @@ tables_fault-requires c =
       filled = record {
         expanded = c.is_expanded.ensures.is;
         parts = subst IsParts c.image.view_is c.image.invariant;
-        contents = subst (IsContentsFault (source_of r) c.requires.files i) c.in_default.is (c.in_ok-owner.ensures c.requires.files c.requires.are);
+        contents = subst (IsContentsFault (source_of r) c.requires.files i) c.in_default.is (c.in_ok-owner.ensures c.requires.files (c.items.ensures ∙ c.requires.are));
         many = (are_kept r i (λ o. o ≡ None) (subst (FirstOf r i (λ o. o ≡ None) in_order) c.in_default-2.is c.in_ok-fault.ensures)).0.plan.many;
       };
     }
