@@ -1,0 +1,1 @@
+"""The forms of share/look: a module for each, and what they share."""

@@ -1,0 +1,122 @@
+"""The file of tables by which devices access memory by themselves, after docs/dma.md."""
+import struct
+from dataclasses import dataclass
+
+from looking.files import MEBIBYTE, read_bytes
+from looking.image_file import MEMORY_END, PAGE, Bytes
+from looking.walk import ENTRIES, MOST_ENTRIES
+from looking.wrong import Wrong
+
+ADDRESS_BITS = MEMORY_END - PAGE
+RIGHTS = {1: "r", 2: "w", 3: "rw"}
+WIDE_ENTRIES = struct.Struct("<QQ")
+
+
+@dataclass
+class Reach:
+    """Addresses of a device, one after another, that lead to memory one after another."""
+    address: int
+    size: int
+    place: int
+    rights: str
+
+
+@dataclass
+class Master:
+    """A device of the file, by its name and its place on a bus."""
+    name: str
+    bus: int
+    function: int
+
+    @property
+    def bus_place(self):
+        """Bus, device and function as lspci spells them."""
+        return f"{self.bus:02x}:{self.function >> 3:02x}.{self.function & 7}"
+
+
+@dataclass
+class DmaFile:
+    """The base, the pages from it on, and the devices."""
+    base: int
+    pages: list[memoryview]
+    masters: list[Master]
+
+    def page(self, address):
+        """The page of the tables at this address, or None."""
+        number, rest = divmod(address - self.base, PAGE)
+        return self.pages[number] if rest == 0 and 0 <= number < len(self.pages) else None
+
+
+def read_dma(name):
+    """The tables in a file of at most 64 MiB (docs/outside.md)."""
+    take = Bytes(read_bytes(name, 64 * MEBIBYTE), "dma", name)
+    take.want(bytes(take.take(8)) == b"MUENDMA1", "magic")
+    base = take.number(8)
+    take.want(base % PAGE == 0, "place")
+    count = take.within(4, 1, 16384, "pages")
+    take.want(base + count * PAGE <= MEMORY_END, "pages")
+    devices = take.within(1, 0, 32, "count")
+    take.zero(3)
+    masters = []
+    for _ in range(devices):
+        own = take.name()
+        take.want(own not in [one.name for one in masters], "name")
+        masters.append(Master(own, take.number(1), take.number(1)))
+        take.zero(2)
+    content = take.take(count * PAGE)
+    take.end()
+    pages = [content[at:at + PAGE] for at in range(0, len(content), PAGE)]
+    return DmaFile(base, pages, masters)
+
+
+def context_entries(file):
+    """Of each bus and function that has a context entry: the entry's two halves."""
+    for bus in range(256):
+        low, high = WIDE_ENTRIES.unpack_from(file.page(file.base), 16 * bus)
+        if low & 1 and not low & ~(ADDRESS_BITS | 1) and not high:
+            context = file.page(low & ADDRESS_BITS)
+            for function in range(256 if context else 0):
+                entry = WIDE_ENTRIES.unpack_from(context, 16 * function)
+                if entry[0] & 1:
+                    yield (bus, function), entry
+
+
+def domain_of(entry):
+    """The number of the domain of a context entry, and its highest table; None where a bit is set
+    that the table of docs/dma.md hasn't, or it has no four levels."""
+    low, high = entry
+    if low & ~(ADDRESS_BITS | 1) or high & ~0xffff07 or high & 7 != 2:
+        return None
+    return (high >> 8 & 0xffff) - 1, low & ADDRESS_BITS
+
+
+class Reaches:
+    """What a device reaches by its highest table."""
+
+    def __init__(self, file, table, name):
+        self.file, self.name, self.found, self.entries = file, name, [], 0
+        self.walk(table, 3, 0, 3)
+
+    def walk(self, table, level, address, rights):
+        """Goes through a table, as the file has it."""
+        page = self.file.page(table)
+        for at, value in enumerate(ENTRIES.unpack(page) if page else ()):
+            if not value & 3 or value & ~(ADDRESS_BITS | 3):
+                continue
+            self.entries += 1
+            if self.entries > MOST_ENTRIES:
+                raise Wrong(f"the tables of {self.name} have more than {MOST_ENTRIES} entries on all ways")
+            here = address + at * (PAGE << 9 * level)
+            if level:
+                self.walk(value & ADDRESS_BITS, level - 1, here, rights & value)
+            elif rights & value:
+                self.join(here, value & ADDRESS_BITS, RIGHTS[rights & value & 3])
+
+    def join(self, address, place, rights):
+        """Neighbours that go on alike are one."""
+        last = self.found[-1] if self.found else None
+        if last and (last.address + last.size, last.place + last.size, last.rights) == (
+                address, place, rights):
+            last.size += PAGE
+        else:
+            self.found.append(Reach(address, PAGE, place, rights))

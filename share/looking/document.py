@@ -1,0 +1,31 @@
+"""A policy's file as the forms read it, and how they write places."""
+from looking.places import NotJson, read_bytes, read_file
+from looking.policy import Policy
+from looking.rules import broken
+from looking.schema import faults
+from looking.wrong import Wrong
+
+
+def at(file, spot):
+    """A place of a file."""
+    return f"{file}:{spot.line}:{spot.column}"
+
+
+def opened(file):
+    """The document of a file, or NotJson."""
+    return read_bytes(read_file(file))
+
+
+def lawful(file):
+    """The policy of a file that breaks neither the schema nor a rule, or Wrong."""
+    try:
+        document = opened(file)
+    except NotJson as error:
+        raise Wrong(f"{at(file, error.spot)}: not JSON: {error.why}") from None
+    for fault in faults(document):
+        raise Wrong(f"{at(file, fault.spot)}: {fault.line}: {fault.text}")
+    policy = Policy(document)
+    for finding in broken(policy):
+        spot = finding.nodes[0].spot if finding.nodes else document.spot
+        raise Wrong(f"{at(file, spot)}: {finding.line}: {finding.text}")
+    return policy

@@ -1,0 +1,54 @@
+"""look lint: all faults of a policy that can be told without the program, and warnings."""
+from looking.document import at, opened
+from looking.hints import hints
+from looking.places import NotJson
+from looking.policy import Policy, name
+from looking.rules import broken
+from looking.schema import faults, number_of
+
+HELP = "Tells all faults of a policy at once, the first as muen would, and warns of what is mostly not meant."
+
+
+def add_arguments(parser):
+    """The words of the form."""
+    parser.add_argument("policy", metavar="POLICY")
+
+
+def run(arguments):
+    """Prints each fault and each warning; 1 where there is a fault."""
+    file = arguments.policy
+    try:
+        document = opened(file)
+    except NotJson as error:
+        print(f"{at(file, error.spot)}: fault: not JSON: {error.why}")
+        return 1
+    policy = Policy(document)
+    wrong = list(faults_of(policy))
+    warnings = [(hint.spot, hint.text) for hint in hints(policy)]
+    for spot, text in wrong:
+        print(f"{at(file, spot)}: fault: {text}")
+    for spot, text in sorted(warnings, key=lambda pair: pair[0]):
+        print(f"{at(file, spot)}: warning: {text}")
+    print(f"{counted(wrong, 'fault')}, {counted(warnings, 'warning')}")
+    return 1 if wrong else 0
+
+
+def counted(items, word):
+    """How many of these there are, in words."""
+    return f"{len(items)} {word}" + ("" if len(items) == 1 else "s")
+
+
+def faults_of(policy):
+    """The spot and the text of each fault: of the schema, of rules, of contents."""
+    for fault in faults(policy.document):
+        yield fault.spot, f"{fault.text} ({fault.line})"
+    for finding in broken(policy):
+        spot = finding.nodes[0].spot if finding.nodes else policy.document.spot
+        yield spot, f"{finding.text} ({finding.line})"
+    provided = [node for component in policy.components for node in component.items("provides")]
+    for region in [*policy.memory, *provided]:
+        content, size = region.get("content"), number_of(region.get("size"))
+        digits = content.text("hex") if content is not None else None
+        if digits is not None and size is not None and len(digits) // 2 > size:
+            whose = name(region) or name(region, "logical")
+            yield content.get("hex").spot, f"{whose}: {len(digits) // 2} bytes in room for {size}"
