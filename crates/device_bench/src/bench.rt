@@ -1,11 +1,13 @@
 //! The devices of a run.
 ghost use Rattle.std.specs.Prelude.{◌≡◌, ℕ, ◌+◌, ◌^◌, ◌==◌, ◌<◌, ◌≤◌, slice_get, slice_set, length, filter, option_map, IfOk};
-ghost use Rattle.std.specs.List.{AllWithin, find};
+ghost use Rattle.std.specs.List.{find};
 ghost use Rattle.std.specs.List.Sorted.{IsNonDecreasingBy};
 ghost use Rattle.machine_layout.specs.Memory.{le_number};
 ghost use Rattle.muen_num.specs.AccessSize.{bytes_of};
+ghost use Rattle.device_bench.specs.Before.{Splits};
 ghost use Rattle.device_bench.specs.Devices.{IsInOrder, inputs_at, order_at, zeros, no_inputs, value_of_ports};
 
+use crate::at_tick::AtTick;
 use crate::effect::Effect;
 use muen_num::limits::LAST_PORT;
 use muen_num::{AccessSize, NoMemory};
@@ -19,69 +21,33 @@ const PORTS: usize = LAST_PORT as usize + 1;
 /// How many values a byte has.
 const BYTE_VALUES: u32 = 256;
 
-/// What stands in a record by its tick.
-trait Ticked {
-    /// The tick.
-    ghost tick: { Self → ℕ };
-
-    /// The tick.
-    fn tick(&self) -> u32
-        ensures { result ≡ tick self.now };
-}
-
-impl Ticked for TickInput<Effect> {
-    ghost tick = { λ i. i.tick };
-
-    fn tick(&self) -> u32 {
-        self.tick
-    }
-}
-
-impl Ticked for TickOrder {
-    ghost tick = { λ o. o.tick };
-
-    fn tick(&self) -> u32 {
-        self.tick
-    }
-}
-
 /// The devices of a run, by its record: what they do in each tick, and the input byte of each I/O
 /// port.
 #[derive(Debug, Drop)]
 pub struct Bench {
     run: Record<Effect>,
     ports: Vec<u8>,
+    at: AtTick,
 }
 
 impl Model for Bench {
+    ghost use Rattle.device_bench.specs.AtTick.{IsAtTick};
     ghost use Rattle.device_bench.specs.Devices.{BenchState, IsBench};
 
     ghost Value = { BenchState };
 
     ghost view = { λ b. record { run = b.run; ports = b.ports.items } };
 
-    ghost invariant = { λ b. IsBench (record { run = b.run; ports = b.ports.items }) };
-}
-
-// How many of these stand before a tick.
-fn count_before<T: Ticked>(items: &[T], tick: u64) -> usize
-    requires { IsNonDecreasingBy T.tick items.now }
-    ensures bound { result ≤ length items.now }
-    ensures before { AllWithin (λ x. T.tick x < tick) items.now 0 result }
-    ensures behind { AllWithin (λ x. tick ≤ T.tick x) items.now result (length items.now) }
-{
-    items.partition_point(|item| u64::from(item.tick()) < tick)
+    ghost invariant = { λ b. IsBench (record { run = b.run; ports = b.ports.items }) × IsAtTick b.run b.at };
 }
 
 // The inputs of a tick.
-fn inputs_of(inputs: &[TickInput<Effect>], tick: u64) -> &[TickInput<Effect>]
-    requires order { IsNonDecreasingBy (λ i. i.tick) inputs.now }
-    requires tick { tick < 2 ^ 32 }
-    ensures { result.now ≡ filter (λ i. i.tick == tick) inputs.now }
+fn inputs_of(inputs: &[TickInput<Effect>], at: AtTick) -> &[TickInput<Effect>]
+    requires first { Splits (λ i. i.tick) at.tick inputs.now at.first }
+    requires past { Splits (λ i. i.tick) (at.tick + 1) inputs.now at.past }
+    ensures { result.now ≡ filter (λ i. i.tick == at.tick) inputs.now }
 {
-    let first = count_before(inputs, tick);
-    let past = count_before(inputs, tick + 1);
-    &inputs[first..past]
+    &inputs[at.first..at.past]
 }
 
 // The order at an index.
@@ -92,15 +58,15 @@ fn order_at(orders: &[TickOrder], index: usize) -> Option<&TickOrder>
 }
 
 // The order of a tick.
-fn order_of(orders: &[TickOrder], tick: u64) -> Option<&TickOrder>
-    requires { IsNonDecreasingBy (λ o. o.tick) orders.now }
-    ensures { option_map (λ o. o.now) result ≡ find (λ o. o.tick == tick) orders.now }
+fn order_of(orders: &[TickOrder], at: AtTick) -> Option<&TickOrder>
+    requires order { IsNonDecreasingBy (λ o. o.tick) orders.now }
+    requires before { Splits (λ o. o.tick) at.tick orders.now at.orders }
+    ensures { option_map (λ o. o.now) result ≡ find (λ o. o.tick == at.tick) orders.now }
 {
-    let first = count_before(orders, tick);
-    match order_at(orders, first) {
+    match order_at(orders, at.orders) {
         None => None,
         Some(order) => {
-            if u64::from(order.tick) == tick {
+            if order.tick == at.tick {
                 Some(order)
             } else {
                 None
@@ -130,6 +96,8 @@ fn zeros(alloc: Global, count: usize) -> Result<Vec<u8>, NoMemory>
 }
 
 impl Bench {
+    ghost use Rattle.device_bench.specs.AtTick.{IsAtTick};
+
     /// The devices of a run with this record, which is in order. No port has had an input.
     ///
     /// # Errors
@@ -138,18 +106,41 @@ impl Bench {
         requires { IsInOrder run }
         ensures { IfOk result (λ b. b ≡ record { run = run; ports = no_inputs }) }
     {
+        let at = AtTick::start(&run);
         Ok(Bench {
             run,
             ports: zeros(alloc, PORTS)?,
+            at,
         })
     }
 
-    /// The inputs of a tick, in their order. It is found in time that grows with the logarithm of the
-    /// record's inputs.
+    /// A tick begins: what is asked of it until a later one begins is told at once. What is asked of
+    /// another tick is found in time that grows with the logarithm of the record.
+    pub fn begin(&mut self, tick: u32)
+        ensures { self.new ≡ self.old }
+    {
+        if self.at.tick < tick {
+            self.at = self.at.later(&self.run, tick);
+        }
+    }
+
+    // Where what is of a tick stands.
+    fn at_tick(&self, tick: u32) -> AtTick
+        ensures there { IsAtTick self.now.run result }
+        ensures tick { result.tick ≡ tick }
+    {
+        if self.at.tick == tick {
+            self.at
+        } else {
+            AtTick::search(&self.run, tick)
+        }
+    }
+
+    /// The inputs of a tick, in their order.
     pub fn inputs(&self, tick: u32) -> &[TickInput<Effect>]
         ensures { result.now ≡ inputs_at self.now.run tick }
     {
-        inputs_of(self.run.inputs.items(), u64::from(tick))
+        inputs_of(self.run.inputs.items(), self.at_tick(tick))
     }
 
     /// The order in which the CPUs take their turns in a tick. None where the record gives none, and
@@ -157,7 +148,7 @@ impl Bench {
     pub fn order(&self, tick: u32) -> Option<&[u8]>
         ensures { option_map (λ o. o.now) result ≡ order_at self.now.run tick }
     {
-        let order = order_of(self.run.orders.items(), u64::from(tick))?;
+        let order = order_of(self.run.orders.items(), self.at_tick(tick))?;
         Some(order.cpus.items())
     }
 

@@ -1,6 +1,7 @@
 //! The devices of a run: what they do in each tick, and what their ports hold.
 #![tactic(auto)]
 
+mod at_tick;
 mod bench;
 mod effect;
 

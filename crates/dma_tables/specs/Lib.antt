@@ -1,3 +1,4 @@
+pub use Rattle.record_text.specs.Law
 pub mod DmaConditions
 pub mod DmaFaultText
 pub mod DmaFile

@@ -18,4 +18,5 @@ pub use binary_form::{Field, ImageFault};
 pub use fault::dma_fault_pieces;
 pub use file::{DmaDevice, DmaFile, MOST_DMA_PAGES};
 pub use lowering::{lower, lowered_records};
+pub use record_text::Input;
 pub use tables::{DmaTables, conditions, first_fault, one_to_one, pack, tables_are_bytes, unpack};

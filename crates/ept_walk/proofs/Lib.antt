@@ -1,0 +1,3 @@
+pub mod TraceSteps
+pub mod BlockLaws
+pub mod CacheLaws

@@ -1,16 +1,14 @@
 //! The walk that keeps nothing.
-ghost use Rattle.std.specs.Prelude.{◌≡◌, ℕ, ◌^◌, ◌<◌, List};
+ghost use Rattle.std.specs.Prelude.{◌≡◌, ℕ, List};
 ghost use Rattle.machine_layout.specs.Memory.{Page, is_there};
-ghost use Rattle.machine_layout.specs.Walks.{index_at, leaf_end, entry_of, walk_from};
+ghost use Rattle.ept_walk.specs.Ends.{judged};
 
 use crate::Translate;
+use crate::trace::{End, LEVELS, leaf_end, trace};
 use machine_layout::Walk;
-use machine_layout::entries::{
-    ALL_RIGHTS, PML4_LEVEL, entry_address, entry_size, is_leaf, is_misconfigured, is_present,
-    page_number, rights_of,
-};
+use machine_layout::entries::{ALL_RIGHTS, PML4_LEVEL};
+use muen_num::AccessKind;
 use muen_num::limits::PAGE;
-use muen_num::{AccessKind, AccessSize};
 use phys_mem::PhysMem;
 
 /// Reads the tables at each walk, one entry of each level at most, and keeps nothing.
@@ -28,50 +26,15 @@ impl PlainWalk {
     }
 }
 
-// The entry of an address in the table of this page.
-fn read_entry<M: PhysMem>(mem: &M, level: u32, table: u64, addr: u64) -> Option<u64>
-    requires level { level < 4 }
-    requires table { table < 2 ^ 52 }
-    ensures { result ≡ entry_of (M.pages mem.now) table (index_at level addr) }
+// The walk that ends there, for an access that wants these rights.
+fn judge<M: PhysMem>(mem: &M, want: u64, end: End) -> Walk
+    ensures { (addr : ℕ) → result ≡ judged (is_there (M.pages mem.now)) addr want end }
 {
-    mem.load(entry_address(level, table, addr), AccessSize::Eight)
-}
-
-// Where a walk ends that has come to this physical address: first the rights are checked, and then
-// whether the address is in memory.
-fn leaf_end<M: PhysMem>(mem: &M, want: u64, rights: u64, address: u64) -> Walk
-    ensures { (addr : ℕ) → result ≡ leaf_end (is_there (M.pages mem.now)) addr want rights address }
-{
-    if rights & want != want {
-        return Walk::Violation(rights);
+    match end {
+        End::Absent => Walk::Violation(0),
+        End::Invalid => Walk::Misconfigured,
+        End::Leads(target) => leaf_end(mem, want, target.rights, target.address),
     }
-    match mem.page(address / PAGE) {
-        Some(_) => Walk::At(address),
-        None => Walk::Misconfigured,
-    }
-}
-
-// The walk from the table of this page on, with the rights of the entries so far.
-fn walk_from<M: PhysMem>(mem: &M, addr: u64, want: u64, level: u32, table: u64, rights: u64) -> Walk
-    requires level { level < 4 }
-    requires table { table < 2 ^ 52 }
-    ensures { result ≡ walk_from (entry_of (M.pages mem.now)) (is_there (M.pages mem.now)) addr want level table rights }
-{
-    let Some(entry) = read_entry(mem, level, table, addr) else {
-        return Walk::Misconfigured;
-    };
-    if !is_present(entry) {
-        return Walk::Violation(0);
-    }
-    if is_misconfigured(level, entry) {
-        return Walk::Misconfigured;
-    }
-    let found = rights & rights_of(entry);
-    let number = page_number(entry);
-    if is_leaf(level, entry) {
-        return leaf_end(mem, want, found, PAGE * number + addr % entry_size(level));
-    }
-    walk_from(mem, addr, want, level - 1, number, found)
 }
 
 impl Translate for PlainWalk {
@@ -80,14 +43,9 @@ impl Translate for PlainWalk {
     ghost fits = { FitsEvery };
 
     fn walk<M: PhysMem>(&mut self, mem: &M, eptp: u64, addr: u64, kind: AccessKind) -> Walk {
-        walk_from(
-            mem,
-            addr,
-            kind.bit() as u64,
-            PML4_LEVEL,
-            eptp / PAGE,
-            ALL_RIGHTS,
-        )
+        let mut tables = [0; LEVELS];
+        let end = trace(mem, addr, PML4_LEVEL, eptp / PAGE, ALL_RIGHTS, &mut tables);
+        judge(mem, kind.bit() as u64, end)
     }
 
     fn stored(&mut self, _at: u64, _len: u64) {}

@@ -249,6 +249,13 @@ IsValidWish (ReadMsr reg index) = reg < 16
 IsValidWish (Tick reg) = reg < 16
 IsValidWish _ = Unit {0}
 
+-- a wish that may end in an exit
+abbrev pub CanExit : Wish → Type 0
+CanExit Nothing = ⊥
+CanExit (Sets reg value) = ⊥
+CanExit (Tick reg) = ⊥
+CanExit _ = Unit {0}
+
 -- ---- the effect: exact numbers, reduced modulo 2^64
 
 abbrev pub register : SubjectState → ℕ → ℕ

@@ -1,11 +1,14 @@
 // What instructions do.
 ghost use Rattle.std.specs.Prelude.{◌≡◌, ◌+◌, ◌*◌, ◌%◌, ◌^◌, ◌<◌};
 ghost use Rattle.std.specs.Int.{w32, cast_unsigned};
-ghost use Rattle.guest_isa.specs.GuestIsa.{register, advanced, with_register, extended, offset_by, low_bytes, port_of, passed, set_register, jumped, jumped_if, resumed, effect_of, IsValid, IsValidWish, IsSmall};
+ghost use Rattle.guest_isa.specs.GuestIsa.{register, advanced, with_register, extended, offset_by, low_bytes, port_of, set_register, jumped, jumped_if, resumed, effect_of, CanExit, IsValid, IsValidWish, IsSmall};
 
 use crate::instr::{Asked, Instr, Wish};
 use muen_num::AccessSize;
 use state_page::SubjectState;
+
+/// How many bytes an instruction has.
+const INSTRUCTION: u64 = 8;
 
 fn register(s: &SubjectState, r: u8) -> u64
     requires { r < 16 }
@@ -14,23 +17,19 @@ fn register(s: &SubjectState, r: u8) -> u64
     s.regs[r as usize]
 }
 
-// The state with `pc` at the next instruction.
-fn advanced(s: &SubjectState) -> SubjectState
-    ensures { result ≡ advanced s.now }
+/// `pc` goes to the next instruction.
+pub(crate) fn advance(s: &mut SubjectState)
+    ensures { s.new ≡ advanced s.old }
 {
-    let mut after = *s;
-    after.pc = s.pc.wrapping_add(8);
-    after
+    s.pc = s.pc.wrapping_add(INSTRUCTION);
 }
 
-/// The state with another value in a register.
-pub fn with_register(s: &SubjectState, reg: u8, value: u64) -> SubjectState
+/// A register has another value.
+pub fn write_register(s: &mut SubjectState, reg: u8, value: u64)
     requires { reg < 16 }
-    ensures { result ≡ with_register s.now reg value }
+    ensures { s.new ≡ with_register s.old reg value }
 {
-    let mut after = *s;
-    after.regs[reg as usize] = value;
-    after
+    s.regs[reg as usize] = value;
 }
 
 // An immediate, sign-extended.
@@ -85,76 +84,72 @@ fn port_of(n: u64, imm: i32) -> u16
     (offset_by(n, imm) % (1 << 16)) as u16
 }
 
-fn pass(s: &SubjectState, wish: Wish) -> Asked
-    ensures { result ≡ passed s.now wish }
+// On to the next instruction, and this is asked for.
+fn pass(wish: Wish, s: &mut SubjectState) -> Wish
+    ensures after { s.new ≡ advanced s.old }
+    ensures wish { result ≡ wish }
 {
-    Asked {
-        after: advanced(s),
-        wish,
-    }
+    advance(s);
+    wish
 }
 
-fn set(s: &SubjectState, reg: u8, value: u64) -> Asked
+fn set(reg: u8, value: u64, s: &mut SubjectState) -> Wish
     requires { reg < 16 }
-    ensures { result ≡ set_register s.now reg value }
+    ensures after { s.new ≡ (set_register s.old reg value).after }
+    ensures wish { result ≡ (set_register s.old reg value).wish }
 {
-    Asked {
-        after: advanced(&with_register(s, reg, value)),
-        wish: Wish::Set { reg, value },
-    }
+    write_register(s, reg, value);
+    advance(s);
+    Wish::Set { reg, value }
 }
 
 // A jump from the instruction's own address.
-fn jump(s: &SubjectState, imm: i32) -> Asked
-    ensures { result ≡ jumped s.now imm }
+fn jump(imm: i32, s: &mut SubjectState) -> Wish
+    ensures after { s.new ≡ (jumped s.old imm).after }
+    ensures wish { result ≡ Wish.Nothing }
 {
-    let mut after = *s;
-    after.pc = offset_by(s.pc, imm);
-    Asked {
-        after,
-        wish: Wish::Nothing,
-    }
+    s.pc = offset_by(s.pc, imm);
+    Wish::Nothing
 }
 
-fn jump_if(test: bool, s: &SubjectState, imm: i32) -> Asked
-    ensures { result ≡ jumped_if test s.now imm }
+fn jump_if(test: bool, imm: i32, s: &mut SubjectState) -> Wish
+    ensures after { s.new ≡ (jumped_if test s.old imm).after }
+    ensures wish { result ≡ (jumped_if test s.old imm).wish }
+    ensures nothing { result ≡ Wish.Nothing }
 {
     if test {
-        jump(s, imm)
+        jump(imm, s)
     } else {
-        pass(s, Wish::Nothing)
+        pass(Wish::Nothing, s)
     }
 }
 
-// The state in which events are let in or kept out.
-fn with_interrupts(s: &SubjectState, interrupts: bool) -> SubjectState
-    ensures { result ≡ record s.now { interrupts = interrupts } }
+// Events are let in or kept out.
+fn let_in(interrupts: bool, s: &mut SubjectState) -> Wish
+    ensures after { s.new ≡ advanced (record s.old { interrupts = interrupts }) }
+    ensures wish { result ≡ Wish.Nothing }
 {
-    let mut after = *s;
-    after.interrupts = interrupts;
-    after
+    s.interrupts = interrupts;
+    pass(Wish::Nothing, s)
 }
 
-// The state with other event handlers.
-fn with_handlers(s: &SubjectState, vbase: u64) -> SubjectState
-    ensures { result ≡ record s.now { vbase = vbase } }
+// The event handlers are elsewhere.
+fn set_handlers(vbase: u64, s: &mut SubjectState) -> Wish
+    ensures after { s.new ≡ advanced (record s.old { vbase = vbase }) }
+    ensures wish { result ≡ Wish.Nothing }
 {
-    let mut after = *s;
-    after.vbase = vbase;
-    after
+    s.vbase = vbase;
+    pass(Wish::Nothing, s)
 }
 
 // Back from an event handler.
-fn resume(s: &SubjectState) -> Asked
-    ensures { result ≡ resumed s.now }
+fn resume(s: &mut SubjectState) -> Wish
+    ensures after { s.new ≡ (resumed s.old).after }
+    ensures wish { result ≡ Wish.Nothing }
 {
-    let mut after = *s;
-    after.pc = s.epc;
-    after.interrupts = true;
-    Asked {
-        after,
-        wish: Wish::Nothing,
-    }
+    s.pc = s.epc;
+    s.interrupts = true;
+    Wish::Nothing
 }
 
 // The value with other bits 63:32.
@@ -164,85 +159,99 @@ fn with_high(value: u64, imm: i32) -> u64
     value % (1 << 32) + (u64::from(imm.cast_unsigned()) << 32)
 }
 
+/// An instruction is done in place, and what it asks for is returned. Where that can exit, the state
+/// is as it was but for `pc`, which is at the next instruction.
+pub fn carry_out(s: &mut SubjectState, i: Instr) -> Wish
+    requires { IsValid i }
+    ensures after { s.new ≡ (effect_of s.old i).after }
+    ensures wish { result ≡ (effect_of s.old i).wish }
+    ensures valid { IsValidWish result }
+    ensures passed { CanExit result → s.new ≡ advanced s.old }
+{
+    match i {
+        Instr::Nop => pass(Wish::Nothing, s),
+        Instr::Li { rd, imm } => set(rd, extended(imm), s),
+        Instr::Lih { rd, imm } => set(rd, with_high(register(s, rd), imm), s),
+        Instr::Mov { rd, rs } => set(rd, register(s, rs), s),
+        Instr::Add { rd, rs } => set(rd, register(s, rd).wrapping_add(register(s, rs)), s),
+        Instr::Sub { rd, rs } => set(rd, register(s, rd).wrapping_sub(register(s, rs)), s),
+        Instr::And { rd, rs } => set(rd, register(s, rd) & register(s, rs), s),
+        Instr::Or { rd, rs } => set(rd, register(s, rd) | register(s, rs), s),
+        Instr::Xor { rd, rs } => set(rd, register(s, rd) ^ register(s, rs), s),
+        Instr::Shl { rd, rs } => set(rd, register(s, rd) << (register(s, rs) % 64), s),
+        Instr::Shr { rd, rs } => set(rd, register(s, rd) >> (register(s, rs) % 64), s),
+        Instr::Load { rd, rs, size, imm } => pass(
+            Wish::Load {
+                reg: rd,
+                addr: offset_by(register(s, rs), imm),
+                size,
+            },
+            s,
+        ),
+        Instr::Store { rd, rs, size, imm } => pass(
+            Wish::Store {
+                addr: offset_by(register(s, rs), imm),
+                size,
+                value: low_bytes(size, register(s, rd)),
+            },
+            s,
+        ),
+        Instr::Jmp { imm } => jump(imm, s),
+        Instr::Jz { rd, imm } => jump_if(register(s, rd) == 0, imm, s),
+        Instr::Jnz { rd, imm } => jump_if(register(s, rd) != 0, imm, s),
+        Instr::Jb { rd, rs, imm } => jump_if(register(s, rd) < register(s, rs), imm, s),
+        Instr::In { rd, rs, size, imm } => pass(
+            Wish::PortIn {
+                reg: rd,
+                port: port_of(register(s, rs), imm),
+                size,
+            },
+            s,
+        ),
+        Instr::Out { rd, rs, size, imm } => pass(
+            Wish::PortOut {
+                port: port_of(register(s, rs), imm),
+                size,
+                value: few_low_bytes(size, register(s, rd)),
+            },
+            s,
+        ),
+        Instr::Rdmsr { rd, rs } => pass(
+            Wish::ReadMsr {
+                reg: rd,
+                index: low_half(register(s, rs)),
+            },
+            s,
+        ),
+        Instr::Wrmsr { rd, rs } => pass(
+            Wish::WriteMsr {
+                index: low_half(register(s, rs)),
+                value: register(s, rd),
+            },
+            s,
+        ),
+        Instr::Rdtsc { rd } => pass(Wish::Tick { reg: rd }, s),
+        Instr::Vmcall { rs } => pass(
+            Wish::Call {
+                number: register(s, rs),
+            },
+            s,
+        ),
+        Instr::Hlt => pass(Wish::Halt, s),
+        Instr::Sti => let_in(true, s),
+        Instr::Cli => let_in(false, s),
+        Instr::Setv { rs } => set_handlers(register(s, rs), s),
+        Instr::Reti => resume(s),
+    }
+}
+
 /// The effect of an instruction in a state.
 pub fn ask(s: &SubjectState, i: Instr) -> Asked
     requires { IsValid i }
     ensures effect { result ≡ effect_of s.now i }
     ensures valid { IsValidWish result.wish }
 {
-    match i {
-        Instr::Nop => pass(s, Wish::Nothing),
-        Instr::Li { rd, imm } => set(s, rd, extended(imm)),
-        Instr::Lih { rd, imm } => set(s, rd, with_high(register(s, rd), imm)),
-        Instr::Mov { rd, rs } => set(s, rd, register(s, rs)),
-        Instr::Add { rd, rs } => set(s, rd, register(s, rd).wrapping_add(register(s, rs))),
-        Instr::Sub { rd, rs } => set(s, rd, register(s, rd).wrapping_sub(register(s, rs))),
-        Instr::And { rd, rs } => set(s, rd, register(s, rd) & register(s, rs)),
-        Instr::Or { rd, rs } => set(s, rd, register(s, rd) | register(s, rs)),
-        Instr::Xor { rd, rs } => set(s, rd, register(s, rd) ^ register(s, rs)),
-        Instr::Shl { rd, rs } => set(s, rd, register(s, rd) << (register(s, rs) % 64)),
-        Instr::Shr { rd, rs } => set(s, rd, register(s, rd) >> (register(s, rs) % 64)),
-        Instr::Load { rd, rs, size, imm } => pass(
-            s,
-            Wish::Load {
-                reg: rd,
-                addr: offset_by(register(s, rs), imm),
-                size,
-            },
-        ),
-        Instr::Store { rd, rs, size, imm } => pass(
-            s,
-            Wish::Store {
-                addr: offset_by(register(s, rs), imm),
-                size,
-                value: low_bytes(size, register(s, rd)),
-            },
-        ),
-        Instr::Jmp { imm } => jump(s, imm),
-        Instr::Jz { rd, imm } => jump_if(register(s, rd) == 0, s, imm),
-        Instr::Jnz { rd, imm } => jump_if(register(s, rd) != 0, s, imm),
-        Instr::Jb { rd, rs, imm } => jump_if(register(s, rd) < register(s, rs), s, imm),
-        Instr::In { rd, rs, size, imm } => pass(
-            s,
-            Wish::PortIn {
-                reg: rd,
-                port: port_of(register(s, rs), imm),
-                size,
-            },
-        ),
-        Instr::Out { rd, rs, size, imm } => pass(
-            s,
-            Wish::PortOut {
-                port: port_of(register(s, rs), imm),
-                size,
-                value: few_low_bytes(size, register(s, rd)),
-            },
-        ),
-        Instr::Rdmsr { rd, rs } => pass(
-            s,
-            Wish::ReadMsr {
-                reg: rd,
-                index: low_half(register(s, rs)),
-            },
-        ),
-        Instr::Wrmsr { rd, rs } => pass(
-            s,
-            Wish::WriteMsr {
-                index: low_half(register(s, rs)),
-                value: register(s, rd),
-            },
-        ),
-        Instr::Rdtsc { rd } => pass(s, Wish::Tick { reg: rd }),
-        Instr::Vmcall { rs } => pass(
-            s,
-            Wish::Call {
-                number: register(s, rs),
-            },
-        ),
-        Instr::Hlt => pass(s, Wish::Halt),
-        Instr::Sti => pass(&with_interrupts(s, true), Wish::Nothing),
-        Instr::Cli => pass(&with_interrupts(s, false), Wish::Nothing),
-        Instr::Setv { rs } => pass(&with_handlers(s, register(s, rs)), Wish::Nothing),
-        Instr::Reti => resume(s),
-    }
+    let mut after = *s;
+    let wish = carry_out(&mut after, i);
+    Asked { after, wish }
 }

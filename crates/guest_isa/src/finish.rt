@@ -2,11 +2,9 @@
 ghost use Rattle.std.specs.Prelude.{◌≡◌};
 ghost use Rattle.guest_isa.specs.Finish.{injected, finished, finish_of};
 
+use crate::effect::advance;
 use muen_num::limits::{EXIT_HLT, EXIT_VMCALL};
 use state_page::SubjectState;
-
-/// How many bytes an instruction has.
-const INSTRUCTION: u64 = 8;
 
 /// How many bytes the handler of a vector has.
 const HANDLER: u64 = 8;
@@ -36,33 +34,29 @@ impl Finish {
         }
     }
 
-    /// The state with which the subject goes on.
-    pub fn of(self, s: &SubjectState) -> SubjectState
-        ensures { result ≡ finished self s.now }
+    /// The subject goes on.
+    pub fn apply(self, s: &mut SubjectState)
+        ensures { s.new ≡ finished self s.old }
     {
-        let mut after = *s;
         match self {
-            Finish::On => after.pc = s.pc.wrapping_add(INSTRUCTION),
+            Finish::On => advance(s),
             Finish::Halt => {
-                after.pc = s.pc.wrapping_add(INSTRUCTION);
-                after.halted = true;
+                advance(s);
+                s.halted = true;
             }
-            Finish::Stop => after.stopped = true,
+            Finish::Stop => s.stopped = true,
         }
-        after
     }
 }
 
-/// The state after an event of this vector is delivered: the subject is at its handler, lets no
-/// events in, and isn't halted.
-pub fn inject(s: &SubjectState, vector: u8) -> SubjectState
-    ensures { result ≡ injected vector s.now }
+/// An event of this vector is delivered: the subject is at its handler, lets no events in, and isn't
+/// halted.
+pub fn inject(s: &mut SubjectState, vector: u8)
+    ensures { s.new ≡ injected vector s.old }
 {
-    let mut after = *s;
-    after.pc = s.vbase.wrapping_add(HANDLER * u64::from(vector));
-    after.epc = s.pc;
-    after.interrupts = false;
-    after.halted = false;
-    after.exited = false;
-    after
+    s.epc = s.pc;
+    s.pc = s.vbase.wrapping_add(HANDLER * u64::from(vector));
+    s.interrupts = false;
+    s.halted = false;
+    s.exited = false;
 }

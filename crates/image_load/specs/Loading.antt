@@ -2,10 +2,9 @@
 use Rattle.std.specs.Prelude.{◌≡◌, ◌+◌, ◌*◌, ◌≤◌, List}
 use Rattle.std.specs.List.{All}
 use Rattle.muen_num.specs.declared.limits.TheConstants.{PAGE, PHYSICAL_END}
-use Rattle.phys_mem.specs.Found.{pages_kept}
 use Rattle.image_pack.specs.declared.parts.Image.{Image}
 use Rattle.image_pack.specs.declared.parts.SpanPart.{SpanPart}
-use Rattle.image_load.specs.Loaded.{memory_of, setup_of}
+use Rattle.image_load.specs.Loaded.{loaded_spans, setup_of}
 use Rattle.image_load.specs.declared.loading.Loaded.{Loaded}
 
 -- the span ends where physical addresses do, or before it
@@ -19,5 +18,5 @@ AreLow spans = All IsLow spans
 pub record IsLoaded (i : Image) (l : Loaded) : Type 0 where
   pub cpus : l.cpus ≡ i.header.cpus
   pub setup : l.setup ≡ setup_of i
-  pub memory : pages_kept l.memory ≡ memory_of i
+  pub memory : l.memory.items ≡ loaded_spans i.spans i.contents
   pub spans : l.spans ≡ i.spans

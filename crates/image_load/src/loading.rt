@@ -2,13 +2,14 @@
 ghost use Rattle.std.specs.Prelude.{IfOk};
 ghost use Rattle.image_load.specs.Loading.{IsLoaded};
 ghost use Rattle.image_pack.specs.Parts.{IsParts};
+ghost use Rattle.phys_mem.specs.Spans.{AreSpans};
 
-use crate::memory::start_memory;
+use crate::memory::load_spans;
 use crate::setup::setup_of;
 use image_pack::{Image, Parts, SpanPart};
 use kernel_core::Setup;
 use muen_num::{NoMemory, Seq};
-use phys_mem::RegionMem;
+use phys_mem::MemorySpan;
 use std::alloc::Global;
 
 /// What an image gives a machine.
@@ -18,8 +19,9 @@ pub struct Loaded {
     pub cpus: u8,
     /// What the kernel is told.
     pub setup: Setup,
-    /// The memory at the start.
-    pub memory: RegionMem,
+    /// What memory is made of: its spans, each with what it has at the start. A memory can be started
+    /// from them.
+    pub memory: Vec<MemorySpan>,
     /// The spans of memory, by their addresses.
     pub spans: Seq<SpanPart>,
 }
@@ -31,6 +33,8 @@ pub struct Loaded {
 /// Memory is refused.
 pub fn load(alloc: Global, parts: Parts) -> Result<Loaded, NoMemory>
     ensures loaded { IfOk result (IsLoaded parts) }
+    // A memory can be started from its spans.
+    ensures apart { IfOk result (λ l. AreSpans l.memory.items) }
     // The parts keep the conditions of an image.
     ensures parts { IsParts parts }
 {
@@ -44,7 +48,7 @@ pub fn load(alloc: Global, parts: Parts) -> Result<Loaded, NoMemory>
         contents,
     } = image;
     let setup = setup_of(alloc, header.tau0, spans.items(), subjects, plan)?;
-    let memory = start_memory(alloc, spans.items(), contents)?;
+    let memory = load_spans(alloc, spans.items(), contents)?;
     Ok(Loaded {
         cpus: header.cpus,
         setup,

@@ -1,13 +1,11 @@
 //! The memory of an image at the start.
 ghost use Rattle.std.specs.Prelude.{◌≡◌, IfOk};
-ghost use Rattle.phys_mem.specs.Found.{pages_kept};
-ghost use Rattle.phys_mem.specs.Spans.{AreSpans, pages_of_spans};
 ghost use Rattle.image_load.specs.Loaded.{loaded_span, loaded_spans, zero_bytes};
 
 use image_pack::SpanPart;
 use muen_num::limits::PAGE;
 use muen_num::{NoMemory, Seq};
-use phys_mem::{MemorySpan, RegionMem};
+use phys_mem::MemorySpan;
 use std::alloc::Global;
 
 // So many zeros.
@@ -36,8 +34,11 @@ fn load_span(alloc: Global, span: &SpanPart, bytes: Seq<u8>) -> Result<MemorySpa
     })
 }
 
-// The spans, each with what it has at the start.
-fn load_spans(
+/// The spans, each with what it has at the start: its bytes, and a device's memory zeros.
+///
+/// # Errors
+/// Memory is refused.
+pub(crate) fn load_spans(
     alloc: Global,
     spans: &[SpanPart],
     contents: Seq<Seq<u8>>,
@@ -49,20 +50,4 @@ fn load_spans(
         loaded.push(load_span(alloc, span, bytes)?)?;
     }
     Ok(loaded)
-}
-
-/// The memory of these spans: each has its bytes, and a device's memory zeros.
-///
-/// # Errors
-/// Memory is refused.
-pub(crate) fn start_memory(
-    alloc: Global,
-    spans: &[SpanPart],
-    contents: Seq<Seq<u8>>,
-) -> Result<RegionMem, NoMemory>
-    requires { AreSpans (loaded_spans spans.now contents) }
-    ensures { IfOk result (λ m. pages_kept m ≡ pages_of_spans (loaded_spans spans.now contents)) }
-{
-    let loaded = load_spans(alloc, spans, contents)?;
-    RegionMem::start(alloc, loaded)
 }

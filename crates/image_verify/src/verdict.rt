@@ -26,6 +26,7 @@ use image_checks::{
 use image_load::load;
 use image_pack::{Image, Parts};
 use muen_num::{Name, NoMemory, Seq};
+use phys_mem::FrameMem;
 use policy_lawful::Resolved;
 use std::alloc::Global;
 
@@ -137,7 +138,8 @@ fn tables_fault(alloc: Global, expanded: &Expanded, image: Parts) -> Result<Opti
     let pages = table_pages(alloc, &image)?;
     let tables = subject_tables(alloc, expanded, &image)?;
     let loaded = load(alloc, image)?;
-    let mut entries = MemoryEntries::of(&loaded.memory);
+    let memory = FrameMem::start(alloc, loaded.memory)?;
+    let mut entries = MemoryEntries::of(&memory);
     let found = check(alloc, &mut entries, &pages, &tables)?;
     match found {
         None => Ok(None),

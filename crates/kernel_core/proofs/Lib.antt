@@ -1,1 +1,2 @@
+mod KeptSlots
 mod Orders

@@ -23,6 +23,7 @@ use Rattle.view_text.specs.declared.TurnAction.TheVariants.{Ran, Inject, Exit}
 use Rattle.vmx_machine.specs.Machine.{MachineState, Stepped, state_on, entered, left, vector_injected, exit_finished, machine_step}
 use Rattle.vmx_machine.specs.declared.control.Control.{Control}
 use Rattle.kernel_core.specs.declared.setup.Setup.{Setup}
+use Rattle.kernel_core.specs.declared.turn.Standing.{Standing}
 use Rattle.kernel_core.specs.declared.turn.Turn.{Turn}
 
 -- what changes in a run
@@ -104,6 +105,11 @@ injects t s vector k = told t (Inject vector) (record k {
   machine = vector_injected t.cpu vector k.machine;
   router = taken s (Some vector) k.router;
 })
+
+-- what a turn goes by, of a state
+abbrev pub standing_of : SubjectState → Standing
+standing_of st =
+    record { pc = st.pc; interrupts = st.interrupts; halted = st.halted; stopped = st.stopped; exited = st.exited }
 
 -- nothing is delivered
 abbrev pub goes_further : Turn → SubjectPart → SubjectState → Live → Turned Live TurnLine

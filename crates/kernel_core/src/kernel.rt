@@ -1,22 +1,24 @@
 //! The kernel and its turns.
 ghost use Rattle.std.specs.Prelude.{◌≡◌, ◌<◌, length, slice_get, option_map, None, Some, IfOk};
+ghost use Rattle.guest_isa.specs.state.SubjectState.{SubjectState};
 ghost use Rattle.image_pack.specs.declared.parts.SubjectPart.{SubjectPart};
 ghost use Rattle.muen_num.specs.ListChange.{change_at};
 ghost use Rattle.event_router.specs.Router.{deliverable, taken};
 ghost use Rattle.vmx_machine.specs.Machine.{entered, left, state_on};
-ghost use Rattle.kernel_core.specs.Kernel.{acts, event_of, exit_handled, raised_by, switched, turn_of, vector_for};
+ghost use Rattle.kernel_core.specs.Kernel.{acts, event_of, exit_handled, raised_by, standing_of, switched, turn_of, vector_for};
 ghost use Rattle.device_bench.specs.Devices.{CanRun};
 ghost use Rattle.kernel_core.specs.Ticks.{kernel_started, with_live};
 
 use crate::exit::{event_of, exit_end_of};
 use crate::on_cpus::{nobody, on_cpu, put_on};
 use crate::setup::Setup;
-use crate::turn::Turn;
+use crate::slots::{KeptSlot, no_slots, slot_at};
+use crate::turn::{Standing, Turn};
 use device_bench::{Bench, Effect, Record};
 use ept_walk::{PhysMem, Translate};
 use event_router::Router;
-use frame_clock::{FrameAt, slot};
-use guest_isa::{Finish, StepEnd, SubjectState};
+use frame_clock::FrameAt;
+use guest_isa::{Finish, StepEnd};
 use image_pack::{EventPart, SubjectPart};
 use muen_num::NoMemory;
 use std::alloc::Global;
@@ -35,11 +37,13 @@ pub struct Kernel<M: PhysMem, T: Translate> {
     pub(crate) bench: Bench,
     pub(crate) frame: FrameAt,
     pub(crate) tick: u32,
+    pub(crate) slots: Vec<Option<KeptSlot>>,
 }
 
 impl<M: PhysMem, T: Translate> Model for Kernel<M, T> {
     ghost use Rattle.std.specs.Prelude.{◌≡◌, length};
     ghost use Rattle.device_bench.specs.Devices.{CanRun};
+    ghost use Rattle.kernel_core.specs.Slots.{AreSlotsKept};
     ghost use Rattle.kernel_core.specs.Ticks.{KernelState};
 
     ghost Value = { KernelState };
@@ -52,7 +56,7 @@ impl<M: PhysMem, T: Translate> Model for Kernel<M, T> {
       tick = k.tick;
     } };
 
-    ghost invariant = { λ k. (length k.on.items ≡ k.cpus) × (length k.machine.cpus ≡ k.cpus) × CanRun k.bench.run };
+    ghost invariant = { λ k. (length k.on.items ≡ k.cpus) × (length k.machine.cpus ≡ k.cpus) × CanRun k.bench.run × AreSlotsKept k.setup.plan k.slots.items };
 }
 
 impl<M: PhysMem, T: Translate> Kernel<M, T> {
@@ -77,6 +81,7 @@ impl<M: PhysMem, T: Translate> Kernel<M, T> {
         let router = Router::start(alloc, setup.subjects.items(), setup.plan.groups.items())?;
         let on = nobody(alloc, cpus)?;
         let bench = Bench::start(alloc, input)?;
+        let slots = no_slots(alloc, cpus)?;
         Ok(Kernel {
             setup,
             cpus,
@@ -86,6 +91,7 @@ impl<M: PhysMem, T: Translate> Kernel<M, T> {
             bench,
             frame: FrameAt::first(),
             tick: 0,
+            slots,
         })
     }
 
@@ -103,6 +109,11 @@ impl<M: PhysMem, T: Translate> Kernel<M, T> {
         self.machine.mem()
     }
 
+    /// What translates guest addresses.
+    pub fn walker(&self) -> &T {
+        self.machine.walker()
+    }
+
     /// The turn of a CPU in the tick, and its line, if it has one: that of the active member of the
     /// group that has the CPU. A CPU that isn't there takes no turn.
     pub fn turn(&mut self, cpu: u8) -> Option<TurnLine>
@@ -110,19 +121,25 @@ impl<M: PhysMem, T: Translate> Kernel<M, T> {
         ensures line { result ≡ (turn_of self.old.setup cpu self.old.tick self.old.live).line }
     {
         let on = on_cpu(&self.on, cpu as usize)?;
-        let slot = slot(&self.setup.plan, self.frame, cpu, self.tick)?;
+        let slot = slot_at(
+            &mut self.slots,
+            &self.setup.plan,
+            self.frame,
+            cpu,
+            self.tick,
+        )?;
         let subject = self.router.active(slot.group)?;
         let name = part_at(self.setup.subjects.items(), subject as usize)?.name;
         let control = control_at(self.setup.controls.items(), subject as usize)?;
         self.switch_to(cpu, subject, control, on);
-        let state = self.machine.state(cpu as usize)?;
+        let standing = Standing::of(self.machine.state(cpu as usize)?);
         let turn = Turn {
             tick: self.tick,
             cpu,
             subject: name,
-            pc: state.pc,
+            pc: standing.pc,
         };
-        self.deliver_or_step(turn, subject, slot.first, &state)
+        self.deliver_or_step(&turn, subject, slot.first, standing)
     }
 
     // A subject goes onto a CPU where it isn't there already, and who was there leaves it before.
@@ -142,23 +159,23 @@ impl<M: PhysMem, T: Translate> Kernel<M, T> {
     // event is delivered; it is halted; it takes a step.
     fn deliver_or_step(
         &mut self,
-        turn: Turn,
+        turn: &Turn,
         subject: u8,
         first: bool,
-        state: &SubjectState,
+        standing: Standing,
     ) -> Option<TurnLine>
-        requires { turn.cpu < length self.old.live.machine.cpus }
-        ensures state { (part : SubjectPart) → slice_get self.old.setup.subjects subject ≡ Some part → self.new ≡ with_live self.old (acts turn subject part first state.now self.old.live).state }
-        ensures line { (part : SubjectPart) → slice_get self.old.setup.subjects subject ≡ Some part → result ≡ (acts turn subject part first state.now self.old.live).line }
+        requires { turn.now.cpu < length self.old.live.machine.cpus }
+        ensures state { (part : SubjectPart) (st : SubjectState) → slice_get self.old.setup.subjects subject ≡ Some part → standing ≡ standing_of st → self.new ≡ with_live self.old (acts turn.now subject part first st self.old.live).state }
+        ensures line { (part : SubjectPart) (st : SubjectState) → slice_get self.old.setup.subjects subject ≡ Some part → standing ≡ standing_of st → result ≡ (acts turn.now subject part first st self.old.live).line }
     {
-        if state.stopped {
+        if standing.stopped {
             return None;
         }
-        if let Some(vector) = self.take_vector(subject, first, state) {
+        if let Some(vector) = self.take_vector(subject, first, standing) {
             self.machine.inject(turn.cpu as usize, vector);
             return Some(turn.line(TurnAction::Inject { vector }));
         }
-        if state.halted {
+        if standing.halted {
             return None;
         }
         match self.machine.step(turn.cpu as usize, turn.tick, &self.bench) {
@@ -176,13 +193,13 @@ impl<M: PhysMem, T: Translate> Kernel<M, T> {
     }
 
     // The vector that is delivered, if one is. It isn't pending any more.
-    fn take_vector(&mut self, subject: u8, first: bool, state: &SubjectState) -> Option<u8>
-        ensures vector { result ≡ vector_for subject first state.now self.old.live.router }
+    fn take_vector(&mut self, subject: u8, first: bool, standing: Standing) -> Option<u8>
+        ensures vector { (st : SubjectState) → standing ≡ standing_of st → result ≡ vector_for subject first st self.old.live.router }
         ensures state { self.new ≡ with_live self.old (record self.old.live { router = taken subject result self.old.live.router }) }
         ensures none { result ≡ None → self.new ≡ self.old }
     {
-        if state.interrupts {
-            self.router.deliver(subject, first || state.exited)
+        if standing.interrupts {
+            self.router.deliver(subject, first || standing.exited)
         } else {
             None
         }
@@ -199,15 +216,15 @@ impl<M: PhysMem, T: Translate> Kernel<M, T> {
     // The kernel acts on an exit, which raises this event, if one.
     fn finish_exit(
         &mut self,
-        turn: Turn,
+        turn: &Turn,
         reason: u8,
         qualification: u64,
         addr: u64,
         event: Option<EventPart>,
     ) -> TurnLine
-        requires { turn.cpu < length self.old.live.machine.cpus }
-        ensures state { self.new ≡ with_live self.old (exit_handled turn reason qualification addr event self.old.live).state }
-        ensures line { Some result ≡ (exit_handled turn reason qualification addr event self.old.live).line }
+        requires { turn.now.cpu < length self.old.live.machine.cpus }
+        ensures state { self.new ≡ with_live self.old (exit_handled turn.now reason qualification addr event self.old.live).state }
+        ensures line { Some result ≡ (exit_handled turn.now reason qualification addr event self.old.live).line }
     {
         let raises = event.is_some();
         self.machine

@@ -8,6 +8,7 @@ mod exit;
 mod kernel;
 mod on_cpus;
 mod setup;
+mod slots;
 mod tick;
 mod turn;
 

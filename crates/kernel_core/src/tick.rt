@@ -85,8 +85,16 @@ impl<M: PhysMem, T: Translate> Kernel<M, T> {
     pub fn begin_tick(&mut self)
         ensures { self.new ≡ record self.old { live = begun (kernel self.old.setup) self.old.tick (tick_inputs self.old.run self.old.tick) self.old.live } }
     {
+        self.bench.begin(self.tick);
         self.begin_frame();
         self.take_inputs();
+    }
+
+    /// How many ticks the run has.
+    pub fn end(&self) -> u32
+        ensures { result ≡ self.now.run.end }
+    {
+        self.bench.end()
     }
 
     /// How many turns the tick has.

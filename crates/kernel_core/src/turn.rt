@@ -1,7 +1,8 @@
 //! Turns.
 ghost use Rattle.std.specs.Prelude.{◌≡◌};
-ghost use Rattle.kernel_core.specs.Kernel.{line_of};
+ghost use Rattle.kernel_core.specs.Kernel.{line_of, standing_of};
 
+use guest_isa::SubjectState;
 use muen_num::Name;
 use view_text::{TurnAction, TurnLine};
 
@@ -15,10 +16,35 @@ pub(crate) struct Turn {
     pub pc: u64,
 }
 
+/// What a turn goes by, of the state of who is on the CPU.
+#[derive(Clone, Copy, Debug, PartialEq, Eq)]
+pub(crate) struct Standing {
+    pub pc: u64,
+    pub interrupts: bool,
+    pub halted: bool,
+    pub stopped: bool,
+    pub exited: bool,
+}
+
+impl Standing {
+    /// That of a state.
+    pub(crate) fn of(s: &SubjectState) -> Standing
+        ensures { result ≡ standing_of s.now }
+    {
+        Standing {
+            pc: s.pc,
+            interrupts: s.interrupts,
+            halted: s.halted,
+            stopped: s.stopped,
+            exited: s.exited,
+        }
+    }
+}
+
 impl Turn {
     /// Its line, where this happened.
-    pub(crate) fn line(self, what: TurnAction) -> TurnLine
-        ensures { result ≡ line_of self what }
+    pub(crate) fn line(&self, what: TurnAction) -> TurnLine
+        ensures { result ≡ line_of self.now what }
     {
         TurnLine {
             tick: self.tick,

@@ -22,13 +22,12 @@ impl<S: Sink> BufferedSink<'_, S> {
         self.buffer.put(bytes, self.sink)
     }
 
-    /// Puts a line.
+    /// Puts the line behind the bytes that wait. Where the sink fails it has taken a front of what
+    /// waited, and that is given up.
     pub fn put_line<L: PrintedLine>(&mut self, line: &L) -> Result<(), SinkFault>
         ensures { Prints S.state (L.text line.now) self.old self.new result }
     {
-        let mut space = [0u8; 256];
-        let n = line.write(&mut space);
-        self.put(&space[..n])
+        self.buffer.put_line(line, self.sink)
     }
 
     /// Puts the lines, one after another, up to the first fault.

@@ -1,3 +1,4 @@
 pub mod RunText
 pub mod Turns
 pub mod Ends
+pub mod Ready

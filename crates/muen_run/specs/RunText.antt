@@ -15,8 +15,8 @@ use Rattle.image_pack.specs.declared.parts.SubjectPart.{SubjectPart}
 use Rattle.device_bench.specs.declared.effect.Effect.{Effect}
 use Rattle.dma_tables.specs.Lowered.{lowered}
 use Rattle.dma_tables.specs.declared.file.DmaFile.{DmaFile}
-use Rattle.record_text.specs.declared.record.Input.{Input}
-use Rattle.record_text.specs.declared.record.Record.{Record}
+use Rattle.device_bench.specs.record.Input.{Input}
+use Rattle.device_bench.specs.record.Record.{Record}
 use Rattle.view_text.specs.ViewText.{rows_text, turn_text, region_text}
 use Rattle.view_text.specs.declared.TurnLine.{TurnLine}
 use Rattle.kernel_core.specs.Machine.{page_at}

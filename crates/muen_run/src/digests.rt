@@ -10,10 +10,29 @@ ghost use Rattle.muen_run.specs.RunText.{bytes_from, digest_in, numbered_span_te
 
 use ept_walk::PhysMem;
 use image_pack::{SpanKind, SpanPart};
+use muen_num::Tag;
 use muen_num::limits::PAGE;
-use muen_outside::{BufferedSink, Sink, SinkFault};
+use muen_outside::{BufferedSink, PrintedLine, Sink, SinkFault};
 use sha2::{Digest, Sha256};
 use view_text::region_line;
+
+// The final line of a region of memory, or of a device's window.
+#[derive(Drop)]
+struct RegionLine<'a> {
+    tag: &'a Tag,
+    device: bool,
+    digest: [u8; 32],
+}
+
+impl PrintedLine for RegionLine<'_> {
+    ghost use Rattle.view_text.specs.ViewText.{region_text};
+
+    ghost text = { λ r. region_text r.tag.now r.device r.digest };
+
+    fn write(&self, space: &mut [u8; 256]) -> usize {
+        region_line(self.tag, self.device, &self.digest, space)
+    }
+}
 
 // The bytes of a page. None where it isn't there.
 fn bytes_of_page<M: PhysMem>(mem: &M, page: u64) -> &[u8]
@@ -48,10 +67,11 @@ fn put_span<S: Sink, M: PhysMem>(
     requires { IsLow span.now }
     ensures { Prints S.state (region_text span.now.tag device (digest_in (M.pages mem.now) span.now)) out.old out.new result }
 {
-    let mut space = [0u8; 256];
-    let digest = digest_of(mem, span.address / PAGE, span.pages);
-    let n = region_line(&span.tag, device, &digest, &mut space);
-    out.put(&space[..n])
+    out.put_line(&RegionLine {
+        tag: &span.tag,
+        device,
+        digest: digest_of(mem, span.address / PAGE, span.pages),
+    })
 }
 
 // Whether a span of this kind is printed, as a device's memory or as a region.

@@ -5,24 +5,24 @@ ghost use Rattle.std.specs.Prelude.{option_map};
 ghost use Rattle.device_bench.specs.Devices.{CanRun};
 ghost use Rattle.muen_run.specs.Ends.{Runs};
 ghost use Rattle.muen_run.specs.RunText.{image_text, run_text};
-ghost use Rattle.record_text.specs.Law.{IsOrderly};
+ghost use Rattle.dma_tables.specs.Law.{IsOrderly};
 
 mod digests;
+mod running;
 mod states;
+mod system;
 mod turns;
 mod whole;
 
-use device_bench::Effect;
-use dma_tables::{DmaTables, lower};
-use ept_walk::PlainWalk;
-use image_load::{Loaded, load};
-use image_pack::Parts;
-use kernel_core::Kernel;
+pub use device_bench::{Effect, Record};
+use dma_tables::{DmaTables, Input, lower};
+pub use image_pack::{Parts, unpack};
 use muen_num::NoMemory;
-use muen_outside::{Buffer, Sink, SinkFault};
-use record_text::{Input, Record};
+pub use muen_num::Seq;
+use muen_outside::{Sink, SinkFault};
+pub use running::{drive, ready};
 use std::alloc::Global;
-use whole::put_run;
+pub use system::{Ready, Running};
 
 /// Why a run was not printed whole.
 #[derive(Clone, Copy, Debug, PartialEq, Eq)]
@@ -46,7 +46,7 @@ impl From<NoMemory> for RunError {
 }
 
 // Runs an image on what reaches its machine.
-#[tactic(auto, using(crate::proofs::LowSpans::loaded_low), unfolding(crate::specs::RunText::image_text))]
+#[tactic(auto, unfolding(crate::specs::RunText::image_text))]
 fn run_effects<S: Sink>(
     alloc: Global,
     parts: Parts,
@@ -56,17 +56,8 @@ fn run_effects<S: Sink>(
     requires { CanRun effects }
     ensures { Runs (image_text parts effects) (S.state out.old) (S.state out.new) result }
 {
-    let end = effects.end;
-    let loaded = load(alloc, parts)?;
-    let Loaded {
-        cpus,
-        setup,
-        memory,
-        spans,
-    } = loaded;
-    let mut kernel = Kernel::start(alloc, setup, cpus, effects, memory, PlainWalk::new())?;
-    let mut buffer = Buffer::make(alloc)?;
-    match put_run(&mut kernel, spans.items(), end, &mut buffer, out) {
+    let system = ready(alloc, parts, effects)?;
+    match drive(system, out) {
         Ok(()) => Ok(()),
         Err(SinkFault) => Err(RunError::OutFault),
     }

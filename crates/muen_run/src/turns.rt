@@ -8,8 +8,24 @@ ghost use Rattle.muen_run.specs.Turns.{at_tick, order_of, tick_in, ticks_in, tur
 
 use ept_walk::{PhysMem, Translate};
 use kernel_core::Kernel;
-use muen_outside::{BufferedSink, Sink, SinkFault};
+use muen_outside::{BufferedSink, PrintedLine, Sink, SinkFault};
 use view_text::{TurnLine, turn_line};
+
+// A turn's line, lent to be printed.
+#[derive(Drop)]
+struct PrintedTurn<'a> {
+    line: &'a TurnLine,
+}
+
+impl PrintedLine for PrintedTurn<'_> {
+    ghost use Rattle.view_text.specs.ViewText.{turn_text};
+
+    ghost text = { λ p. turn_text p.line.now };
+
+    fn write(&self, space: &mut [u8; 256]) -> usize {
+        turn_line(self.line, space)
+    }
+}
 
 // The line of a turn, if it has one.
 #[tactic(auto, using(muen_outside::proofs::Buffered::gives))]
@@ -18,11 +34,7 @@ fn put_line<S: Sink>(line: Option<TurnLine>, out: &mut BufferedSink<'_, S>) -> R
 {
     match line {
         None => Ok(()),
-        Some(line) => {
-            let mut space = [0u8; 256];
-            let n = turn_line(&line, &mut space);
-            out.put(&space[..n])
-        }
+        Some(line) => out.put_line(&PrintedTurn { line: &line }),
     }
 }
 

@@ -1,3 +1,5 @@
 pub mod Spelling
 pub mod FrameLaws
 pub mod Rising
+pub mod Fresh
+pub mod TableLaws

@@ -1,5 +1,6 @@
--- Numbers that rise: how a search finds its first index, and why the pages of spans rise.
-use Rattle.std.proofs.Common.{◌≡◌, inl, inr, ℕ, zero, suc, ◌+◌, ◌*◌, ◌/◌, ◌%◌, ◌^◌, ◌<◌, ◌≤◌, List, [], ◌∷◌, ◌++◌, length, get_or, map, refl, sym, ap, subst, ◌∙◌, append_assoc, arith}
+-- Numbers that rise: how a search finds its first index, and why the pages of spans rise and are below 2 ^ 28.
+use Rattle.std.proofs.Common.{◌≡◌, inl, inr, ℕ, zero, suc, ◌+◌, ◌*◌, ◌/◌, ◌%◌, ◌^◌, ◌<◌, ◌≤◌, List, [], ◌∷◌, ◌++◌, length, drop, get_or, map, refl, sym, ap, subst, ◌∙◌, append_assoc, arith}
+use Rattle.std.specs.List.{All}
 use Rattle.std.proofs.lemmas.List.{append-nil}
 use Rattle.std.proofs.lemmas.Bool.{cases_lt}
 use Rattle.std.proofs.lemmas.List.Elements.{All-cons, All-nil}
@@ -94,6 +95,31 @@ pub numbers_rise : (ns : List ℕ) (fs : List (List ℕ)) (ss : List MemorySpan)
 numbers_rise ns fs ss h same e =
     let is : numbers_of (pages_of_spans ss) ≡ ns = ap numbers_of (sym e) ∙ numbers_by ns fs same in
     subst (λ ks. IsRising ks) is (rising_from 0 (numbers_of (pages_of_spans ss)) (spans_rising ss 0 h (λ i d l. omega arith)))
+
+-- ---- the numbers of these pages are small
+
+abbrev AreLow : List ℕ → Type 0
+AreLow ns = All (λ n. n < 2 ^ 28) ns
+
+pages_low : (n k : ℕ) (bytes : List ℕ) (rest : List Page) → k + n ≤ 2 ^ 28 → AreLow (numbers_of rest) → AreLow (numbers_of (pages_in n k bytes ++ rest))
+pages_low zero k bytes rest l h = h
+pages_low (suc n) k bytes rest l h =
+    All-cons (λ n. n < 2 ^ 28) k _ (omega arith) (pages_low n (k + 1) (drop 4096 bytes) rest (omega arith) h)
+
+low_end : (address n : ℕ) → address % 4096 ≡ 0 → n % 4096 ≡ 0 → address + n ≤ 2 ^ 40 → address / 4096 + n / 4096 ≤ 2 ^ 28
+low_end address n a b l = omega arith
+
+spans_low : (ss : List MemorySpan) → AreSpans ss → AreLow (numbers_of (pages_of_spans ss))
+spans_low [] h = All-nil (λ n. n < 2 ^ 28)
+spans_low (s ∷ ss) h =
+    let here : IsSpan s = h.each 0 s (omega arith) in
+    pages_low (length s.bytes / 4096) (s.address / 4096) s.bytes (pages_of_spans ss) (low_end s.address (length s.bytes) here.aligned here.whole here.low) (spans_low ss (later_spans s ss h))
+
+-- the numbers of memory that is made of spans are below 2 ^ 28
+pub numbers_low : (ns : List ℕ) (fs : List (List ℕ)) (ss : List MemorySpan) → AreSpans ss → length ns ≡ length fs → pages_by ns fs ≡ pages_of_spans ss → AreLow ns
+numbers_low ns fs ss h same e =
+    let is : numbers_of (pages_of_spans ss) ≡ ns = ap numbers_of (sym e) ∙ numbers_by ns fs same in
+    subst AreLow is (spans_low ss h)
 
 -- ---- a loop that takes spans from the front
 

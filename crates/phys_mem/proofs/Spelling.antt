@@ -1,38 +1,39 @@
-use Rattle.std.proofs.Common.{◌≡◌, ℕ, zero, suc, ◌+◌, ◌-◌, ◌*◌, ◌/◌, ◌%◌, ◌^◌, ◌<◌, ◌≤◌, List, [], ◌∷◌, ◌++◌, length, get_or, take, drop, set, Fits, w8, arith}
-use Rattle.std.proofs.lemmas.Grind.{common_steps}
-use Rattle.machine_layout.specs.Memory.{le_number, le_bytes}
+-- Numbers as std reads them by their width.
+use Rattle.std.proofs.Common.{◌≡◌, ◌∙◌, ap, ℕ, ◌+◌, ◌-◌, ◌<◌, ◌≤◌, List, [], ◌∷◌, length, get_or, take, drop, drop-cons, take_all, length-drop, length-take-le, arith}
+use Rattle.std.specs.Int.{from_le_bytes, w16, w32}
+use Rattle.machine_layout.specs.Memory.{le_number}
 
--- how many numbers n bytes spell
-abbrev worth : ℕ → ℕ
-worth zero = 1
-worth (suc n) = 256 * worth n
+two_bytes : (bs : List ℕ) → length bs ≡ 2 → from_le_bytes w16 bs ≡ le_number bs
+two_bytes [] h = absurd (omega arith)
+two_bytes (a ∷ []) h = absurd (omega arith)
+two_bytes (a ∷ b ∷ []) h = omega arith
+two_bytes (a ∷ b ∷ c ∷ bs) h = absurd (omega arith)
 
-worth_rises : (n m : ℕ) → n ≤ m → worth n ≤ worth m
-worth_rises zero zero h = omega arith
-worth_rises zero (suc m) h = let k = worth_rises zero m (omega arith) in omega (arith, k)
-worth_rises (suc n) zero h = absurd (omega arith)
-worth_rises (suc n) (suc m) h = let k = worth_rises n m (omega arith) in omega (arith, k)
+four_bytes : (bs : List ℕ) → length bs ≡ 4 → from_le_bytes w32 bs ≡ le_number bs
+four_bytes [] h = absurd (omega arith)
+four_bytes (a ∷ []) h = absurd (omega arith)
+four_bytes (a ∷ b ∷ []) h = absurd (omega arith)
+four_bytes (a ∷ b ∷ c ∷ []) h = absurd (omega arith)
+four_bytes (a ∷ b ∷ c ∷ d ∷ []) h = omega arith
+four_bytes (a ∷ b ∷ c ∷ d ∷ e ∷ bs) h = absurd (omega arith)
 
--- a number of n bytes is below that
-le_number_below : (bs : List ℕ) → ((k : ℕ) → Fits w8 (get_or bs k 0)) → le_number bs < worth (length bs)
-le_number_below [] h = omega arith
-le_number_below (b ∷ bs) h =
-    let rest = le_number_below bs (λ k. h (suc k)) in
-    let head : Fits w8 b = h 0 in
-    omega (arith, rest, head)
+-- n bytes cut out of a page
+part_is : (page bs : List ℕ) (at n : ℕ) → at + n ≤ length page → bs ≡ take n (take (at + n - at) (drop at page)) → (bs ≡ take n (drop at page)) × (length bs ≡ n)
+part_is page bs at n room cut =
+    let same : at + n - at ≡ n = omega arith in
+    let left : n ≤ length (drop at page) = omega (arith, length-drop at page) in
+    let part : bs ≡ take n (drop at page) = cut ∙ (ap (λ k. take n (take k (drop at page))) same ∙ take_all n (take n (drop at page)) (omega (arith, length-take-le n (drop at page) left))) in
+    (part, ap length part ∙ length-take-le n (drop at page) left)
 
--- at most eight bytes spell a word
-pub le_number_fits : (bs : List ℕ) → length bs ≤ 8 → ((k : ℕ) → Fits w8 (get_or bs k 0)) → le_number bs < 2 ^ 64
-le_number_fits bs n h = omega (arith, le_number_below bs h, worth_rises (length bs) 8 n)
+pub one_byte_at : (page : List ℕ) (at : ℕ) → at < length page → get_or page at 0 ≡ le_number (take 1 (drop at page))
+one_byte_at page at room = let e = drop-cons page at 0 room in rw e (omega arith)
 
--- the first byte and the number of the others
-pub le_number_first : (bs : List ℕ) → 1 ≤ length bs → le_number bs ≡ get_or bs 0 0 + 256 * le_number (take (length bs - 1) (drop 1 bs))
-le_number_first [] h = absurd (omega arith)
-le_number_first (b ∷ bs) h = grind (arith, common_steps)
+pub two_bytes_at : (page bs : List ℕ) (at : ℕ) → at + 2 ≤ length page → bs ≡ take 2 (take (at + 2 - at) (drop at page)) → from_le_bytes w16 bs ≡ le_number (take 2 (drop at page))
+two_bytes_at page bs at room cut =
+    let part = part_is page bs at 2 room cut in
+    two_bytes bs part.1 ∙ ap le_number part.0
 
-le_bytes_next : (n m r : ℕ) → n ≡ suc m → le_bytes n r ≡ (r % 256) ∷ le_bytes m (r / 256)
-le_bytes_next n m r e = rw e
-
--- one more byte is written
-pub le_bytes_more : (xs : List ℕ) (n i r : ℕ) → i < n → n ≡ length xs → take (i + 1) (set xs i (r % 256)) ++ le_bytes (n - (i + 1)) (r / 256) ≡ take i xs ++ le_bytes (n - i) r
-le_bytes_more xs n i r h e = rw (le_bytes_next (n - i) (n - (i + 1)) r (omega arith)) (grind (arith, common_steps))
+pub four_bytes_at : (page bs : List ℕ) (at : ℕ) → at + 4 ≤ length page → bs ≡ take 4 (take (at + 4 - at) (drop at page)) → from_le_bytes w32 bs ≡ le_number (take 4 (drop at page))
+four_bytes_at page bs at room cut =
+    let part = part_is page bs at 4 room cut in
+    four_bytes bs part.1 ∙ ap le_number part.0

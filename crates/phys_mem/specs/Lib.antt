@@ -1,3 +1,4 @@
 pub mod Frames
+pub mod IndexTables
 pub mod Found
 pub mod Spans

@@ -1,14 +1,19 @@
 //! Physical memory: pages by their numbers, with loads and stores of the lowest byte first.
 //!
 //! Memory isn't everywhere: a page that no region has isn't there, and nothing is read or written
-//! in it.
+//! in it. Both memories are made of spans of pages: in `RegionMem` a page is found by a binary
+//! search, in `FrameMem` by two reads of tables, however many pages there are.
 #![tactic(auto)]
 
+mod frame_mem;
+mod frames;
+mod index_tables;
 mod little_endian;
 mod memory;
 mod region_mem;
 mod spans;
 
+pub use frame_mem::FrameMem;
 pub use memory::{PAGE_BYTES, PhysMem};
 pub use region_mem::RegionMem;
 pub use spans::MemorySpan;

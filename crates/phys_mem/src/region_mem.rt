@@ -1,10 +1,11 @@
 //! Memory that is made of spans.
 ghost use Rattle.std.specs.Prelude.{◌≡◌, MatchOption, length, vec_len};
-ghost use Rattle.phys_mem.specs.Frames.{pages_by, IsRising, NoneBelow, IsFirst};
+ghost use Rattle.phys_mem.specs.Frames.{IsRising, NoneBelow, IsFirst};
 
-use crate::little_endian::{number_of, spell};
+use crate::frames::add_spans;
+use crate::little_endian::{number_at, put_number};
 use crate::memory::{PAGE_BYTES, PhysMem};
-use crate::spans::{MemorySpan, add_pages};
+use crate::spans::MemorySpan;
 use muen_num::limits::PAGE;
 use muen_num::{AccessSize, NoMemory};
 use std::alloc::Global;
@@ -45,20 +46,13 @@ impl RegionMem {
     {
         let mut numbers = Vec::new(alloc);
         let mut frames = Vec::new(alloc);
-        for span in spans {
-            add_pages(
-                &mut numbers,
-                &mut frames,
-                span.address / PAGE,
-                span.bytes.items(),
-            )?;
-        }
+        add_spans(&mut numbers, &mut frames, spans)?;
         Ok(RegionMem { numbers, frames })
     }
 
     // Where the page of this number is kept.
     fn find_page(&self, number: u64) -> Option<usize>
-        ensures { MatchOption result (IsNowhere self.now number) (IsAt self.now number) }
+        ensures { MatchOption result (IsNowhere self.now.numbers.items self.now.frames.items number) (IsAt self.now.numbers.items self.now.frames.items number) }
     {
         find(&self.numbers, number)
     }
@@ -71,17 +65,14 @@ impl PhysMem for RegionMem {
 
     fn load(&self, at: u64, size: AccessSize) -> Option<u64> {
         let page = self.page(at / PAGE)?;
-        let from = (at % PAGE) as usize;
-        Some(number_of(&page[from..from + size.bytes() as usize]))
+        Some(number_at(page, (at % PAGE) as usize, size))
     }
 
     fn store(&mut self, at: u64, size: AccessSize, value: u64) -> bool {
         match self.find_page(at / PAGE) {
             None => false,
             Some(i) => {
-                let page = &mut self.frames[i];
-                let from = (at % PAGE) as usize;
-                spell(value, &mut page[from..from + size.bytes() as usize]);
+                put_number(&mut self.frames[i], (at % PAGE) as usize, size, value);
                 true
             }
         }
@@ -89,7 +80,7 @@ impl PhysMem for RegionMem {
 
     fn page(&self, number: u64) -> Option<&[u8; PAGE_BYTES]> {
         let i = self.find_page(number)?;
-        self.frames.get(i)
+        Some(&self.frames[i])
     }
 
     fn page_mut(&mut self, number: u64) -> Option<&mut [u8; PAGE_BYTES]> {

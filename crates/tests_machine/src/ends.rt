@@ -24,12 +24,13 @@ fn addresses_wrap(rt: HostRuntime) -> Result<(), Fail> {
     let mut s = SubjectState::start(u64::MAX - 3);
     s.vbase = u64::MAX;
     s.halted = true;
-    assert_eq!(rt; Finish::On.of(&s).pc, 4);
-    assert_eq!(rt; Finish::Stop.of(&s).pc, u64::MAX - 3);
-    let handled = inject(&s, 255);
-    assert_eq!(rt;
-        (handled.pc, handled.epc, handled.halted),
-        (2039, u64::MAX - 3, false)
-    );
+    let mut on = s;
+    Finish::On.apply(&mut on);
+    assert_eq!(rt; on.pc, 4);
+    let mut stopped = s;
+    Finish::Stop.apply(&mut stopped);
+    assert_eq!(rt; stopped.pc, u64::MAX - 3);
+    inject(&mut s, 255);
+    assert_eq!(rt; (s.pc, s.epc, s.halted), (2039, u64::MAX - 3, false));
     Ok(())
 }

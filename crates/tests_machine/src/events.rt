@@ -1,7 +1,6 @@
 //! Three subjects in two groups.
 use event_router::Router;
-use frame_clock::GroupPart;
-use image_pack::{EventPart, SubjectPart};
+use image_pack::{EventPart, GroupPart, SubjectPart};
 use muen_num::{EventMode, Name, Seq};
 use std::alloc::Global;
 use std::test::Fail;

@@ -1,7 +1,10 @@
-use ept_walk::{PlainWalk, Translate};
+ghost use Rattle.std.specs.Prelude.{IfOk};
+ghost use Rattle.phys_mem.specs.Spans.{AreSpans};
+
+use ept_walk::{CachedWalk, PlainWalk, Translate};
 use machine_layout::Walk;
 use muen_num::{AccessKind, AccessSize, Seq};
-use phys_mem::{MemorySpan, PhysMem, RegionMem};
+use phys_mem::{FrameMem, MemorySpan, PhysMem, RegionMem};
 use std::alloc::Global;
 use std::test::Fail;
 
@@ -13,7 +16,9 @@ const EPTP: u64 = 0x10_001e;
 const PAGE_TABLE: u64 = 0x10_3000;
 
 /// Seven pages from 1 MiB on, for tables, and one page at 2 GiB.
-fn memory(alloc: Global) -> Result<RegionMem, Fail> {
+fn spans(alloc: Global) -> Result<Vec<MemorySpan>, Fail>
+    ensures { IfOk result (λ spans. AreSpans spans.items) }
+{
     let low = MemorySpan {
         address: 0x10_0000,
         bytes: Seq::of(vec![in alloc; 0; 0x7000]?),
@@ -22,8 +27,7 @@ fn memory(alloc: Global) -> Result<RegionMem, Fail> {
         address: 0x8000_0000,
         bytes: Seq::of(vec![in alloc; 0; 0x1000]?),
     };
-    let spans = vec![in alloc; low, high]?;
-    Ok(RegionMem::start(alloc, spans)?)
+    Ok(vec![in alloc; low, high]?)
 }
 
 /// Writes an entry into the table of a level, 3 for the PML4 table.
@@ -76,7 +80,8 @@ const ENTRIES: [(u64, u64, Walk); 28] = [
 
 #[test]
 fn each_check(rt: HostRuntime) -> Result<(), Fail> {
-    let mut mem = memory(rt.alloc())?;
+    let alloc = rt.alloc();
+    let mut mem = RegionMem::start(alloc, spans(alloc)?)?;
     for (level, entry, end) in ENTRIES {
         assert_eq!(rt; walk_with(&mut mem, level, entry), end, "{level} {entry:x}");
     }
@@ -94,17 +99,34 @@ const WALKS: [(u64, u32, AccessKind, Walk); 7] = [
     (u64::MAX, 0, AccessKind::Read, Walk::Misconfigured),
 ];
 
+// The worked tables.
+fn set_tables<M: PhysMem>(mem: &mut M) {
+    write(mem, 3, 0, 0x10_1007);
+    write(mem, 2, 0, 0x10_2007);
+    write(mem, 2, 1, 0x8000_00b3);
+    write(mem, 1, 2, 0x10_3007);
+    write(mem, 0, 0, 0x10_6035);
+}
+
 #[test]
 fn worked_tables(rt: HostRuntime) -> Result<(), Fail> {
-    let mut mem = memory(rt.alloc())?;
-    write(&mut mem, 3, 0, 0x10_1007);
-    write(&mut mem, 2, 0, 0x10_2007);
-    write(&mut mem, 2, 1, 0x8000_00b3);
-    write(&mut mem, 1, 2, 0x10_3007);
-    write(&mut mem, 0, 0, 0x10_6035);
+    let alloc = rt.alloc();
+    let mut mem = FrameMem::start(alloc, spans(alloc)?)?;
+    set_tables(&mut mem);
+    let mut keeping = CachedWalk::new(alloc, 4096)?;
     for (eptp, guest, kind, end) in WALKS {
-        let walk = PlainWalk::new().walk(&mem, eptp, u64::from(guest), kind);
-        assert_eq!(rt; walk, end, "{guest:x}");
+        let guest = u64::from(guest);
+        assert_eq!(rt;
+            PlainWalk::new().walk(&mem, eptp, guest, kind),
+            end,
+            "{guest:x}"
+        );
+        assert_eq!(rt; keeping.walk(&mem, eptp, guest, kind), end, "{guest:x}");
     }
+    // What is kept is given up where its page table changes.
+    assert!(rt; keeping.holds(EPTP, 0x40_0123) && keeping.holds(EPTP, 0x4000_0000));
+    assert!(rt; !keeping.holds(EPTP, 0x40_1000) && !keeping.holds(u64::MAX, 0));
+    keeping.stored(PAGE_TABLE + 4, 2);
+    assert!(rt; !keeping.holds(EPTP, 0x40_0123) && keeping.holds(EPTP, 0x4000_0000));
     Ok(())
 }

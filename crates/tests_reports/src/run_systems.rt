@@ -77,3 +77,12 @@ pub(crate) const DEVICE: &str =
 "devices":[{"device":"net","memory":[{"memory":"buf","virtualAddress":7340032,"rights":"rw"}],"ioPorts":["regs"],"irqs":[{"irq":"rx","vector":40}]}],
 "msrs":[{"start":372,"end":374,"rights":"rw"}]}],
 "scheduling":{"groups":[{"name":"g","cpu":0,"subjects":["one"]}],"majorFrames":[{"cpus":[{"cpu":0,"minorFrames":[{"group":"g","ticks":10}]}]}]}}"#;
+
+/// A subject that goes on at 400000H, of which an image can be made that leads it into its own tables.
+pub(crate) const OWN_TABLES: &str =
+    r#"{"processor":{"logicalCpus":1},"memoryBlocks":[{"name":"ram","physicalAddress":1048576,"size":65536}],
+"memory":[{"name":"code","size":4096,"content":{"hex":"012000000010400001100000316010000b420300001000000c120300100000000b42030000100000"}}],
+"subjects":[{"name":"one","cpu":0,"entry":4194304,
+"memory":[{"region":"code","virtualAddress":4194304,"rights":"rx"}]}],
+"scheduling":{"groups":[{"name":"g","cpu":0,"subjects":["one"]}],
+"majorFrames":[{"cpus":[{"cpu":0,"minorFrames":[{"group":"g","ticks":10}]}]}]}}"#;

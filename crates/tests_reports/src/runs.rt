@@ -1,5 +1,5 @@
 //! Calls of `build`, and then of `run` on the image that was written.
-use crate::run_systems::{CHANNEL, LEAVES};
+use crate::run_systems::{CHANNEL, LEAVES, OWN_TABLES};
 use crate::systems::GATEWAY;
 use muen_outside::{MemFiles, MemSink};
 use std::alloc::Global;
@@ -75,6 +75,26 @@ fn a_changed_leaf(rt: HostRuntime) -> Result<(), Fail> {
     image[17_856..17_864].copy_from_slice(&leaf);
     let changed = text_of(alloc, image.as_slice(), "end 3\n")?;
     assert!(rt; changed.contains("\n1 0 a 0000000000400008 r1=abababababababab\n"));
+    Ok(())
+}
+
+// A guest whose page table is its second page, and whose third is an entry of it: what it stores there
+// counts at its next load.
+#[test]
+fn own_page_table(rt: HostRuntime) -> Result<(), Fail> {
+    let alloc = rt.alloc();
+    let mut image = image(alloc, OWN_TABLES)?;
+    if image.len() < 13_928 {
+        return Err(Fail::new("a short image"));
+    }
+    image[13_912..13_920].copy_from_slice(&[0x33, 0x30, 0x10, 0, 0, 0, 0, 0]);
+    image[13_920..13_928].copy_from_slice(&[0x31, 0x70, 0x10, 0, 0, 0, 0, 0]);
+    let text = text_of(alloc, image.as_slice(), "end 5\n")?;
+    assert!(rt; text.contains("\n2 0 one 0000000000400010 r4=0000000000000000\n"));
+    assert!(rt;
+        text.contains("\n3 0 one 0000000000400018 store 8 0000000000401010 0000000000106031\n")
+    );
+    assert!(rt; text.contains("\n4 0 one 0000000000400020 r4=0040100000002001\n"));
     Ok(())
 }
 

@@ -1,3 +1,4 @@
 pub mod AreaSteps
 pub mod StoreWithin
 pub mod MachineLaws
+pub mod Restored

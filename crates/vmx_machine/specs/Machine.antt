@@ -17,8 +17,11 @@ use Rattle.state_page.specs.StatePage.{state_in, page_bytes}
 use Rattle.state_page.specs.declared.state.SubjectState.{SubjectState}
 use Rattle.device_bench.specs.Devices.{value_of_ports}
 use Rattle.guest_isa.specs.Finish.{injected, finished}
+use Rattle.guest_isa.specs.GuestIsa.{effect_of}
 use Rattle.guest_isa.specs.Step.{World, Stored, MsrWrite, Answer, reach_of, loaded, stored_to, performed, step}
 use Rattle.guest_isa.specs.declared.instr.Asked.{Asked}
+use Rattle.guest_isa.specs.declared.instr.Instr.{Instr}
+use Rattle.guest_isa.specs.declared.instr.Wish.{Wish}
 use Rattle.guest_isa.specs.declared.end.Change.TheVariants.{Plain}
 use Rattle.guest_isa.specs.declared.end.StepEnd.{StepEnd}
 use Rattle.guest_isa.specs.declared.end.StepEnd.TheVariants.{Ran}
@@ -90,6 +93,18 @@ store_answer pages e after addr size value =
 abbrev pub performed_on : List Page → List ℕ → List ℕ → ℕ → Entered → Asked → Answer ℕ
 performed_on pages file ports tick e asked =
     performed (machine_world pages e.control file ports tick) e.state asked.after asked.wish
+
+-- who is entered, with `pc` as it was before the instruction
+abbrev pub back_at : ℕ → Entered → Entered
+back_at pc e = record { control = e.control; state = record e.state { pc = pc } }
+
+-- by what the instruction at `pc` asks for, of the state after it
+abbrev pub performed_at : List Page → List ℕ → List ℕ → ℕ → ℕ → Entered → Wish → Answer ℕ
+performed_at pages file ports tick pc e wish =
+    performed_on pages file ports tick (back_at pc e) (record { after = e.state; wish = wish })
+
+abbrev pub executed_on : List Page → List ℕ → List ℕ → ℕ → Entered → Instr → Answer ℕ
+executed_on pages file ports tick e i = performed_on pages file ports tick e (effect_of e.state i)
 
 abbrev pub step_answer : List Page → List ℕ → List ℕ → ℕ → Entered → Answer ℕ
 step_answer pages file ports tick e = step (machine_world pages e.control file ports tick) e.state

@@ -54,6 +54,11 @@ impl<M: PhysMem, T: Translate> Bus<M, T> {
         &self.memory
     }
 
+    /// What translates guest addresses.
+    pub(crate) fn walker(&self) -> &T {
+        &self.walker
+    }
+
     /// The bytes of a page. None where it isn't there.
     pub(crate) fn page(&self, number: u64) -> &[u8]
         ensures { result.now ≡ page_at self.now number }
@@ -151,7 +156,7 @@ impl<M: PhysMem, T: Translate> Bus<M, T> {
     pub(crate) fn put_off(&mut self, entered: &Entered, file: &MsrFile)
         ensures { self.new ≡ put_off entered.now file.now self.old }
     {
-        let control = entered.control;
+        let control = &entered.control;
         self.put_state(control.state, &entered.state);
         self.save_area(file, control.msr_area, control.msrs);
     }

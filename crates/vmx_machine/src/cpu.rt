@@ -1,5 +1,5 @@
 //! Logical CPUs.
-ghost use Rattle.std.specs.Prelude.{◌≡◌, IfOk};
+ghost use Rattle.std.specs.Prelude.{◌≡◌, option_map, IfOk};
 ghost use Rattle.guest_isa.specs.Finish.{injected, finished};
 ghost use Rattle.vmx_machine.specs.Machine.{fresh, put_on, put_off_by, with_state};
 
@@ -42,6 +42,16 @@ impl Cpu {
         })
     }
 
+    /// The state of who is on the CPU. None where nobody is.
+    pub(crate) fn state(&self) -> Option<&SubjectState>
+        ensures { option_map (λ s. s.now) result ≡ option_map (λ e. e.state) self.now.entered }
+    {
+        match &self.entered {
+            None => None,
+            Some(on) => Some(&on.state),
+        }
+    }
+
     /// A subject goes onto the CPU.
     pub(crate) fn enter<M: PhysMem, T: Translate>(&mut self, bus: &Bus<M, T>, control: Control)
         ensures { self.new ≡ put_on bus.now control self.old }
@@ -56,8 +66,8 @@ impl Cpu {
         ensures pages { bus.new ≡ (put_off_by bus.old self.old self.old.entered).pages }
         ensures cpu { self.new ≡ (put_off_by bus.old self.old self.old.entered).cpu }
     {
-        if let Some(on) = self.entered {
-            bus.put_off(&on, &self.file);
+        if let Some(on) = &self.entered {
+            bus.put_off(on, &self.file);
             self.entered = None;
         }
     }
@@ -66,11 +76,8 @@ impl Cpu {
     pub(crate) fn inject(&mut self, vector: u8)
         ensures { self.new ≡ with_state (injected vector) self.old }
     {
-        if let Some(on) = self.entered {
-            self.entered = Some(Entered {
-                control: on.control,
-                state: inject(&on.state, vector),
-            });
+        if let Some(on) = &mut self.entered {
+            inject(&mut on.state, vector);
         }
     }
 
@@ -78,11 +85,8 @@ impl Cpu {
     pub(crate) fn finish(&mut self, how: Finish)
         ensures { self.new ≡ with_state (finished how) self.old }
     {
-        if let Some(on) = self.entered {
-            self.entered = Some(Entered {
-                control: on.control,
-                state: how.of(&on.state),
-            });
+        if let Some(on) = &mut self.entered {
+            how.apply(&mut on.state);
         }
     }
 }

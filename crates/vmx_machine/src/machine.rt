@@ -1,5 +1,5 @@
 //! The machine.
-ghost use Rattle.std.specs.Prelude.{◌≡◌, ◌+◌, ◌^◌, ◌<◌, length, replicate, IfOk};
+ghost use Rattle.std.specs.Prelude.{◌≡◌, ◌+◌, ◌^◌, ◌<◌, length, replicate, option_map, IfOk};
 ghost use Rattle.state_page.specs.StatePage.{state_in};
 ghost use Rattle.vmx_machine.specs.Machine.{page_at, fresh, started, entered, left, state_on, vector_injected, exit_finished, machine_step, device_wrote};
 
@@ -66,13 +66,17 @@ impl<M: PhysMem, T: Translate> Machine<M, T> {
         self.bus.memory()
     }
 
+    /// What translates guest addresses.
+    pub fn walker(&self) -> &T {
+        self.bus.walker()
+    }
+
     /// The state of who is on a CPU. None where nobody is.
-    pub fn state(&self, cpu: usize) -> Option<SubjectState>
+    pub fn state(&self, cpu: usize) -> Option<&SubjectState>
         requires { cpu < length self.now.cpus }
-        ensures { result ≡ state_on self.now cpu }
+        ensures { option_map (λ s. s.now) result ≡ state_on self.now cpu }
     {
-        let on = self.cpus[cpu].entered?;
-        Some(on.state)
+        self.cpus[cpu].state()
     }
 
     /// The state that a state page has, by the page's number.

@@ -1,37 +1,40 @@
 //! What a subject stores counts from its next access on.
-ghost use Rattle.std.specs.Prelude.{◌≡◌, length, IfOk};
+ghost use Rattle.std.specs.Prelude.{◌≡◌, length};
 
 use super::world::{
-    AREA, CODE, CONTROL, DEVICE, MSR, OTHER, PC, STATE, Start, bench, exit, machine, set_register,
-    subject_at, word,
+    AREA, CODE, CONTROL, DEVICE, MSR, OTHER, PC, STATE, Start, bench, exit, keeping_machine,
+    machine, set_register, subject_at, word,
 };
-use ept_walk::PlainWalk;
+use device_bench::Bench;
+use ept_walk::Translate;
 use guest_isa::{Change, Finish, StepEnd};
 use muen_num::AccessSize;
-use phys_mem::{PhysMem, RegionMem};
-use std::alloc::Global;
+use phys_mem::PhysMem;
 use std::test::Fail;
 use vmx_machine::Machine;
 
-// A machine of which the subject has stored a byte, and is at its next instruction.
-fn after_store(
-    alloc: Global,
-    at: u64,
-    value: u64,
-    next: u64,
-) -> Result<Machine<RegionMem, PlainWalk>, Fail>
-    ensures { IfOk result (λ m. length m.cpus ≡ 1) }
-{
-    let start = Start {
+// A subject that stores a byte.
+fn storing(at: u64, value: u64) -> Start {
+    Start {
         pc: PC,
         word: word(0x0c, 0x21, 0, 0),
         r1: at,
         r2: value,
-    };
-    let mut machine = machine(alloc, start)?;
+    }
+}
+
+// How the instruction behind the first one ends.
+fn second_step<M: PhysMem, T: Translate>(
+    machine: &mut Machine<M, T>,
+    bench: &Bench,
+    next: u64,
+) -> StepEnd
+    requires { length machine.old.cpus ≡ 1 }
+    ensures { length machine.new.cpus ≡ 1 }
+{
     machine.device_write(CODE + 8, &next.to_le_bytes());
-    machine.step(0, 7, &bench(alloc)?);
-    Ok(machine)
+    machine.step(0, 7, bench);
+    machine.step(0, 7, bench)
 }
 
 #[test]
@@ -54,8 +57,18 @@ fn tables_and_bitmaps(rt: HostRuntime) -> Result<(), Fail> {
         (0x40_1000, 0x17, load, set_register(3, 0x17)),
     ];
     for (at, value, next, end) in cases {
-        let mut machine = after_store(rt.alloc(), at, value, next)?;
-        assert_eq!(rt; machine.step(0, 7, &bench), end, "{at:x} {value:x}");
+        let mut plain = machine(rt.alloc(), storing(at, value))?;
+        assert_eq!(rt;
+            second_step(&mut plain, &bench, next),
+            end,
+            "{at:x} {value:x}"
+        );
+        let mut keeping = keeping_machine(rt.alloc(), storing(at, value))?;
+        assert_eq!(rt;
+            second_step(&mut keeping, &bench, next),
+            end,
+            "{at:x} {value:x}"
+        );
     }
     Ok(())
 }
@@ -67,14 +80,15 @@ const ENTRIES: [(u64, u64, u64); 3] = [(0, 0x82, 5), (0, 0x83, 0), (3, 0x40, 5)]
 #[test]
 fn area_by_the_index_on_leaving(rt: HostRuntime) -> Result<(), Fail> {
     for (offset, value, saved) in ENTRIES {
-        let mut machine = after_store(rt.alloc(), 0x40_5000 + offset, value, 0)?;
+        let mut machine = machine(rt.alloc(), storing(0x40_5000 + offset, value))?;
+        machine.step(0, 7, &bench(rt.alloc())?);
         machine.leave(0);
         assert_eq!(rt;
             machine.mem().load(AREA + 8, AccessSize::Eight),
             Some(saved),
             "{offset}"
         );
-        assert_eq!(rt; machine.state(0), None);
+        assert!(rt; machine.state(0).is_none());
     }
     Ok(())
 }

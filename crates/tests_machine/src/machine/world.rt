@@ -1,13 +1,15 @@
 //! A subject's pages, made by hand. Its tables are four pages from 1 MiB on; behind them lie a page of
 //! code, one of data, its state page, I/O bitmaps A and B, its MSR bitmap and its MSR area, and the
 //! state page and the MSR area of another subject. A device's page is at 2 GiB.
-ghost use Rattle.std.specs.Prelude.{◌≡◌, ◌<◌, ◌^◌, length, IfOk};
+ghost use Rattle.std.specs.Prelude.{◌≡◌, ◌<◌, ◌^◌, List, length, IfOk};
+ghost use Rattle.machine_layout.specs.Memory.{Page};
+ghost use Rattle.phys_mem.specs.Spans.{AreSpans};
 
 use device_bench::{Bench, Record};
-use ept_walk::PlainWalk;
+use ept_walk::{CachedWalk, PlainWalk, Translate};
 use guest_isa::{Change, StepEnd};
 use muen_num::{AccessSize, Seq};
-use phys_mem::{MemorySpan, PhysMem, RegionMem};
+use phys_mem::{FrameMem, MemorySpan, PhysMem, RegionMem};
 use std::alloc::Global;
 use std::test::Fail;
 use vmx_machine::{Control, Machine};
@@ -97,7 +99,9 @@ pub(super) fn subject_at(pc: u64, word: u64, r1: u64) -> Start {
     }
 }
 
-fn memory(alloc: Global) -> Result<RegionMem, Fail> {
+fn spans(alloc: Global) -> Result<Vec<MemorySpan>, Fail>
+    ensures { IfOk result (λ spans. AreSpans spans.items) }
+{
     let low = MemorySpan {
         address: 0x10_0000,
         bytes: Seq::of(vec![in alloc; 0; 0xd000]?),
@@ -106,8 +110,7 @@ fn memory(alloc: Global) -> Result<RegionMem, Fail> {
         address: DEVICE,
         bytes: Seq::of(vec![in alloc; 0; 0x1000]?),
     };
-    let spans = vec![in alloc; low, device]?;
-    Ok(RegionMem::start(alloc, spans)?)
+    Ok(vec![in alloc; low, device]?)
 }
 
 // The word at an address that is a multiple of eight.
@@ -137,19 +140,45 @@ fn set_state<M: PhysMem>(mem: &mut M, state: u64, start: Start)
     set(mem, state + 152, 8);
 }
 
-/// A machine on which the subject is entered.
-pub(super) fn machine(alloc: Global, start: Start) -> Result<Machine<RegionMem, PlainWalk>, Fail>
+// A machine on which the subject is entered.
+fn entered<M: PhysMem, T: Translate>(
+    alloc: Global,
+    mem: M,
+    walk: T,
+    start: Start,
+) -> Result<Machine<M, T>, Fail>
+    requires { (pages : List Page) → T.fits walk pages }
     ensures { IfOk result (λ m. length m.cpus ≡ 1) }
 {
-    let mut mem = memory(alloc)?;
+    let mut mem = mem;
     set_bitmaps(&mut mem);
     set_words(&mut mem);
     set(&mut mem, CODE, start.word);
     set_state(&mut mem, STATE, start);
     set_state(&mut mem, OTHER_STATE, start);
-    let mut machine = Machine::start(alloc, mem, PlainWalk::new(), 1)?;
+    let mut machine = Machine::start(alloc, mem, walk, 1)?;
     machine.enter(0, CONTROL);
     Ok(machine)
+}
+
+/// A machine on which the subject is entered, and which keeps nothing.
+pub(super) fn machine(alloc: Global, start: Start) -> Result<Machine<RegionMem, PlainWalk>, Fail>
+    ensures { IfOk result (λ m. length m.cpus ≡ 1) }
+{
+    let mem = RegionMem::start(alloc, spans(alloc)?)?;
+    entered(alloc, mem, PlainWalk::new(), start)
+}
+
+/// The same, and it keeps translations.
+pub(super) fn keeping_machine(
+    alloc: Global,
+    start: Start,
+) -> Result<Machine<FrameMem, CachedWalk>, Fail>
+    ensures { IfOk result (λ m. length m.cpus ≡ 1) }
+{
+    let mem = FrameMem::start(alloc, spans(alloc)?)?;
+    let walk = CachedWalk::new(alloc, 16)?;
+    entered(alloc, mem, walk, start)
 }
 
 /// Devices of which the input bytes of the ports 3FCH to 3FFH are 1, 2, 3 and 4.

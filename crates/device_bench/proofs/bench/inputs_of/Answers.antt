@@ -3,12 +3,15 @@ use Rattle.device_bench.proofs.bench.inputs_of.Goals as goal
 
 pub slice_bounds-result-count : goal.slice_bounds-result-count
 slice_bounds-result-count c =
-    ends_in_order (λ i. i.tick) c.args.tick c.count_before-first.result c.count_before-past.result c.args.inputs.now c.count_before-first.ensures.before c.count_before-past.ensures.behind c.count_before-first.ensures.bound
+    let at = c.args.at in
+    ends_in_order (λ i. i.tick) at.tick at.first at.past c.args.inputs.now c.requires.first.before.earlier c.requires.past.behind c.requires.first.before.within
 
 pub slice_bounds-result-start : goal.slice_bounds-result-start
 slice_bounds-result-start c =
-    ends_in_order (λ i. i.tick) c.args.tick c.count_before-first.result c.count_before-past.result c.args.inputs.now c.count_before-first.ensures.before c.count_before-past.ensures.behind c.count_before-first.ensures.bound
+    let at = c.args.at in
+    ends_in_order (λ i. i.tick) at.tick at.first at.past c.args.inputs.now c.requires.first.before.earlier c.requires.past.behind c.requires.first.before.within
 
 pub returns : goal.returns
 returns c =
-    run_then (λ i. i.tick) c.args.tick c.count_before-first.result c.count_before-past.result c.args.inputs.now c.count_before-first.ensures.before c.count_before-first.ensures.behind c.count_before-past.ensures.before c.count_before-past.ensures.behind c.count_before-first.ensures.bound
+    let at = c.args.at in
+    run_then (λ i. i.tick) at.tick at.first at.past c.args.inputs.now c.requires.first.before.earlier c.requires.first.behind c.requires.past.before.earlier c.requires.past.behind c.requires.first.before.within

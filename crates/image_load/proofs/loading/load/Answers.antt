@@ -1,4 +1,4 @@
-use Rattle.std.proofs.Common.{List, subst, sym}
+use Rattle.std.proofs.Common.{◌∙◌, List, ap, sym, subst}
 use Rattle.phys_mem.specs.Spans.{AreSpans}
 use Rattle.image_pack.specs.Parts.{IsParts}
 use Rattle.image_pack.specs.declared.parts.SpanPart.{SpanPart}
@@ -11,7 +11,8 @@ pub setup_of-requires : goal.setup_of-requires
 setup_of-requires c =
     subst AreLow (sym c.items.ensures) (parts_low c.into_image-image.result (subst IsParts (sym c.into_image-image.ensures.same) c.into_image-image.ensures.parts))
 
-pub start_memory-requires : goal.start_memory-requires
-start_memory-requires c =
-    subst (λ (ss : List SpanPart). AreSpans (loaded_spans ss c.into_image-image.result.contents)) (sym c.items-2.ensures)
-    (parts_load c.into_image-image.result (subst IsParts (sym c.into_image-image.ensures.same) c.into_image-image.ensures.parts))
+pub returns-clause-apart : goal.returns-clause-apart
+returns-clause-apart c =
+    let i = c.into_image-image.result in
+    subst AreSpans (sym (c.in_ok-memory.ensures ∙ ap (λ (ss : List SpanPart). loaded_spans ss i.contents) c.items-2.ensures))
+    (parts_load i (subst IsParts (sym c.into_image-image.ensures.same) c.into_image-image.ensures.parts))

@@ -1,26 +1,15 @@
-use Rattle.std.proofs.Common.{◌≡◌, length, arith, rules}
-use Rattle.phys_mem.proofs.Rising.{span_small, spans_after, spans_turn, spans_done, numbers_rise}
+use Rattle.std.proofs.Common.{◌≡◌, length, arith}
+use Rattle.phys_mem.proofs.FrameLaws.{added_to_none}
+use Rattle.phys_mem.proofs.Rising.{numbers_rise}
 use Rattle.phys_mem.proofs.region_mem.RegionMem.start.Goals as goal
-
-pub add_pages-requires-clause-small : goal.add_pages-requires-clause-small
-add_pages-requires-clause-small c =
-    span_small _ _ c.in-Some.span c.items.result.now c.loop-span.invariant.spans c.in-Some.ensures.steps.0 c.items.ensures
-
-pub loop-span-preserved : goal.loop-span-preserved
-loop-span-preserved c =
-    record {
-      pages = spans_turn _ _ _ _ _ c.in-Some.span c.items.result.now c.loop-span.invariant.pages c.in-Some.ensures.steps.0 c.in_ok-add_pages.ensures.pages c.items.ensures;
-      spans = spans_after _ _ c.in-Some.span c.loop-span.invariant.spans c.in-Some.ensures.steps.0;
-      paired = search rules;
-    }
 
 pub invariant_of-result-clause-rising : goal.invariant_of-result-clause-rising
 invariant_of-result-clause-rising c =
-    let same : length c.loop-span.numbers.items ≡ length c.loop-span.frames.items = omega (arith, c.loop-span.numbers.ok.0, c.loop-span.frames.ok.0) in
-    let none : length c.loop-span.span-iterator.rest.items ≡ 0 = omega (arith, c.loop-span.span-iterator.rest.ok.0, c.in-None.ensures.steps.0) in
-    numbers_rise c.loop-span.numbers.items c.loop-span.frames.items c.args.spans.items c.requires same (spans_done _ _ _ c.loop-span.invariant.pages none)
+    let ns = c.add_spans.new.numbers in
+    let fs = c.add_spans.new.frames in
+    let same : length ns.items ≡ length fs.items = omega (arith, ns.ok.0, fs.ok.0, c.in_ok-add_spans.ensures.paired) in
+    numbers_rise ns.items fs.items c.args.spans.items c.requires same (added_to_none _ _ _ _ (omega (arith, c.new-numbers.ensures.len, c.new-numbers.result.ok.0)) c.in_ok-add_spans.ensures.pages)
 
 pub returns : goal.returns
 returns c =
-    let none : length c.loop-span.span-iterator.rest.items ≡ 0 = omega (arith, c.loop-span.span-iterator.rest.ok.0, c.in-None.ensures.steps.0) in
-    spans_done _ _ _ c.loop-span.invariant.pages none
+    added_to_none _ _ _ _ (omega (arith, c.new-numbers.ensures.len, c.new-numbers.result.ok.0)) c.in_ok-add_spans.ensures.pages
