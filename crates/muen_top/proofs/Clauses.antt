@@ -1,7 +1,9 @@
 -- The clauses of a whole call, from what came of its command.
-use Rattle.std.proofs.Common.{◌≡◌, inl, inr, ◌⊎◌, ◌≢◌, ℕ, List, [], length, drop, Option, Some, None, IfSome, Result, Ok, Err, refl, sym, ap, subst, ◌∙◌}
+use Rattle.std.proofs.Common.{◌≡◌, inl, inr, ◌⊎◌, ◌≢◌, ℕ, ◌+◌, List, [], ◌∷◌, length, drop, Option, Some, None, IfSome, Result, Ok, Err, refl, sym, ap, subst, ◌∙◌}
 use Rattle.std.specs.FinMap.{get}
+use Rattle.std.specs.List.{All}
 use Rattle.std.proofs.Math.Seq.{drop-append_seam}
+use Rattle.std.proofs.lemmas.List.Elements.{All-head, All-pop}
 use Rattle.binary_form.specs.Faults.{unpacked}
 use Rattle.binary_form.specs.declared.fault.ImageFault.{ImageFault}
 use Rattle.dma_tables.specs.DmaFile.{dma_file}
@@ -10,9 +12,10 @@ use Rattle.image_load.specs.Resolving.{image_bench}
 use Rattle.image_pack.specs.Image.{image as image_form}
 use Rattle.image_pack.specs.declared.parts.Image.{Image}
 use Rattle.muen_outside.proofs.Explained.{explained}
-use Rattle.muen_outside.specs.Looks.{AreSingle, HeldAfter, ShowAll, looks_since, writes_since}
-use Rattle.muen_outside.specs.Puts.{Failed}
-use Rattle.muen_outside.specs.States.{History, Look, SinkState, Write, went}
+use Rattle.muen_outside.specs.Looks.{AreSingle, EndsInFault, HeldAfter, ShowAll, looks_since, writes_since}
+use Rattle.muen_outside.specs.Puts.{Appended, Failed}
+use Rattle.muen_outside.specs.declared.files.FileError.TheVariants.{Failed as FileFailed}
+use Rattle.muen_outside.specs.States.{History, Look, SinkState, Write, look, went, write}
 use Rattle.muen_outside.specs.Store.{Store, Reading, whole, absent, long, reading_of}
 use Rattle.policy_lawful.specs.source.Source.{Source}
 use Rattle.policy_lawful.specs.refusal.Refusal.{Refusal}
@@ -24,14 +27,17 @@ use Rattle.record_text.specs.declared.fault.RecordFault.{RecordFault}
 use Rattle.muen_top.specs.Answers.{Reason, usage, missing, too_long, refused, image_refused, dma_refused, record_refused, Answer, prints, writes, judges, stops, of_file, image_answer, build_answer, trace_answer, policy_answer, boot_answer, named_answer, dma_answer, tables_answer, input_answer, unpacked_answer, run_answer, map_answer, map_policy_answer, flows_answer, flows_policy_answer, judged_answer, verified_answer, verify_answer, answer_of}
 use Rattle.muen_top.specs.Asked.{Asks}
 use Rattle.muen_num.specs.declared.limits.TheConstants.{POLICY_MOST, RECORD_MOST}
-use Rattle.muen_top.specs.Calls.{IsDone, Prints, StopsFor, OutcomeSays, FaultOfFiles, WantOfMemory, IsCallOf, IsFault, Answered, answer_to, DoesAnswer, PrintsFront, EndsAnswered, FilesFailed, MemoryRefused, RefusesPolicy, LacksFile, RefusesImage, RefusesDma, RefusesRecord, FindsFault}
-use Rattle.muen_top.specs.Commands.{Command, build, boot, run, map, flows, verify, command_of}
+use Rattle.muen_top.specs.Calls.{IsDone, Prints, Unwritten, StopsFor, OutcomeSays, FaultOfFiles, WantOfMemory, IsCallOf, IsFault, Answered, answer_to, DoesAnswer, PrintsFront, EndsAnswered, FilesFailed, MemoryRefused, RefusesPolicy, LacksFile, RefusesImage, RefusesDma, RefusesRecord, FindsFault}
+use Rattle.muen_top.specs.Commands.{Command, build, boot, run, map, flows, verify, load, command_of}
+use Rattle.muen_top.specs.Complete.{IsComplete, IsWhole, NothingFails}
+use Rattle.muen_top.specs.Images.{Wrote, image_last, tables_last}
+use Rattle.muen_top.specs.LoadText.{load_text}
 use Rattle.muen_top.specs.FilesSeen.{OverLooks}
 use Rattle.muen_top.specs.Headline.{BuildWritesImage, HoldsBuilt, HoldsPolicy, PrintsText, VerifyAcceptsBuilt, VerifyTellsFault, VerifyTellsSound}
 use Rattle.muen_top.specs.Verdicts.{Finds}
 use Rattle.image_verify.specs.FaultText.{fault_text}
 use Rattle.image_verify.specs.declared.fault.Fault.{Fault}
-use Rattle.muen_top.specs.Reports.{reason_status, reason_text, sound_text, status_of, error_status, error_text, Told, Reported, Ends}
+use Rattle.muen_top.specs.Reports.{line_of, reason_status, reason_text, sound_text, status_of, error_status, error_text, Told, Reported, Ends}
 use Rattle.muen_top.specs.declared.limits.TheConstants.{DMA_MOST}
 use Rattle.muen_top.specs.declared.outcome.Outcome.{Outcome}
 use Rattle.muen_top.specs.declared.outcome.Outcome.TheVariants.{Done, Stopped, OutputFault}
@@ -190,6 +196,9 @@ no_usage_of_verified files policy bytes (Ok i) e =
     no_usage_of_file policy (λ document. judged_answer files bytes i (fitting_policy_of files document)) (reading_of (get files policy) POLICY_MOST) (λ document h. no_usage_of_judged files bytes i (fitting_policy_of files document) h) e
 no_usage_of_verified files policy bytes (Err fault) e = cc
 
+prints_not_stops : (text : List ℕ) (reason : Reason) → prints text ≡ stops reason → ⊥
+prints_not_stops text reason e = cc
+
 no_usage : (files : Store) (command : Option Command) → answer_of files command ≡ stops usage → command ≡ None
 unfolding build_answer boot_answer run_answer map_answer flows_answer verify_answer
 no_usage files None e = refl
@@ -205,9 +214,8 @@ no_usage files (Some (flows policy)) e =
     absurd (no_usage_of_file policy _ _ (λ bytes h. no_usage_of_flows (lawful_policy_of bytes) h) e)
 no_usage files (Some (verify image policy)) e =
     absurd (no_usage_of_file image _ _ (λ bytes h. no_usage_of_verified files policy bytes (unpacked image_form bytes) h) e)
+no_usage files (Some (load number)) e = absurd (prints_not_stops (load_text number) usage e)
 
-prints_not_stops : (text : List ℕ) (reason : Reason) → prints text ≡ stops reason → ⊥
-prints_not_stops text reason e = cc
 
 judges_not_stops : (p : Source) (files : Store) (bytes : List ℕ) (i : Image) (reason : Reason) → judges p files bytes i ≡ stops reason → ⊥
 judges_not_stops p files bytes i reason e = cc
@@ -219,6 +227,20 @@ looks_are old new looks ws is = sym (ap (λ h. drop (length old.looks) h.looks) 
 
 writes_are : (old new : History) (looks : List Look) (ws : List Write) → new ≡ went old looks ws → ws ≡ writes_since old new
 writes_are old new looks ws is = sym (ap (λ h. drop (length old.writes) h.writes) is ∙ drop-append_seam old.writes ws)
+
+-- ---- none has failed
+
+one_more : (n : ℕ) → n + 1 ≡ n → ⊥
+one_more n h = omega
+
+looks_well : (ls : List Look) → All (λ l. l.got ≢ Err FileFailed) ls → EndsInFault ls → ⊥
+looks_well ls well ends = (All-pop (λ l. l.got ≢ Err FileFailed) ls ends.front (Some (look ends.name ends.most (Err FileFailed))) ends.is well).1 refl
+
+last_well : (ws : List Write) (image : List ℕ) (tables : Option (List ℕ)) (p : Source) (files : Store) → All (λ w. w.end ≢ Err FileFailed) ws → Wrote image tables p files (Err FileFailed) ws → ⊥
+last_well ws image tables p files well (image_last bytes of last is) =
+    All-head (λ w. w.end ≢ Err FileFailed) (write image bytes (Err FileFailed)) [] (subst (All (λ w. w.end ≢ Err FileFailed)) is well) refl
+last_well ws image tables p files well (tables_last bytes of name named file tables_of is) =
+    (All-pop (λ w. w.end ≢ Err FileFailed) ws (write image bytes (Ok tt) ∷ []) (Some (write name file (Err FileFailed))) is well).1 refl
 
 -- ---- a whole call
 
@@ -340,6 +362,53 @@ module _ (words : List (List ℕ)) (held held' : Option Store) (old new : Histor
         | condemned fault is finds none quiet told ↦ inr (λ m s. ends_found (answer_to words m) fault (finds m s) is told)
         | failed is fault quiet ↦ inl (inl is)
         | no_memory is want quiet ↦ inl (inr (inr is))
+      ]
+
+  -- ---- where nothing fails
+
+  whole_done : (answer : Answer) → IsDone answer ws out out' → status ≡ statuses.Done → err' ≡ err → IsWhole answer ws out out' err err' status
+  whole_done (prints text) did is quiet = (is, did.0, did.1, quiet)
+  whole_done (writes image tables p files) did is quiet = (is, did.0, did.1, quiet)
+  whole_done (judges p files bytes i) did is quiet = inl (did.1.0, is, did.0, did.1.1, quiet)
+  whole_done (stops reason) did is quiet = absurd did
+
+  whole_found : (answer : Answer) (fault : Fault) → Finds answer (Some fault) → status ≡ statuses.NotSound → ws ≡ [] → out' ≡ out → Appended (line_of (fault_text fault)) err err' → IsWhole answer ws out out' err err' status
+  whole_found (judges p files bytes i) fault finds is none quiet told = inr (fault, finds, is, none, quiet, told)
+  whole_found (prints text) fault finds is none quiet told = absurd finds
+  whole_found (writes image tables p files) fault finds is none quiet told = absurd finds
+  whole_found (stops reason) fault finds is none quiet told = absurd finds
+
+  module _ (well : NothingFails old new out out' err err') where
+    told_whole : (text : List ℕ) → Told text err err' → Appended (line_of text) err err'
+    told_whole text (inl told) = told
+    told_whole text (inr failed) = absurd (one_more err.faults (sym (ap (λ s. s.faults) failed.state) ∙ well.lines))
+
+    no_cut : (answer : Answer) → Prints answer (λ text. Failed text out out') → ⊥
+    no_cut (prints text) failed = one_more out.faults (sym (ap (λ s. s.faults) failed.state) ∙ well.puts)
+    no_cut (judges p files bytes i) failed = one_more out.faults (sym (ap (λ s. s.faults) failed.1.state) ∙ well.puts)
+    no_cut (writes image tables p files) failed = failed
+    no_cut (stops reason) failed = failed
+
+    no_failed_write : (answer : Answer) → Unwritten FileFailed ws answer → ⊥
+    no_failed_write (writes image tables p files) wrote = last_well ws image tables p files well.writes wrote
+    no_failed_write (prints text) wrote = wrote
+    no_failed_write (judges p files bytes i) wrote = wrote
+    no_failed_write (stops reason) wrote = wrote
+
+    no_fault_of_files : FaultOfFiles (answer_to words) looks ws → ⊥
+    no_fault_of_files (inl ends) = looks_well looks well.looks ends.0
+    no_fault_of_files (inr unwritten) = let there = explained looks once_clause in no_failed_write (answer_to words there.0) (unwritten there.0 there.1)
+
+  pub complete_clause : IsComplete words old new out out' err err' status
+  complete_clause well =
+      let there = explained looks once_clause in
+      elim came [
+        | done is did quiet ↦ inr (λ m s. whole_done (answer_to words m) (did m s) is quiet)
+        | cut_off is put none ↦ absurd (no_cut well (answer_to words there.0) (put there.0 there.1))
+        | stopped reason is answers none quiet told ↦ inr (λ m s. subst (λ a. IsWhole a ws out out' err err' status) (sym (answers m s)) (is, none, quiet, told_whole well (reason_text reason) told))
+        | condemned fault is finds none quiet told ↦ inr (λ m s. whole_found (answer_to words m) fault (finds m s) is none quiet (told_whole well (fault_text fault) told))
+        | failed is fault quiet ↦ absurd (no_fault_of_files well fault)
+        | no_memory is want quiet ↦ inl is
       ]
 
   pub usage_clause : status ≡ statuses.Usage → command_of words ≡ None

@@ -6,7 +6,8 @@ use Rattle.muen_outside.specs.States.{History, Look, SinkState, Write, looked, w
 use Rattle.muen_outside.specs.Store.{Store}
 use Rattle.muen_top.specs.Answers.{Answer, prints, answer_of}
 use Rattle.muen_top.specs.Calls.{ComesOfCommand, IsDone, OutcomeSays, Prints}
-use Rattle.muen_top.specs.Commands.{Command}
+use Rattle.muen_top.specs.Commands.{Command, load}
+use Rattle.muen_top.specs.LoadText.{load_text}
 use Rattle.muen_top.specs.FilesSeen.{OverLooks}
 use Rattle.muen_top.specs.PolicyCommands.{IsAnswered, StopsCommand}
 use Rattle.muen_top.specs.Runs.{RunsTo}
@@ -86,3 +87,15 @@ unasked command held h out is =
 -- of this command
 pub command_as : (command command' : Option Command) (held held' : Option Store) (old new : History) (out out' : SinkState) (outcome : Outcome) → command ≡ command' → ComesOfCommand command held held' old new out out' outcome → ComesOfCommand command' held held' old new out out' outcome
 command_as command command' held held' old new out out' outcome is came = subst (λ c. ComesOfCommand c held held' old new out out' outcome) is came
+
+-- ---- a number
+
+pub loaded : (number : ℕ) (held : Option Store) (h : History) (out out' : SinkState) (outcome : Outcome) → RunsTo (load_text number) out out' outcome → ComesOfCommand (Some (load number)) held held h h out out' outcome
+loaded number held h out out' outcome put =
+    printed (load number) held held h h refl out out' (load_text number) outcome
+    (record {
+      looks = [];
+      saw = record { history = no_look h; single = tt; told = told_none held };
+      asked = refl;
+      says = λ m s. refl;
+    }) put

@@ -17,7 +17,8 @@ use Rattle.policy_lawful.specs.source.Source.{Source}
 use Rattle.record_text.specs.DeviceRecord.{DeviceRecord}
 use Rattle.subject_model.specs.Trace.{trace_of}
 use Rattle.muen_run.specs.RunText.{run_text}
-use Rattle.muen_top.specs.Commands.{Command, build, boot, run, map, flows, verify}
+use Rattle.muen_top.specs.Commands.{Command, build, boot, run, map, flows, verify, load}
+use Rattle.muen_top.specs.LoadText.{load_text}
 use Rattle.record_text.specs.Reading.{record_of}
 use Rattle.image_soundness.specs.Bench.{devices_of}
 use Rattle.muen_build.specs.Refusals.{accepted_policy_of, fitting_policy_of, laid_policy_of, lawful_policy_of}
@@ -162,3 +163,4 @@ answer_of files (Some (run image name dma)) = run_answer files image name dma
 answer_of files (Some (map policy)) = map_answer files policy
 answer_of files (Some (flows policy)) = flows_answer files policy
 answer_of files (Some (verify image policy)) = verify_answer files image policy
+answer_of files (Some (load number)) = prints (load_text number)

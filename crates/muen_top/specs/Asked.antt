@@ -13,7 +13,7 @@ use Rattle.muen_outside.specs.States.{Look, look}
 use Rattle.muen_outside.specs.Store.{Reading, whole, absent, long}
 use Rattle.muen_outside.specs.declared.files.FileError.{FileError}
 use Rattle.policy_lawful.specs.source.Source.{Source}
-use Rattle.muen_top.specs.Commands.{Command, build, boot, run, map, flows, verify}
+use Rattle.muen_top.specs.Commands.{Command, build, boot, run, map, flows, verify, load}
 use Rattle.muen_top.specs.FilesSeen.{OverLooks}
 use Rattle.muen_top.specs.Tables.{HoldsTables}
 use Rattle.muen_top.specs.declared.limits.TheConstants.{DMA_MOST}
@@ -97,3 +97,4 @@ Asks (Some (run image inputs dma)) looks = AsksFirst image IMAGE_MOST (AsksRecor
 Asks (Some (map policy)) looks = AsksFirst policy POLICY_MOST (λ document more. more ≡ []) looks
 Asks (Some (flows policy)) looks = AsksFirst policy POLICY_MOST (λ document more. more ≡ []) looks
 Asks (Some (verify image policy)) looks = AsksFirst image IMAGE_MOST (AsksPolicy image policy) looks
+Asks (Some (load number)) looks = looks ≡ []

@@ -1,6 +1,8 @@
 -- The commands of the program (this project's own).
-use Rattle.std.specs.Prelude.{ℕ, List, [], ◌∷◌, Option, Some, None, codes, if◌then◌else◌}
+use Rattle.std.specs.Prelude.{ℕ, ◌^◌, List, [], ◌∷◌, Option, Some, None, option_map, codes, if◌then◌else◌}
+use Rattle.std.specs.Result.{result_ok}
 use Rattle.std.specs.Str.{bytes_eq}
+use Rattle.record_text.specs.Words.{number_below}
 
 pub data Command : Type 0 where
   -- a policy, an image, and tables for direct memory access, or none, by the names of their files: the policy's image is
@@ -17,13 +19,21 @@ pub data Command : Type 0 where
   flows : List ℕ → Command
   -- an image and a policy, by the names of their files: whether the image is sound for the policy and its files is told
   verify : List ℕ → List ℕ → Command
+  -- a number: the system that is generated of it runs, and what its text comes to is printed
+  load : ℕ → Command
+
+-- the number below 2 ^ 16 that a word spells
+abbrev pub load_number : List ℕ → Option ℕ
+load_number word = result_ok (number_below (2 ^ 16) word)
 
 -- the command that the words after the program's name ask for; none where they have no command's form
 abbrev pub command_of : List (List ℕ) → Option Command
 command_of [] = None
 command_of (word ∷ []) = None
 command_of (word ∷ a ∷ []) =
-    if bytes_eq word (codes "map") then Some (map a) else (if bytes_eq word (codes "flows") then Some (flows a) else None)
+    if bytes_eq word (codes "map") then Some (map a)
+    else (if bytes_eq word (codes "flows") then Some (flows a)
+    else (if bytes_eq word (codes "load") then option_map load (load_number a) else None))
 command_of (word ∷ a ∷ b ∷ []) =
     if bytes_eq word (codes "build") then Some (build a b None)
     else (if bytes_eq word (codes "boot") then Some (boot a b)

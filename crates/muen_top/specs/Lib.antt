@@ -3,10 +3,13 @@ pub mod Asked
 pub mod Calls
 pub mod CommandErrors
 pub mod Commands
+pub mod Complete
 pub mod FilesSeen
+pub mod Generated
 pub mod Headline
 pub mod Images
 pub mod Kept
+pub mod LoadText
 pub mod Loads
 pub mod Parsed
 pub mod PolicyCommands

@@ -6,6 +6,7 @@ ghost use Rattle.muen_top.specs.Commands.{command_of};
 use crate::boot::boot;
 use crate::build::build;
 use crate::command::Command;
+use crate::load::load;
 use crate::outcome::{CommandError, Outcome};
 use crate::policy_commands;
 use crate::report::{report, status};
@@ -42,6 +43,7 @@ fn work<'a, F: Files, S: Sink>(
         Command::Map(policy) => policy_commands::map(alloc, policy, files, out),
         Command::Flows(policy) => policy_commands::flows(alloc, policy, files, out),
         Command::Verify { image, policy } => verify(alloc, image, policy, files, out),
+        Command::Load(number) => load(alloc, number, out),
     }
 }
 

@@ -1,6 +1,7 @@
 // What the words after the program's name ask for.
 ghost use Rattle.std.specs.Prelude.{◌≡◌, [], ◌∷◌, map, string_bytes};
-ghost use Rattle.muen_top.specs.Commands.{command_of};
+ghost use Rattle.std.specs.Char.{is_ascii_digit};
+ghost use Rattle.muen_top.specs.Commands.{command_of, load_number};
 ghost use Rattle.muen_top.specs.Parsed.{asked};
 
 /// What is asked for, with the names that were given.
@@ -36,18 +37,36 @@ pub(crate) enum Command<'a> {
         image: &'a str,
         policy: &'a str,
     },
+    /// The system that is generated of a number runs, and what comes of it is printed.
+    Load(u16),
+}
+
+// The number below 2^16 that a word spells in decimal digits, without leading zeros.
+fn load_number(word: &str) -> Option<u16>
+    ensures { result ≡ load_number word.now }
+{
+    if word.starts_with('+') || word.len() > 1 && word.starts_with('0') {
+        return None;
+    }
+    word.parse().ok()
 }
 
 impl<'a> Command<'a> {
-    // The command of a word and one name.
-    fn of_one(word: &str, policy: &'a str) -> Command<'a>
-        ensures { asked result ≡ command_of (word.now ∷ policy.now ∷ []) }
+    // The command of a word and one name, or a number.
+    fn of_one(word: &str, name: &'a str) -> Command<'a>
+        ensures { asked result ≡ command_of (word.now ∷ name.now ∷ []) }
     {
         if word == "map" {
-            return Command::Map(policy);
+            return Command::Map(name);
         }
         if word == "flows" {
-            return Command::Flows(policy);
+            return Command::Flows(name);
+        }
+        if word == "load" {
+            return match load_number(name) {
+                Some(number) => Command::Load(number),
+                None => Command::Usage,
+            };
         }
         Command::Usage
     }

@@ -7,6 +7,7 @@ ghost use Rattle.muen_outside.specs.States.{went};
 ghost use Rattle.muen_top.specs.Asked.{Asks};
 ghost use Rattle.muen_top.specs.Calls.{Answered, DoesAnswer, EndsAnswered, FilesFailed, FindsFault, IsFault, LacksFile, MemoryRefused, PrintsFront, RefusesDma, RefusesImage, RefusesPolicy, RefusesRecord};
 ghost use Rattle.muen_top.specs.Commands.{command_of};
+ghost use Rattle.muen_top.specs.Complete.{IsComplete};
 ghost use Rattle.muen_top.specs.Headline.{BootPrintsSystem, BuildWritesImage, RunOfBuiltPrintsSystem, RunOfSoundPrintsSystem, VerifyAcceptsBuilt, VerifyTellsFault, VerifyTellsSound};
 ghost use Rattle.muen_top.specs.Reports.{Reported, status_of};
 ghost use Rattle.muen_top.specs.declared.outcome.Outcome.{Outcome};
@@ -16,6 +17,7 @@ mod build;
 mod call;
 mod command;
 mod limits;
+mod load;
 mod loading;
 mod outcome;
 mod over_held;
@@ -27,6 +29,7 @@ mod tables;
 mod verify;
 
 use muen_outside::{Files, Sink};
+pub use generated_system::{Generated, generate};
 pub use over_held::muen_over_held;
 pub use status::Status;
 use std::alloc::Global;
@@ -44,7 +47,9 @@ use std::alloc::Global;
 /// itself. `map POLICY` puts where the policy's regions lie and what each subject
 /// sees, `flows POLICY` on whom each subject can depend; neither reads a component file. `verify IMAGE
 /// POLICY` reads an image, a policy and the files that it names, and puts `sound` to `out` where the image
-/// is sound for them; where regions lie is not asked. No other command is built. On every status but 0 one line that begins with `muen: ` is put to `err`; a fault
+/// is sound for them; where regions lie is not asked. `load NUMBER` boots the system that is generated of a number from
+/// 0 to 65535 in memory, and puts how many subjects and ticks it has, and the length and the digest of its text; it looks at
+/// no file. On every status but 0 one line that begins with `muen: ` is put to `err`; a fault
 /// of `err` changes no status.
 ///
 /// | Status | Comes | Line |
@@ -119,6 +124,10 @@ pub fn muen<F: Files, S: Sink, E: Sink>(
 
     // The call ends as the words are answered, but for a fault or want of memory.
     ensures ends { IsFault result ⊎ EndsAnswered (map string_bytes words.now) (looks_since (F.history files.old) (F.history files.new)) (E.state err.old) (E.state err.new) result }
+
+    // Where no look, no write and no put fails, and memory suffices, it does the whole of that answer, with its
+    // status, its line and its output, and nothing else: so 4 and 7 come of a failure alone.
+    ensures complete { IsComplete (map string_bytes words.now) (F.history files.old) (F.history files.new) (S.state out.old) (S.state out.new) (E.state err.old) (E.state err.new) result }
 
     // When each other status comes.
     ensures usage { result ≡ Status.Usage → command_of (map string_bytes words.now) ≡ None }

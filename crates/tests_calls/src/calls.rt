@@ -188,6 +188,11 @@ const REFUSALS: &str =
 1 muen: usage: build POLICY IMAGE, run IMAGE RECORD, boot POLICY RECORD, map POLICY, flows POLICY, load NUMBER, verify IMAGE POLICY, build POLICY IMAGE DMA, run IMAGE RECORD DMA |  | build
 1 muen: usage: build POLICY IMAGE, run IMAGE RECORD, boot POLICY RECORD, map POLICY, flows POLICY, load NUMBER, verify IMAGE POLICY, build POLICY IMAGE DMA, run IMAGE RECORD DMA |  | build p
 1 muen: usage: build POLICY IMAGE, run IMAGE RECORD, boot POLICY RECORD, map POLICY, flows POLICY, load NUMBER, verify IMAGE POLICY, build POLICY IMAGE DMA, run IMAGE RECORD DMA |  | build p image image
+1 muen: usage: build POLICY IMAGE, run IMAGE RECORD, boot POLICY RECORD, map POLICY, flows POLICY, load NUMBER, verify IMAGE POLICY, build POLICY IMAGE DMA, run IMAGE RECORD DMA |  | load
+1 muen: usage: build POLICY IMAGE, run IMAGE RECORD, boot POLICY RECORD, map POLICY, flows POLICY, load NUMBER, verify IMAGE POLICY, build POLICY IMAGE DMA, run IMAGE RECORD DMA |  | load 07
+1 muen: usage: build POLICY IMAGE, run IMAGE RECORD, boot POLICY RECORD, map POLICY, flows POLICY, load NUMBER, verify IMAGE POLICY, build POLICY IMAGE DMA, run IMAGE RECORD DMA |  | load +7
+1 muen: usage: build POLICY IMAGE, run IMAGE RECORD, boot POLICY RECORD, map POLICY, flows POLICY, load NUMBER, verify IMAGE POLICY, build POLICY IMAGE DMA, run IMAGE RECORD DMA |  | load 65536
+1 muen: usage: build POLICY IMAGE, run IMAGE RECORD, boot POLICY RECORD, map POLICY, flows POLICY, load NUMBER, verify IMAGE POLICY, build POLICY IMAGE DMA, run IMAGE RECORD DMA |  | load 1 2
 2 muen: not JSON |  | boot broken three
 2 muen: not JSON |  | boot broken nothing
 2 muen: not JSON |  | build broken image

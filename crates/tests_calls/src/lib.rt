@@ -6,6 +6,8 @@ mod calls;
 #[cfg(test)]
 mod elements;
 #[cfg(test)]
+mod hostile;
+#[cfg(test)]
 mod images;
 #[cfg(test)]
 mod instructions;

@@ -113,7 +113,8 @@ fn each_put_fails(rt: HostRuntime) -> Result<(), Fail> {
             let fails = Vec::from_slice(alloc, &[failing])?;
             let mut out = MemSink::make(alloc, 1_000_000, fails, keep)?;
             let ended = call(alloc, "run i r", &mut files, &mut out)?;
-            assert!(rt; ended.status == 7 || out.calls() <= failing && ended.status == 0);
+            let calls = out.calls();
+            assert!(rt; (ended.status, calls) == (7, failing + 1) || ended.status == 0 && calls <= failing);
             assert!(rt; whole.out.as_str().starts_with(ended.out.as_str()));
         }
     }

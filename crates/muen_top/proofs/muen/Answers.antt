@@ -1,6 +1,6 @@
 use Rattle.std.proofs.Common.{◌∙◌, ap}
 use Rattle.subject_model.specs.Trace.{trace_of}
-use Rattle.muen_top.proofs.Clauses.{history_clause, once_clause, agrees_clause, asked_clause, held_clause, done_clause, prefix_clause, policy_clause, file_clause, image_clause, dma_clause, record_clause, ends_clause, usage_clause, fault_clause, memory_clause, unwritten_clause, quiet_out_clause, quiet_err_clause, prints_clause, built_clause, sound_clause, unsound_clause, accepts_clause, found_clause}
+use Rattle.muen_top.proofs.Clauses.{history_clause, once_clause, agrees_clause, asked_clause, held_clause, done_clause, prefix_clause, policy_clause, file_clause, image_clause, dma_clause, record_clause, ends_clause, usage_clause, fault_clause, memory_clause, unwritten_clause, quiet_out_clause, quiet_err_clause, prints_clause, built_clause, sound_clause, unsound_clause, accepts_clause, found_clause, complete_clause}
 use Rattle.muen_top.proofs.SoundRuns.{boot_alike, boot_prints, built_alike, built_prints, sound_alike, sound_prints}
 use Rattle.muen_top.specs.Answers.{answer_of}
 use Rattle.muen_top.proofs.muen.Goals as goal
@@ -33,6 +33,7 @@ returns g c =
       refuses_record = record_clause _ _ _ _ _ _ _ _ _ _ p;
       finds_fault = found_clause _ _ _ _ _ _ _ _ _ _ p;
       ends = ends_clause _ _ _ _ _ _ _ _ _ _ p;
+      complete = complete_clause _ _ _ _ _ _ _ _ _ _ p;
       usage = usage_clause _ _ _ _ _ _ _ _ _ _ p;
       no_command = c.call.ensures.no_command;
       file_fault = fault_clause _ _ _ _ _ _ _ _ _ _ p;

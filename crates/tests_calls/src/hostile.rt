@@ -1,0 +1,187 @@
+//! Damaged images and records, and calls that fail, in tables.
+use crate::calls::{POLICY, files};
+use muen_outside::{MemFiles, MemSink};
+use std::alloc::Global;
+use std::test::Fail;
+use tests_support::{Ended, call, file};
+
+// The image of a subject that loads a number and halts.
+fn image(alloc: Global) -> Result<Vec<u8>, Fail> {
+    let mut files = files(alloc, POLICY, "")?;
+    let mut out = MemSink::make(alloc, 10, Vec::new(alloc), 0)?;
+    let ended = call(alloc, "build p image", &mut files, &mut out)?;
+    match files.get("image") {
+        Some(bytes) if ended.status == 0 => Ok(bytes.to_vec(alloc)?),
+        _ => Err(Fail::new("no image")),
+    }
+}
+
+// How a run of these bytes ends on a record.
+fn ran(alloc: Global, image: &[u8], record: &[u8]) -> Result<Ended, Fail> {
+    let mut held = Vec::new(alloc);
+    held.push(file(alloc, "i", image)?)?;
+    held.push(file(alloc, "r", record)?)?;
+    let mut files = MemFiles::make(held, Vec::new(alloc));
+    let mut out = MemSink::make(alloc, 1000, Vec::new(alloc), 0)?;
+    call(alloc, "run i r", &mut files, &mut out)
+}
+
+// The answer where an image is short at this offset.
+fn short_at(alloc: Global, at: usize) -> Result<String, Fail> {
+    let mut text = String::from_str(alloc, "5 muen: image refused at ")?;
+    text.push_str(at.to_string(alloc)?.as_str())?;
+    text.push_str(": short\n")?;
+    Ok(text)
+}
+
+// Where each part of that image begins, where its last field begins, and where it ends: the header, six
+// spans, a group, a subject, a major frame, and the contents of the six spans, each of which is one field.
+const PARTS: [(usize, usize, usize); 16] = [
+    (0, 18, 24),
+    (24, 168, 184),
+    (184, 328, 344),
+    (344, 488, 504),
+    (504, 648, 664),
+    (664, 808, 824),
+    (824, 968, 984),
+    (984, 986, 992),
+    (992, 1_596, 1_600),
+    (1_600, 1_612, 1_616),
+    (1_616, 1_616, 18_000),
+    (18_000, 18_000, 26_192),
+    (26_192, 26_192, 30_288),
+    (30_288, 30_288, 34_384),
+    (34_384, 34_384, 38_480),
+    (38_480, 38_480, 42_576),
+];
+
+// An image that is cut at a part's first byte lacks the field that begins there; one that lacks a part's last
+// byte lacks that part's last field.
+#[test]
+fn cut_images(rt: HostRuntime) -> Result<(), Fail> {
+    let alloc = rt.alloc();
+    let image = image(alloc)?;
+    assert_eq!(rt; image.len(), 42_576);
+    for (first, last_field, end) in PARTS {
+        for (length, at) in [(first, first), (end - 1, last_field)] {
+            let Some(cut) = image.get(..length) else {
+                return Err(Fail::new("a short image"));
+            };
+            let ended = ran(alloc, cut, b"end 1\n")?;
+            assert_eq!(rt; ended.answer(alloc)?.as_str(), short_at(alloc, at)?.as_str(), "{length}");
+        }
+    }
+    Ok(())
+}
+
+// One byte of that image is changed. Where it leads elsewhere, the machine goes by it.
+#[test]
+fn changed_images(rt: HostRuntime) -> Result<(), Fail> {
+    let alloc = rt.alloc();
+    for (at, byte, want, put) in [
+        (0usize, 0u8, "5 muen: image refused at 0: magic\n", ""),
+        (8, 9, "5 muen: image refused at 8: count\n", ""),
+        (984, 1, "5 muen: image refused at 984: cpu\n", ""),
+        (1_600, 9, "5 muen: image refused at 1612: ticks\n", ""),
+        (1_008, 0x1f, "5 muen: image refused at 1008: eptp\n", ""),
+        (
+            1_010,
+            0x20,
+            "0 ",
+            "0 0 one 0000000000400000 exit 49 0000000000000000 0000000000400000 stop\n",
+        ),
+    ] {
+        let mut image = image(alloc)?;
+        if let Some(place) = image.get_mut(at) {
+            *place = byte;
+        }
+        let ended = ran(alloc, image.as_slice(), b"end 1\n")?;
+        assert_eq!(rt; ended.answer(alloc)?.as_str(), want, "{at}");
+        assert!(rt; ended.out.as_str().starts_with(put), "{at}");
+    }
+    Ok(())
+}
+
+// A byte above 127 comes first, wherever it stands.
+#[test]
+fn records_with_another_byte(rt: HostRuntime) -> Result<(), Fail> {
+    let alloc = rt.alloc();
+    let image = image(alloc)?;
+    for (record, want) in [
+        (
+            &b"no word\nend 1\xc8"[..],
+            "6 muen: record refused at line 2: not ASCII\n",
+        ),
+        (
+            b"end 1\nend 2\n\xc8",
+            "6 muen: record refused at line 3: not ASCII\n",
+        ),
+        (
+            b"end 200000\n\n\n\x80\n",
+            "6 muen: record refused at line 4: not ASCII\n",
+        ),
+        (b"no word\nend 1\x7f", "6 muen: record refused at line 1: word\n"),
+    ] {
+        let ended = ran(alloc, image.as_slice(), record)?;
+        assert_eq!(rt; ended.answer(alloc)?.as_str(), want);
+    }
+    Ok(())
+}
+
+// The files `p`, `three` and, where it is wanted, that image.
+fn failing(alloc: Global, image: &[u8], fails: u64) -> Result<MemFiles, Fail> {
+    let mut held = Vec::new(alloc);
+    held.push(file(alloc, "p", POLICY.as_bytes())?)?;
+    held.push(file(alloc, "three", b"end 3\n")?)?;
+    held.push(file(alloc, "i", image)?)?;
+    Ok(MemFiles::make(held, Vec::from_slice(alloc, &[fails])?))
+}
+
+// Call 0, 1 or 2 fails of those that a command makes: so many it makes, and with none that fails it ends well.
+#[test]
+fn each_command_with_failing_files(rt: HostRuntime) -> Result<(), Fail> {
+    let alloc = rt.alloc();
+    let image = image(alloc)?;
+    for (words, calls) in [
+        ("build p new", 2),
+        ("build p new tables", 3),
+        ("boot p three", 2),
+        ("run i three", 2),
+        ("map p", 1),
+        ("flows p", 1),
+        ("verify i p", 2),
+        ("load 0", 0),
+    ] {
+        for fails in 0..4u64 {
+            let mut files = failing(alloc, image.as_slice(), fails)?;
+            let mut out = MemSink::make(alloc, 5000, Vec::new(alloc), 0)?;
+            let ended = call(alloc, words, &mut files, &mut out)?;
+            let want = if fails < calls { "4 muen: file fault\n" } else { "0 " };
+            assert_eq!(rt; ended.answer(alloc)?.as_str(), want, "{words} {fails}");
+            assert!(rt; fails >= calls || out.calls() == 0, "{words} {fails}");
+        }
+    }
+    Ok(())
+}
+
+// `load` prints four lines, the same at each call; of its first put that fails comes status 7.
+#[test]
+fn loads(rt: HostRuntime) -> Result<(), Fail> {
+    let alloc = rt.alloc();
+    for (words, begin) in [
+        ("load 0", "subjects 2\nticks 20000\ntrace "),
+        ("load 1", "subjects 4\nticks 20000\ntrace "),
+    ] {
+        let mut files = MemFiles::make(Vec::new(alloc), Vec::new(alloc));
+        let mut out = MemSink::make(alloc, 500, Vec::new(alloc), 0)?;
+        let ended = call(alloc, words, &mut files, &mut out)?;
+        assert_eq!(rt; ended.answer(alloc)?.as_str(), "0 ", "{words}");
+        assert!(rt; ended.out.as_str().starts_with(begin), "{words}");
+        let mut failing = MemSink::make(alloc, 500, Vec::from_slice(alloc, &[0])?, 1)?;
+        let ended = call(alloc, words, &mut files, &mut failing)?;
+        assert_eq!(rt; ended.answer(alloc)?.as_str(), "7 muen: output fault\n", "{words}");
+        assert_eq!(rt; ended.out.as_str(), "s");
+        assert_eq!(rt; failing.calls(), 1);
+    }
+    Ok(())
+}
