@@ -1,0 +1,2 @@
+//! The system that the command `load` runs, and its device record, made of a number.
+#![tactic(auto)]
