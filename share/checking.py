@@ -33,8 +33,15 @@ def look(words, status, out, line, **how):
     want((done.returncode, done.stdout.decode(), done.stderr.decode()), (status, out, line), " ".join(map(str, words)))
 
 
+def said(*words):
+    """The status of a form of share/look, and what it prints on both streams, without a process of its own."""
+    with contextlib.redirect_stdout(io.StringIO()) as out, contextlib.redirect_stderr(out):
+        status = looking.main.main(list(map(str, words)))
+    return status, out.getvalue()
+
+
 def looked(*words):
-    """What a form of share/look prints, without a process of its own."""
-    with contextlib.redirect_stdout(io.StringIO()) as out:
-        want(looking.main.main(list(map(str, words))), 0, f"the status of look {words[0]}")
-    return out.getvalue()
+    """What a form of share/look prints where its status is 0."""
+    status, text = said(*words)
+    want(status, 0, f"look {' '.join(map(str, words))}: {text[:200]}")
+    return text

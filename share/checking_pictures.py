@@ -3,9 +3,8 @@
 Each picture is XML that stands by itself, whose texts neither overlap nor leave it; and what it says is what the
 program prints, or what is worked out here from the policy, or by hand.
 """
-import contextlib
+import argparse
 import copy
-import io
 import json
 import pathlib
 import re
@@ -18,8 +17,7 @@ from dataclasses import dataclass
 from fractions import Fraction
 from itertools import groupby, product
 
-import looking.main
-from checking import EXAMPLES, LOOK, PROGRAM, TOP, Wrong, call, look, looked, want
+from checking import EXAMPLES, LOOK, PROGRAM, TOP, Wrong, call, look, looked, said, want
 from looking.draw_flows import dot_text
 from looking.scene import scene_of
 from looking.svg import width
@@ -61,6 +59,7 @@ class Built:
         self.document = json.loads(self.policy.read_text(encoding="utf-8"))
         self.program("build", self.policy, self.image, self.tables)
         self.text.write_bytes(self.program("run", self.image, record, self.tables))
+        self.sound = [self.image, "--dma", self.tables]
         self.lines = [line for line in self.text.read_text(encoding="ascii").splitlines() if line[0].isdigit()]
 
     def program(self, *words):
@@ -87,6 +86,11 @@ def of_document(document, check):
         policy = pathlib.Path(folder, "policy.json")
         policy.write_text(json.dumps(document), encoding="utf-8")
         check(Built(policy, "twenty_ticks.record", folder))
+
+
+def scene(system, dma=None):
+    """What is drawn of a policy or an image."""
+    return scene_of(argparse.Namespace(system=str(system), dma=dma and str(dma)))
 
 
 def number(value):
@@ -231,11 +235,16 @@ def legend(seen):
             if 0 < text.left - x < 20 and text.top - 4 < y < text.bottom}
 
 
+def kind_of(line):
+    """What the legend calls a line."""
+    return next(kind for pattern, kind in LINES if re.match(pattern, line.split(" ", 4)[4]))
+
+
 def is_cell(seen, element, line, at, colours):
     """The cell of a line."""
-    tick, _, subject, _, what = line.split(" ", 4)
+    tick, _, subject, *_ = line.split()
     x, y, wide, high = side(element, "x", "y", "width", "height")
-    want(element.get("fill"), colours[next(kind for pattern, kind in LINES if re.match(pattern, what))], f"the colour of {line}")
+    want(element.get("fill"), colours[kind_of(line)], f"the colour of {line}")
     want(y < seen.place(subject)[1] < y + high, True, f"the lane of {line}")
     want(abs(x - at(int(tick))) < .2 and at(int(tick) + 1) - wide - x < 1, True, f"the place of {line}")
 
@@ -253,6 +262,11 @@ def gateway_arrows(built):
     arrows = [f"arrow of tick {begin} to tick {end}" for begin, end in ((27, 34), (39, 40), (45, 46))]
     want([title for _, title in seen.titled("path")], arrows, "arrows")
     want([text.words for text in seen.texts if text.size == 8], ["5", "5", "5"], "the outputs in front of tick 60")
+    sums = Counter()
+    for element, title in Seen(looked("draw", "trace", built.image, built.text, "--until", 5000)).titled("rect"):
+        subject, count, kind = re.fullmatch(r"ticks \d+ to \d+ of (\S+): (\d+) (.*)", title).groups()
+        sums[subject, kind] += int(count)
+    want(sums, Counter((line.split()[2], kind_of(line)) for line in built.lines), "the sums of all ticks")
     grey = sorted(side(element, "y", "x", "width") for element in seen.root.iter(f"{SVG}rect") if element.get("fill") == "#ececec")[1:]
     want([round(one[2] / grey[0][2] * 30) for one in grey], [30, 10, 20, 10, 10, 10, 30], "the slots of plain, black, keys, slots, cipher")
 
@@ -355,7 +369,7 @@ def rows_of(scheduling):
 def matrix(built):
     """Of the image and of the policy: a cell for each window of `map`, and for all else that the policy grants."""
     regions = {words[2]: int(words[0], 16) for words in built.mapped("region")}
-    for words, domain_name in (((built.image, built.tables), lambda at, _: str(at)), ((built.policy,), lambda _, domain: domain["name"])):
+    for words, domain_name in ((built.sound, lambda at, _: str(at)), ([built.policy], lambda _, domain: domain["name"])):
         seen = Seen(looked("draw", "matrix", *words))
         cells = seen.titled("rect")
         windows = [f"{subject} sees {shown} at {int(place, 16):x}, {rights}" for subject, place, _, rights, shown in built.mapped("window")]
@@ -364,7 +378,7 @@ def matrix(built):
         # the kernel's pages are left out, but for states that are monitored
         shown = [name for name in regions if ":" not in name or any(f" sees {name} " in window for window in windows)]
         seen.names(shown)
-        for name in shown if len(words) == 2 else ():
+        for name in shown if words is built.sound else ():
             want(any(fact.startswith(f"{regions[name]:x}, ") for row in seen.rows() if name in row for fact in row), True, f"the place of {name}")
         are_cells(seen, [(re.match(r"(.*) sees (\S+) at ", title), element) for element, title in cells])
 
@@ -395,13 +409,13 @@ def granted(document, domain_name):
             yield f"{subject['name']} has MSRs {number(msrs['start']):x} to {number(msrs['end']):x}, {msrs['rights']}"
     for at, domain in enumerate(document.get("deviceDomains", [])):
         for entry in domain.get("memory", []):
-            yield (f"{', '.join(sorted(domain['devices']))} (domain {domain_name(at, domain)}) sees {entry['region']}"
+            yield (f"{', '.join(sorted(domain['devices']))} in domain {domain_name(at, domain)} sees {entry['region']}"
                    f" at {number(entry['virtualAddress']):x}, {entry['rights']}")
 
 
 def same_scene(built):
     """A policy and its image are drawn alike, but for the names and places that one of them lacks."""
-    one, other = scene_of(str(built.policy)), scene_of(str(built.image), str(built.tables))
+    one, other = scene(built.policy), scene(built.image, built.tables)
     for part in ("cpus", "subjects", "things", "groups", "frames", "bodies", "choice", "choosers"):
         want(getattr(one, part), getattr(other, part), part)
 
@@ -425,16 +439,20 @@ def arrows_of(text):
 
 
 def flows(built):
-    """The arrows are the steps of `look ways`, and each subject and device is there; also as dot has laid it out."""
+    """Over the arrows, those of devices left out, each subject is reached by those that `flows` prints; the arrows are the steps of
+    `look ways`; and each subject and device is there, also as dot has laid it out."""
+    printed = [line.split() for line in built.program("flows", built.policy).decode().splitlines()]
     steps = [re.match(r"(\S+) -> (\S+): (\S+) ", line).groups() for line in looked("ways", built.policy).splitlines()]
     channels = {(source, target) for source, target, kind in steps if kind == "channel"}
     # events along a channel are on its arrow, and who chooses frames has one arrow to all
     wanted = {(source, target, kind) for source, target, kind in steps if kind not in ("device", "tau0")
               and not (kind == "event" and (source, target) in channels)}
     choosers = {source for source, _, kind in steps if kind == "tau0"}
-    for words in ([built.policy], [built.image, built.tables]):
-        text = dot_text(scene_of(*map(str, words)))
+    for words in ([built.policy], built.sound):
+        text = dot_text(scene(*words[::2]))
         arrows = list(arrows_of(text))
+        for _, name, _, *sources in printed:
+            want(reaching(name, arrows), set(sources), f"who reaches {name}")
         want(len(arrows) - text.count("dir=both"), text.count(" -> "), "arrows that are understood")
         want({(source, target, kind) for source, target, kind, _ in arrows if kind not in ("device", "tau0")}, wanted, "the arrows")
         want({source for source, _, kind, _ in arrows if kind == "tau0"} >= choosers, True, "tau0")
@@ -451,15 +469,23 @@ def flows(built):
             want(sum(drawn.values()), text.count(" -> "), "the arrows that are drawn")
 
 
+def reaching(name, arrows):
+    """Who reaches a subject over arrows that are flows."""
+    reached = {name}
+    while more := {source for source, target, kind, _ in arrows if kind != "device" and target in (*reached, "next major frame")} - reached:
+        reached |= more
+    return reached
+
+
 def gateway_flows():
     """The text for dot where dot isn't there, and the arrows of docs/flows.md."""
     done = call([sys.executable, LOOK, "draw", "flows", "gateway.json"], env={"PATH": ""})
     want((done.returncode, done.stderr), (0, b"look: graphviz's dot isn't there, so this is the text for it\n"), "without dot")
     net = ["ports 300 to 30f", "rx, vector 43"]
+    channels = [("plain", "job", 40, "asap"), ("keys", "key", 41, "asap"), ("slots", "beat", 42, "async")]
     want(list(arrows_of(done.stdout.decode())), [
-        ("plain", "cipher", "channel", ["job", "call 1, asap, vector 40"]), ("keys", "cipher", "channel", ["key", "call 1, asap, vector 41"]),
-        ("slots", "cipher", "channel", ["beat", "call 1, async, vector 42"]), ("cipher", "black", "channel", ["sealed", "call 1, asap, vector 40"]),
-        ("black", "device net", "device", net), ("device net", "black", "device", net)], "the arrows")
+        *((name, "cipher", "channel", [f"{channel}: call 1, {mode}, vector {vector}"]) for name, channel, vector, mode in channels),
+        ("cipher", "black", "channel", ["sealed: call 1, asap, vector 40"]), ("black", "device net", "device", net), ("device net", "black", "device", net)], "the arrows")
 
 
 # ---- all kinds in one system
@@ -489,10 +515,10 @@ def of_rules_built(built):
         check(built)
     seen = Seen(looked("draw", "trace", built.image, built.text))
     want([title for _, title in seen.titled("path")], ["handover of tick 1 to tick 2", "arrow of tick 3 to tick 5"], "the arrows")
-    found = [(source, target, kind) for source, target, kind, _ in arrows_of(dot_text(scene_of(str(built.policy))))]
-    want(found, [("a", "b", "region"), ("a", "c", "channel"), ("c", "b", "channel"), ("a", "b", "handover"), ("c", "a", "event"),
-                 ("b", "a", "monitor"), ("a", "next major frame", "tau0"), ("a", "device net (domain dnet)", "device"),
-                 ("device net (domain dnet)", "a", "device")], "the arrows of flows")
+    found = [(source, target, kind) for source, target, kind, _ in arrows_of(dot_text(scene(built.policy)))]
+    net = "device net in domain dnet"
+    want(found, [("a", "c", "channel"), ("c", "b", "channel"), ("a", "b", "region"), ("a", "b", "handover"), ("c", "a", "event"),
+                 ("b", "a", "monitor"), ("a", "next major frame", "tau0"), ("a", net, "device"), (net, "a", "device")], "the arrows of flows")
     want(("MSRs c0000080 to c0000082", "rw") in Seen(looked("draw", "matrix", built.policy)).rows(), True, "the row of MSRs")
 
 
@@ -510,7 +536,7 @@ def long_names(rules):
     def drawn(built):
         """All pictures of it."""
         names = [subject["name"] for subject in built.document["subjects"]]
-        for picture, *words in (("trace", built.image, built.text), ("plan", built.policy), ("matrix", built.image, built.tables),
+        for picture, *words in (("trace", built.image, built.text), ("plan", built.policy), ("matrix", *built.sound),
                                 ("matrix", built.policy), ("flows", built.policy)):
             if picture != "flows" or shutil.which("dot"):
                 Seen(looked("draw", picture, *words)).names(names)
@@ -523,9 +549,7 @@ def faults():
     """What can't be drawn is answered by one line."""
     def answered(words, line):
         """This line, and status 1."""
-        with contextlib.redirect_stdout(io.StringIO()) as out, contextlib.redirect_stderr(out):
-            status = looking.main.main(["draw", *map(str, words)])
-        want((status, out.getvalue()), (1, f"look: {line}\n"), " ".join(map(str, words)))
+        want(said("draw", *words), (1, f"look: {line}\n"), " ".join(map(str, words)))
     policy, record, unlawful = (EXAMPLES / name for name in ("gateway.json", "gateway.record", "refused/shared_writable.json"))
     answered([], "the following arguments are required: PICTURE; look draw --help says more")
     answered(["plan"], "the following arguments are required: SYSTEM; look draw plan --help says more")
@@ -534,7 +558,7 @@ def faults():
     answered(["matrix", "."], ".: Is a directory")
     answered(["flows", record], f"{record}:1:1: not JSON: here stands no value")
     answered(["plan", unlawful], f"{unlawful}:17:3: rule 8: data b: b maps data, which a may write")
-    answered(["matrix", policy, policy], f"{policy}: it is no image, and a policy has its domains in itself")
+    answered(["matrix", policy, "--dma", policy], f"{policy}: it is no image, and a policy has its domains in itself")
     answered(["trace", policy, record], f"{policy}: image refused at 0: magic")
     answered(["plan", policy, "--output", "nowhere/plan.svg"], "nowhere/plan.svg: No such file or directory")
 
@@ -543,11 +567,11 @@ def faults():
         image, text, short = built.image, built.text, built.folder / "short"
         short.write_bytes(image.read_bytes()[:100])
         answered(["plan", short], f"{short}: image refused at 40: short")
-        answered(["matrix", image, image], f"{image}: dma refused at 0: magic")
+        answered(["matrix", image, "--dma", image], f"{image}: dma refused at 0: magic")
         answered(["trace", image, record], f"{record}: line 1: no line of a run: 'port 100 net 768 5'")
         answered(["trace", image, "/dev/null"], "/dev/null: no turn from tick 0 on is in it")
         answered(["trace", image, text, "--from", "20"], f"{text}: no turn from tick 20 on is in it")
-        answered(["trace", image, text, "--from", "3", "--until", "3"], "from 3 until 3: want 1 to 400 ticks; --from and --until choose them")
+        answered(["trace", image, text, "--from", "3", "--until", "3"], "from 3 until 3: want 1 to 10000 ticks")
         answered(["trace", image, text, "--from", "x"], "argument --from: invalid int value: 'x'; look draw trace --help says more")
         picture = built.folder / "plan.svg"
         look(["draw", "plan", built.policy, "--output", picture], 0, "", "")
@@ -574,7 +598,7 @@ def file_of(name, picture):
 
 def now(built, picture):
     """Such a picture as it is drawn now. An image tells places, and a policy names."""
-    words = {"trace": (built.image, built.text), "matrix": (built.image, built.tables)}.get(picture, (built.policy,))
+    words = {"trace": (built.image, built.text), "matrix": built.sound}.get(picture, (built.policy,))
     return looked("draw", picture, *words)
 
 

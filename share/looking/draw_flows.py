@@ -3,10 +3,9 @@ import re
 import subprocess
 import sys
 from dataclasses import dataclass
-from itertools import permutations
 
-from looking.image import spread
-from looking.scene import scene_of
+from looking.scene import add_system, scene_of
+from looking.steps import steps, touches
 from looking.svg import FONT, shortened
 from looking.wrong import Wrong
 
@@ -29,25 +28,14 @@ SHADES = ["#dbe8f7", "#fde6cc", "#dff0d8", "#eadff2", "#fff6cc", "#dcefee", "#f6
 MOST_LINES, LABEL_ROOM = 5, 170
 
 
-@dataclass(frozen=True)
-class Flow:
-    """An arrow: from whom to whom, which kind, and by what."""
-    source: str
-    target: str
-    kind: str
-    by: str
-
-
 def add_arguments(parser):
     """The words of this picture."""
-    parser.add_argument("system", metavar="SYSTEM", help="a policy, or an image, which has no names of events")
-    parser.add_argument("dma", metavar="DMA", nargs="?", help="the file of DMA tables of an image's build")
+    add_system(parser)
 
 
 def draw(arguments):
     """The picture, or the text for dot."""
-    scene = scene_of(arguments.system, arguments.dma)
-    text = dot_text(scene)
+    text = dot_text(scene_of(arguments))
     try:
         done = subprocess.run(["dot", "-Tsvg"], input=text.encode("ascii"), capture_output=True, check=False)
     except FileNotFoundError:
@@ -57,65 +45,6 @@ def draw(arguments):
         raise Wrong(f"dot ended with status {done.returncode}: {done.stderr.decode('utf-8', 'replace').strip()[:200]}")
     picture = done.stdout.decode("utf-8").encode("ascii", "xmlcharrefreplace").decode()
     return re.sub("<!--.*?-->\n", "", picture[picture.index("<svg"):], flags=re.S)
-
-
-# ---- flows
-
-def flows(scene):
-    """The arrows of a scene: all direct flows, then what is granted of devices."""
-    found = [*memory_flows(scene), *event_flows(scene), *monitor_flows(scene)]
-    found += [Flow(chooser, FRAMES, "tau0", scene.choice) for chooser in scene.choosers]
-    return [flow for flow in dict.fromkeys(found) if flow.source != flow.target] + list(device_flows(scene))
-
-
-def memory_flows(scene):
-    """From those who may write a channel or a region to those who see it."""
-    for thing in scene.things:
-        seen = [(subject.name, sight.rights) for subject in scene.subjects for sight in subject.sights
-                if sight.thing == thing and thing.kind not in ("state", "device")]
-        for (writer, rights), (reader, _) in permutations(seen, 2):
-            if "w" in rights:
-                yield Flow(writer, reader, "channel" if thing.kind == "channel" else "region", thing.name)
-
-
-def event_flows(scene):
-    """From those who raise an event to its target."""
-    for subject in scene.subjects:
-        for cause in subject.causes:
-            vector = f", vector {cause.vector}" if cause.vector else ""
-            text = f"{cause.name + ': ' if cause.name else ''}{cause.way} {cause.number}, {cause.mode}{vector}"
-            yield Flow(subject.name, cause.target, "handover" if cause.mode == "switch" else "event", text)
-
-
-def monitor_flows(scene):
-    """To those who monitor a state, and from those who may change it."""
-    for subject in scene.subjects:
-        for sight in subject.sights:
-            if sight.thing.kind == "state":
-                whose = sight.thing.name.rpartition(":")[0]
-                yield Flow(whose, subject.name, "monitor", "state")
-                if "w" in sight.rights:
-                    yield Flow(subject.name, whose, "monitor", "state")
-
-
-def device_flows(scene):
-    """Between subjects and devices: what a subject gives to them, and what it takes."""
-    for body in scene.bodies:
-        reached = {sight.thing: sight.rights for sight in body.sights}
-        for subject in scene.subjects:
-            both = [spread("port", first, last) for device, first, last in subject.ports if device in body.devices]
-            takes = [f"{irq}, vector {vector}" for device, irq, vector in subject.interrupts if device in body.devices]
-            gives = []
-            for sight in subject.sights:
-                device, _, memory = sight.thing.name.partition("|")
-                if sight.thing.kind == "device" and device in body.devices:
-                    (both if "w" in sight.rights else takes).append(memory)
-                if "w" in sight.rights and "r" in reached.get(sight.thing, ""):
-                    gives.append(f"DMA {sight.thing.name}")
-                if "w" in reached.get(sight.thing, ""):
-                    takes.append(f"DMA {sight.thing.name}")
-            yield from dict.fromkeys(Flow(subject.name, of_devices(body), "device", by) for by in (*both, *gives))
-            yield from dict.fromkeys(Flow(of_devices(body), subject.name, "device", by) for by in (*both, *takes))
 
 
 # ---- the text for dot
@@ -130,25 +59,32 @@ class Arrow:
     back: bool = False
 
 
-def arrows_of(found):
-    """The arrows of these flows. Events along a channel are on its arrow, and what a device gives and takes is on one."""
-    arrows = {}
-    channels = {(flow.source, flow.target) for flow in found if flow.kind == "channel"}
-    for flow in found:
-        kind = "channel" if flow.kind == "event" and (flow.source, flow.target) in channels else flow.kind
-        key = (flow.source, flow.target, kind)
-        arrows.setdefault(key, Arrow(*key, [])).labels.append(flow.by)
+def arrows_of(scene):
+    """The arrows of a system. Events along a channel are on its arrow; who chooses major frames has one arrow; and so have a
+    subject and a device."""
+    arrows, found = {}, [step for step in steps(scene) if step.kind != "tau0"]
+    channels = {(step.source, step.target) for step in found if step.kind == "channel"}
+    for step in found:
+        kind = "channel" if step.kind == "event" and (step.source, step.target) in channels else step.kind
+        key = (step.source, step.target, kind)
+        arrows.setdefault(key, Arrow(*key, [])).labels.append(step.by)
     for (source, target, kind), arrow in list(arrows.items()):
         other = arrows.get((target, source, kind))
-        if other and (source, target, kind) in arrows and (kind == "device" or other.labels == arrow.labels):
-            arrow.labels, arrow.back = list(dict.fromkeys(arrow.labels + other.labels)), True
+        if other and arrow is arrows.get((source, target, kind)) and other.labels == arrow.labels:
+            arrow.back = True
             del arrows[target, source, kind]
-    return list(arrows.values())
+    yield from arrows.values()
+    for chooser in scene.choosers:
+        yield Arrow(chooser, FRAMES, "tau0", [scene.choice])
+    for touch in touches(scene):
+        ends = (touch.subject, of_devices(touch.devices)) if touch.gives else (of_devices(touch.devices), touch.subject)
+        if touch.gives or touch.takes:
+            yield Arrow(*ends, "device", list(dict.fromkeys(touch.gives + touch.takes)), bool(touch.gives and touch.takes))
 
 
 def dot_text(scene):
     """All nodes, and the arrows with what they are by."""
-    arrows = arrows_of(flows(scene))
+    arrows = list(arrows_of(scene))
     key = "".join(f"{KINDS[kind][1]}\\l" for kind in KINDS if any(arrow.kind == kind for arrow in arrows))
     lines = [f"digraph {quoted(f'the direct flows of {scene.source}')} {{",
              f"  graph [rankdir=LR, pad=.3, nodesep=.4, ranksep=.7, labeljust=l, fontsize=10, fontname={quoted(FONT)}, label=\"{key}\"]",
@@ -157,7 +93,7 @@ def dot_text(scene):
     for subject in scene.subjects:
         lines.append(f"  {quoted(subject.name)} [label=\"{shown(subject.name)}\\nCPU {subject.cpu}\", fillcolor=\"{SHADES[subject.cpu]}\"]")
     for body in scene.bodies:
-        lines.append(f"  {quoted(of_devices(body))} [label=\"{shown(body.title)}\", shape=box3d, style=filled, fillcolor=\"#f2f2f2\"]")
+        lines.append(f"  {quoted(of_devices(body.title))} [label=\"{shown(body.title)}\", shape=box3d, style=filled, fillcolor=\"#f2f2f2\"]")
     if scene.choosers:
         lines.append(f"  {quoted(FRAMES)} [label=\"{FRAMES}\\n(all subjects)\", shape=note, style=filled, fillcolor=\"#ffffff\"]")
     for arrow in arrows:
@@ -166,13 +102,15 @@ def dot_text(scene):
     return "\n".join([*lines, "}", ""])
 
 
-def of_devices(body):
-    """The node of devices; a device may have a subject's name."""
-    return f"device {body.title}"
+def of_devices(title):
+    """The node of devices; one may have a subject's name."""
+    return f"device {title}"
 
 
 def label(labels):
     """What an arrow is by, in a few lines; all of it where the pointer is, if some is left out."""
+    # an event of a channel has its name in front
+    labels = [text for text in labels if not any(other.startswith(f"{text}: ") for other in labels)]
     lines = [shown(text) for text in labels[:MOST_LINES]]
     lines += [f"and {len(labels) - MOST_LINES} more"] if len(labels) > MOST_LINES else []
     whole = f", tooltip={quoted(', '.join(labels))}" if lines != labels else ""

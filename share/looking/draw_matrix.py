@@ -2,7 +2,7 @@
 from dataclasses import dataclass
 
 from looking.image import spread
-from looking.scene import scene_of
+from looking.scene import add_system, scene_of
 from looking.svg import Picture, widest
 from looking.system import size_text
 
@@ -37,13 +37,12 @@ class Row:
 
 def add_arguments(parser):
     """The words of this picture."""
-    parser.add_argument("system", metavar="SYSTEM", help="a policy, or an image, which tells places too")
-    parser.add_argument("dma", metavar="DMA", nargs="?", help="the file of DMA tables of an image's build")
+    add_system(parser)
 
 
 def draw(arguments):
     """The picture."""
-    scene, picture = scene_of(arguments.system, arguments.dma), Picture()
+    scene, picture = scene_of(arguments), Picture()
     columns = [(f"CPU {subject.cpu}", subject.name, subject) for subject in scene.by_cpu]
     columns += [("DMA", body.title, body) for body in scene.bodies if body.sights]
     sections = list(sections_of(scene, [column for _, _, column in columns]))

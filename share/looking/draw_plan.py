@@ -1,7 +1,7 @@
 """look draw plan: the scheduling plan, with the share and the longest wait of each group."""
 from itertools import product
 
-from looking.scene import scene_of
+from looking.scene import add_system, scene_of
 from looking.svg import Picture, round_step, shortened, widest, width
 
 HELP = "bars of the scheduling plan, share and longest wait of each group"
@@ -16,12 +16,12 @@ LEFT, WIDE, LEAST, BAR = 62, 900, 220, 32
 
 def add_arguments(parser):
     """The words of this picture."""
-    parser.add_argument("system", metavar="SYSTEM", help="a policy, or an image")
+    add_system(parser)
 
 
 def draw(arguments):
     """The picture."""
-    scene, picture = scene_of(arguments.system), Picture()
+    scene, picture = scene_of(arguments), Picture()
     y = heading(picture, scene)
     longest = max(frame.ticks for frame in scene.frames)
     for number, frame in enumerate(scene.frames):

@@ -1,6 +1,7 @@
 """look draw trace: the turns of a run, by CPU and subject, with arrows from calls to deliveries."""
 import pathlib
 from bisect import bisect_right
+from collections import Counter
 from dataclasses import dataclass
 from itertools import accumulate
 
@@ -19,13 +20,15 @@ title is what `look trace` says of it. Behind it is grey in the ticks that its g
 arrow leads from the call or trap that raised an event first to the event's delivery, a
 dashed one from a handover to the first turn of the subject that gets the CPU. Above stand
 the value of an output, hexadecimal, and the name of a device's interrupt. What the text
-doesn't tell is left out."""
+doesn't tell is left out. More than 400 ticks are summed up: how many turns of each kind
+there are in so many ticks."""
 # the kinds of lines, each with its colour
 KINDS = {"instruction": "#5b8fc4", "jump, flag, NOP": "#b7d3ec", "store": "#f3a552", "call": "#4d9a55", "halt": "#a9a9a9",
          "event": "#8157ad", "output": "#d5483f", "trapped fault": "#7a4a3a", "fault, stops": "#000000"}
 SLOT, ARROW, HANDOVER = "#ececec", "#2f6f37", "#7a4a3a"
-MOST, SHOWN = 400, 150
-LANE, HIGH, WIDE = 32, 19, 1200
+SHOWN, MOST_EACH, MOST = 150, 400, 10_000
+COLUMNS, LEAST_COLUMNS = 300, 40
+HIGH, HIGH_SUMS, GAP, WIDE = 19, 44, 13, 1200
 
 
 @dataclass
@@ -52,36 +55,34 @@ def add_arguments(parser):
     parser.add_argument("trace", metavar="TRACE", help="what `muen run` printed; - is standard input")
     parser.add_argument("--from", metavar="TICK", dest="first", type=int, help="the first tick that is drawn; without it, that of the text")
     parser.add_argument("--until", metavar="TICK", dest="end", type=int,
-                        help=f"the tick behind the last; at most {MOST} are drawn, {SHOWN} or as many as there are without it")
+                        help=f"the tick behind the last; at most {MOST} are drawn, and {SHOWN} without it")
 
 
 def draw(arguments):
     """The picture."""
     system, text = System(arguments.image), read_text(arguments.trace, 1 << 30)
-    ticks = [turn.tick for _, turn in lines_of(text, arguments.trace) if turn]
-    first = min(ticks, default=0) if arguments.first is None else arguments.first
-    if first > max(ticks, default=-1):
+    teller = Teller(system, lines_of(text, arguments.trace), arguments.trace)
+    first = teller.ticks.start if arguments.first is None else arguments.first
+    if first >= teller.ticks.stop:
         raise Wrong(f"{arguments.trace}: no turn from tick {first} on is in it")
-    end = min(first + SHOWN, max(ticks) + 1) if arguments.end is None else arguments.end
+    end = min(first + SHOWN, teller.ticks.stop) if arguments.end is None else arguments.end
     if not 0 <= first < end <= first + MOST:
-        raise Wrong(f"from {first} until {end}: want 1 to {MOST} ticks; --from and --until choose them")
-    run = Run(system, text, arguments.trace, first, end)
+        raise Wrong(f"from {first} until {end}: want 1 to {MOST} ticks")
+    run = Run(teller, lines_of(text, arguments.trace), first, end)
     return drawn(run, first, end, f"ticks {first} to {end - 1} of a run of {pathlib.Path(arguments.image).name}")
 
 
 class Run:
-    """Goes through a text: the cells and slots of a window of ticks, and the arrows that end in it."""
+    """Goes through lines: the cells and slots of a window of ticks, and the arrows that end in it."""
 
-    def __init__(self, system, text, source, first, end):
-        self.system, self.first = system, first
-        self.teller = Teller(system, lines_of(text, source), source)
-        self.replay = self.teller.replay
-        self.plan = Plan(system, self.replay.complete)
+    def __init__(self, teller, lines, first, end):
+        self.teller, self.system, self.replay, self.first = teller, teller.system, teller.replay, first
+        self.plan = Plan(self.system, self.replay.complete)
         self.cells, self.arrows, self.handed = [], [], {}
-        for _, turn in lines_of(text, source):
+        for _, turn in lines:
             if turn is None or turn.tick >= end:
                 break
-            self.take(turn, self.teller.numbers[turn.subject, turn.cpu])
+            self.take(turn, teller.numbers[turn.subject, turn.cpu])
         self.plan.go_to(end - 1)
 
     def take(self, turn, who):
@@ -173,12 +174,19 @@ def kind_of(turn):
 class Lanes:
     """Where ticks and subjects are."""
 
-    def __init__(self, subjects, first, end, top):
+    def __init__(self, image, first, end):
+        subjects = image.subjects
         self.order = sorted(range(len(subjects)), key=lambda who: subjects[who].cpu)
-        self.subjects, self.first, self.end, self.top = subjects, first, end, top
+        self.subjects, self.first, self.end, self.top = subjects, first, end, 0
         self.name_room = min(widest(subject.name for subject in subjects), 160)
         self.left = 12 + width("CPU 0") + 12 + self.name_room + 10
-        self.cell = max(3, min(24, WIDE // (end - first)))
+        # how many ticks are one column, whole rounds of the plan where there are enough of them, and how wide a tick is
+        count, plan = end - first, sum(frame.ticks for frame in image.frames)
+        self.step = 1 if count <= MOST_EACH else -(-count // COLUMNS)
+        if self.step > 1 and plan * LEAST_COLUMNS <= count:
+            self.step = -(-self.step // plan) * plan
+        self.cell = max(3, min(24, WIDE // count)) if self.step == 1 else WIDE / count
+        self.high = HIGH if self.step == 1 else HIGH_SUMS
 
     def x(self, tick):
         """Where a tick begins."""
@@ -186,17 +194,20 @@ class Lanes:
 
     def y(self, who):
         """The top of a subject's cells."""
-        return self.top + self.order.index(who) * LANE
+        return self.top + self.order.index(who) * (self.high + GAP)
 
 
 def drawn(run, first, end, title):
     """The picture of what was gone through."""
     picture, subjects = Picture(), run.system.image.subjects
-    lanes = Lanes(subjects, first, end, 0)
+    lanes = Lanes(run.system.image, first, end)
     used = {cell.kind for cell in run.cells}
-    marks = [(colour, kind) for kind, colour in KINDS.items() if kind in used] + [(SLOT, "its group's ticks")]
-    y = picture.legend(12, 20, max(lanes.x(end), 900), marks)
-    if run.arrows:
+    marks = [(colour, kind) for kind, colour in KINDS.items() if kind in used]
+    y = picture.legend(12, 20, max(lanes.x(end), 900), marks + ([(SLOT, "its group's ticks")] if lanes.step == 1 else []))
+    if lanes.step > 1:
+        picture.text(12, y, f"how many turns of each kind there are in {lanes.step} ticks, on top of one another", size=10, fill="#444")
+        y += 16
+    elif run.arrows:
         picture.text(12, y, "arrow: from the call or trap that raised an event to its delivery" + (
             "; dashed: to the first turn after a handover" if any(arrow.handover for arrow in run.arrows) else ""), size=10, fill="#444")
         y += 16
@@ -205,16 +216,38 @@ def drawn(run, first, end, title):
         f'<marker id="{name}" markerWidth="7" markerHeight="7" refX="6" refY="3.5" orient="auto"><path d="M0 1L6 3.5L0 6Z" fill="{colour}"/></marker>'
         for name, colour in (("arrow", ARROW), ("handover", HANDOVER))) + "</defs>")
     draw_names(picture, lanes)
-    for who, subject in enumerate(subjects):
-        for start, behind in run.plan.slots(subject.group, first, end):
-            picture.rect(lanes.x(start), lanes.y(who) - 3, (behind - start) * lanes.cell, HIGH + 6, fill=SLOT)
-    bottom = lanes.top + len(subjects) * LANE
-    draw_frames(picture, lanes, [one for one in run.plan.begun if first <= one[0] < end], len(run.system.image.frames) > 1, bottom)
-    draw_cells(picture, lanes, run.cells)
-    for arrow in run.arrows:
-        draw_arrow(picture, lanes, arrow)
+    bottom = lanes.top + len(subjects) * (lanes.high + GAP)
+    if lanes.step > 1:
+        draw_sums(picture, lanes, run.cells)
+    else:
+        draw_slots(picture, lanes, run.plan)
+        draw_frames(picture, lanes, run.plan.begun, len(run.system.image.frames) > 1, bottom)
+        draw_cells(picture, lanes, run.cells)
+        for arrow in run.arrows:
+            draw_arrow(picture, lanes, arrow)
     draw_ticks(picture, lanes.left, bottom, first, end, lanes.cell)
     return picture.svg(title)
+
+
+def draw_sums(picture, lanes, cells):
+    """Of each column how many turns are of which kind, on top of one another."""
+    counts = Counter(((cell.tick - lanes.first) // lanes.step, cell.who, cell.kind) for cell in cells)
+    for column, who in sorted({key[:2] for key in counts}):
+        first, y = lanes.first + column * lanes.step, lanes.y(who) + lanes.high
+        behind = min(first + lanes.step, lanes.end)
+        for kind in KINDS:
+            if count := counts[column, who, kind]:
+                high = lanes.high * count / (behind - first)
+                y -= high
+                picture.rect(lanes.x(first), y, (behind - first) * lanes.cell, high, fill=KINDS[kind],
+                             title=f"ticks {first} to {behind - 1} of {lanes.subjects[who].name}: {count} {kind}")
+
+
+def draw_slots(picture, lanes, plan):
+    """The ticks that the groups of subjects have."""
+    for who, subject in enumerate(lanes.subjects):
+        for start, behind in plan.slots(subject.group, lanes.first, lanes.end):
+            picture.rect(lanes.x(start), lanes.y(who) - 3, (behind - start) * lanes.cell, lanes.high + 6, fill=SLOT)
 
 
 def draw_names(picture, lanes):
@@ -223,17 +256,19 @@ def draw_names(picture, lanes):
     for who in lanes.order:
         subject, y = lanes.subjects[who], lanes.y(who)
         if subject.cpu != before:
-            picture.text(12, y + 14, f"CPU {subject.cpu}", fill="#555")
+            picture.text(12, y + lanes.high / 2 + 4, f"CPU {subject.cpu}", fill="#555")
         if before not in (None, subject.cpu):
             picture.path(f"M12 {y - 7:.1f}H{lanes.x(lanes.end):.1f}", stroke_width=".8")
         before = subject.cpu
-        picture.text(lanes.left - 10, y + 14, subject.name, room=lanes.name_room, text_anchor="end")
+        picture.text(lanes.left - 10, y + lanes.high / 2 + 4, subject.name, room=lanes.name_room, text_anchor="end")
 
 
 def draw_frames(picture, lanes, begun, many, bottom):
     """Where major frames begin, and which, where there are several."""
     free = 0
     for tick, frame in begun:
+        if not lanes.first <= tick < lanes.end:
+            continue
         x, text = lanes.x(tick), f"frame {frame}"
         picture.path(f"M{x:.1f} {lanes.top - 8}V{bottom}", stroke="#bbb", stroke_width=".8", stroke_dasharray="2 2")
         if many and x >= free:
@@ -246,7 +281,7 @@ def draw_cells(picture, lanes, cells):
     free = {}
     for cell in cells:
         x, y = lanes.x(cell.tick), lanes.y(cell.who)
-        picture.rect(x, y, lanes.cell - .5, HIGH, title=cell.title, fill=KINDS[cell.kind])
+        picture.rect(x, y, lanes.cell - .5, lanes.high, title=cell.title, fill=KINDS[cell.kind])
         if cell.value and x >= free.get(cell.who, 0):
             value = shortened(cell.value, 60, 8)
             picture.text(x, y - 2, value, title=cell.value if value != cell.value else "", size=8, fill="#a4241c")
@@ -258,15 +293,12 @@ def draw_arrow(picture, lanes, arrow):
     (begun, by), (ended, who) = arrow.start, arrow.end
     start = lanes.x(begun) + lanes.cell / 2 if begun >= lanes.first else lanes.left
     end, top, bottom = lanes.x(ended) + lanes.cell / 2, lanes.y(by), lanes.y(who)
-    if top == bottom:
-        bend = (top - 10, top - 10)
-    elif top < bottom:
-        top += HIGH
-        bend = ((top + bottom) / 2,) * 2
-    else:
-        bottom += HIGH
-        bend = ((top + bottom) / 2,) * 2
+    if top < bottom:
+        top += lanes.high
+    elif top > bottom:
+        bottom += lanes.high
+    bend = (top + bottom) / 2 if by != who else top - 10
     name, colour = ("handover", HANDOVER) if arrow.handover else ("arrow", ARROW)
     dashes = {"stroke_dasharray": "4 2"} if arrow.handover else {}
-    picture.path(f"M{start:.1f} {top}C{start:.1f} {bend[0]:.1f} {end:.1f} {bend[1]:.1f} {end:.1f} {bottom}",
+    picture.path(f"M{start:.1f} {top}C{start:.1f} {bend:.1f} {end:.1f} {bend:.1f} {end:.1f} {bottom}",
                  title=f"{name} of tick {begun} to tick {ended}", stroke=colour, marker_end=f"url(#{name})", **dashes)

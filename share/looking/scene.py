@@ -16,7 +16,6 @@ from looking.image_file import DEVICE, KERNEL, KINDS, MODES, STATE, MajorFrame
 from looking.policy import PAGE, first, name
 from looking.schema import number_of
 from looking.system import System
-from looking.ways import bodies
 from looking.wrong import Wrong
 
 
@@ -79,7 +78,7 @@ class Body:
     @property
     def title(self):
         """Its devices, and the domain."""
-        return ", ".join(self.devices) + (f" ({self.domain})" if self.domain else "")
+        return ", ".join(self.devices) + (f" in {self.domain}" if self.domain else "")
 
 
 @dataclass
@@ -101,9 +100,17 @@ class Scene:
         return sorted(self.subjects, key=lambda subject: subject.cpu)
 
 
-def scene_of(file, dma=None):
+def add_system(parser):
+    """The words that name a system."""
+    parser.add_argument("system", metavar="SYSTEM", help="a policy; or an image, which tells places, and no names of groups and events")
+    parser.add_argument("--dma", metavar="DMA", help="the file of DMA tables of the image's build")
+
+
+def scene_of(arguments):
     """The scene of an image with the file of its DMA tables, or of a policy."""
-    if read_bytes(file, 96 * MEBIBYTE).startswith(b"MUENIMG"):
+    file, dma = arguments.system, arguments.dma
+    # standard input can be read once alone, and is a policy
+    if file != "-" and read_bytes(file, 96 * MEBIBYTE).startswith(b"MUENIMG"):
         return image_scene(file, dma)
     if dma is not None:
         raise Wrong(f"{file}: it is no image, and a policy has its domains in itself")
@@ -195,11 +202,13 @@ def policy_scene(file):
         minors = [[(places[name(minor, "group")], number_of(minor.get("ticks"))) for minor in cpu.items("minorFrames")] for cpu in cpus]
         frames.append(MajorFrame(sum(ticks for _, ticks in minors[0]), minors))
     found = []
-    for _, devices, domain in bodies(policy):
+    for domain in policy.domains:
         sights = [Sight(by_name[name(node, "region")], number_of(node.get("virtualAddress")), name(node, "rights"))
-                  for node in (domain.items("memory") if domain is not None else [])]
-        if devices:
-            found.append(Body(sorted(devices), domain and f"domain {name(domain)}", sorted(sights, key=lambda one: one.address)))
+                  for node in domain.items("memory")]
+        found.append(Body(sorted(node.value for node in domain.items("devices")), f"domain {name(domain)}",
+                          sorted(sights, key=lambda one: one.address)))
+    domestic = {device for domain in found for device in domain.devices}
+    found = [body for body in found if body.devices] + [Body([name(device)]) for device in policy.devices if name(device) not in domestic]
     tau0 = policy.tau0
     return Scene(pathlib.Path(file).name, policy.cpus, subjects, things, groups, frames, found,
                  name(tau0, "region") if tau0 else None, [name(tau0, "subject")] if tau0 else [])
@@ -232,7 +241,7 @@ def policy_causes(policy, node):
         mode = first(policy.channels, end.channel).text("hasEvent")
         for other in policy.all_ends:
             if mode and end.role == "writer" and other.role == "reader" and other.channel == end.channel:
-                yield Cause("call", number_of(end.call), mode, name(other.subject), number_of(other.vector) or 0)
+                yield Cause("call", number_of(end.call), mode, name(other.subject), number_of(other.vector) or 0, end.channel)
     for entry in node.items("sources"):
         event = name(entry, "event")
         mode = first(policy.events, event).text("mode")

@@ -50,6 +50,8 @@ class Teller:
                 first, last = first if places else turn.tick, turn.tick
                 places.add((self.numbers[turn.subject, turn.cpu], turn.pc))
         self.replay = Replay(system, first == 0)
+        # from the first turn's to the last one's
+        self.ticks = range(first, last + 1) if places else range(0)
         self.tick_width = len(str(last))
         self.name_width = max(len(subject.name) for subject in system.image.subjects)
         self.place_width = max((len(self.where(who, pc)) for who, pc in places), default=1)
