@@ -35,13 +35,15 @@ def granted_ports(subject):
 
 def granted_msrs(subject):
     """Ranges of MSRs, each with its rights."""
-    bitmap, found = subject.msr_bitmap.content, []
-    for first, at in MSR_RANGES:
-        reads = set(zero_bits(bitmap[at:at + 1024]))
-        writes = set(zero_bits(bitmap[at + WRITES:at + WRITES + 1024]))
-        for rights, numbers in (("r", reads - writes), ("w", writes - reads), ("rw", reads & writes)):
-            found += [(first + low, first + high, rights) for low, high in ranges(sorted(numbers))]
-    return sorted(found)
+    reads, writes = ({first + bit for first, at in MSR_RANGES for bit in zero_bits(subject.msr_bitmap.content[at + half:at + half + 1024])}
+                     for half in (0, WRITES))
+    return by_rights(reads, writes)
+
+
+def by_rights(reads, writes):
+    """Ranges of the numbers that may be read, written, or both, ascending, each with its rights."""
+    kinds = (("r", reads - writes), ("w", writes - reads), ("rw", reads & writes))
+    return sorted((low, high, rights) for rights, numbers in kinds for low, high in ranges(sorted(numbers)))
 
 
 def area_indexes(subject):

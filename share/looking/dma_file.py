@@ -90,6 +90,16 @@ def domain_of(entry):
     return (high >> 8 & 0xffff) - 1, low & ADDRESS_BITS
 
 
+def domains_of(file):
+    """Of each domain that has devices its number, their names, and what they reach."""
+    known = {(master.bus, master.function): master.name for master in file.masters}
+    found = {}
+    for key, entry in context_entries(file):
+        if key in known and (domain := domain_of(entry)):
+            found.setdefault(domain, []).append(known[key])
+    return [(number, names, Reaches(file, table, names[0]).found) for (number, table), names in sorted(found.items())]
+
+
 class Reaches:
     """What a device reaches by its highest table."""
 

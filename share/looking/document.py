@@ -1,5 +1,6 @@
 """A policy's file as the forms read it, and how they write places."""
-from looking.places import NotJson, read_bytes, read_file
+from looking.files import read_bytes
+from looking.places import NotJson, document_of
 from looking.policy import Policy
 from looking.rules import broken
 from looking.schema import faults
@@ -13,7 +14,7 @@ def at(file, spot):
 
 def opened(file):
     """The document of a file, or NotJson."""
-    return read_bytes(read_file(file))
+    return document_of(read_bytes(file))
 
 
 def lawful(file):

@@ -204,18 +204,23 @@ def dma_sections(system, file):
         domain = found.get((master.bus, master.function))
         rows = [f"at {master.bus_place}, {f'domain {domain[0]}' if domain else 'in no domain'}"]
         for reach in Reaches(file, domain[1], master.name).found if domain else ():
-            rows += reach_lines(system, reach)
+            rows += [reach_line(*one) for one in reached(system, reach)]
         yield f"DMA of {master.name}", rows
 
 
-def reach_lines(system, reach):
-    """Addresses of a device with the spans that they lead to."""
+def reach_line(span, place, address, size, rights):
+    """Addresses of a device with the span that they lead to."""
+    shows = span_part(span, place, size) if span else f"no memory at {place:x}"
+    return f"window {address:x} {size:x} {rights} {shows}"
+
+
+def reached(system, reach):
+    """Parts of what a device reaches: the span or none, the place, the device's address, the size, the rights."""
     done = 0
     while done < reach.size:
         place = reach.place + done
         span = system.memory.span_at(place)
         end = span.end if span else system.memory.next_place(place) or place + reach.size
         size = min(end - place, reach.size - done)
-        shows = span_part(span, place, size) if span else f"no memory at {place:x}"
-        yield f"window {reach.address + done:x} {size:x} {reach.rights} {shows}"
+        yield span, place, reach.address + done, size, reach.rights
         done += size

@@ -10,6 +10,7 @@ from looking.wrong import Wrong
 # the forms, each with the module of this package that has HELP, add_arguments and run
 FORMS = {
     "diff": "diff",
+    "draw": "draw",
     "image": "image",
     "lint": "lint",
     "record": "record",

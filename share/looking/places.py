@@ -6,11 +6,8 @@ from __future__ import annotations
 
 import json
 import math
-import pathlib
 import re
 from dataclasses import dataclass, field
-
-from looking.wrong import Wrong
 
 DEEPEST = 127
 BLANKS = " \t\n\r"
@@ -306,24 +303,11 @@ class Reader:
         return here == closing
 
 
-def read(text):
-    """The document of a text, or NotJson."""
-    return Reader(text).document()
-
-
-def read_bytes(data):
+def document_of(data):
     """The document of these bytes, or NotJson."""
     try:
         text = data.decode("utf-8")
     except UnicodeDecodeError as error:
         before = data[:error.start].decode("utf-8")
         raise NotJson(Source(before).spot(len(before)), f"the byte {data[error.start]:02x} is no UTF-8") from None
-    return read(text)
-
-
-def read_file(name):
-    """The bytes of a file of this name, or Wrong."""
-    try:
-        return pathlib.Path(name).read_bytes()
-    except OSError as error:
-        raise Wrong(f"{name}: {error.strerror}") from None
+    return Reader(text).document()

@@ -32,6 +32,7 @@ class State:
 @dataclass
 class Raised:
     """An event that waits: who raised it first and by which way, and when it was raised last."""
+    who: int
     by: str
     first: int
     last: int
@@ -179,7 +180,7 @@ class Replay:
             self.waiting[key].last = turn.tick
         else:
             by = f"{way} {which} of {self.system.name(number)}"
-            self.waiting[key] = Raised(by, turn.tick, turn.tick)
+            self.waiting[key] = Raised(number, by, turn.tick, turn.tick)
 
 
 def is_taken(state, found):

@@ -50,6 +50,8 @@ class Teller:
                 first, last = first if places else turn.tick, turn.tick
                 places.add((self.numbers[turn.subject, turn.cpu], turn.pc))
         self.replay = Replay(system, first == 0)
+        # from the first turn's to the last one's
+        self.ticks = range(first, last + 1) if places else range(0)
         self.tick_width = len(str(last))
         self.name_width = max(len(subject.name) for subject in system.image.subjects)
         self.place_width = max((len(self.where(who, pc)) for who, pc in places), default=1)
@@ -130,9 +132,13 @@ class Teller:
         if raised:
             last = f", last in {raised.last}" if raised.last != raised.first else ""
             return f"event {vector}: {raised.by} in tick {raised.first}{last}"
-        interrupts = [f"interrupt {one.name} of {device.name}" for device in self.system.image.devices
-                      for one in device.interrupts if (one.target, one.vector) == (who, vector)]
+        interrupts = [f"interrupt {one.name} of {device.name}" for device, one in self.interrupts(who, vector)]
         return f"event {vector}: {' or '.join(interrupts) or 'nothing in this text raised it'}"
+
+    def interrupts(self, who, vector):
+        """The devices' interrupts that come to a subject under this vector, each with its device."""
+        return [(device, one) for device in self.system.image.devices for one in device.interrupts
+                if (one.target, one.vector) == (who, vector)]
 
     def tell_exit(self, who, turn, found):
         """An exit: a halt, a call with its event, or a fault in words with that of its trap."""

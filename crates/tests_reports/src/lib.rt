@@ -11,6 +11,8 @@ mod reports;
 #[cfg(test)]
 mod run_systems;
 #[cfg(test)]
+mod running;
+#[cfg(test)]
 mod runs;
 #[cfg(test)]
 mod systems;

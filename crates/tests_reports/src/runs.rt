@@ -7,7 +7,7 @@ use std::test::Fail;
 use tests_support::{Ended, call, file, numbers};
 
 // The image of a policy.
-fn image(alloc: Global, policy: &str) -> Result<Vec<u8>, Fail> {
+pub(crate) fn image(alloc: Global, policy: &str) -> Result<Vec<u8>, Fail> {
     let mut held = Vec::new(alloc);
     held.push(file(alloc, "p", policy.as_bytes())?)?;
     let mut files = MemFiles::make(held, Vec::new(alloc));
@@ -35,7 +35,7 @@ fn ran(alloc: Global, image: &[u8], record: &str) -> Result<Ended, Fail> {
 }
 
 // What the run of an image prints.
-fn text_of(alloc: Global, image: &[u8], record: &str) -> Result<String, Fail> {
+pub(crate) fn text_of(alloc: Global, image: &[u8], record: &str) -> Result<String, Fail> {
     let ended = ran(alloc, image, record)?;
     match ended.status {
         0 => Ok(ended.out),

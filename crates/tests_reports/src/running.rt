@@ -1,0 +1,70 @@
+//! Systems of images that are made ready, stepped and driven.
+ghost use Rattle.std.specs.Prelude.{◌≡◌, IfOk};
+
+use crate::runs::{image, text_of};
+use muen_outside::MemSink;
+use muen_run::{Ready, Record, Seq, drive, ready, unpack};
+use std::alloc::Global;
+use std::test::Fail;
+
+/// A subject that loads a number and halts.
+const ONE: &str = r#"{"processor":{"logicalCpus":1},
+"memoryBlocks":[{"name":"ram","physicalAddress":1048576,"size":65536}],
+"memory":[{"name":"code","size":4096,"content":{"hex":"01100000050000001700000000000000"}}],
+"subjects":[{"name":"one","cpu":0,"entry":4194304,
+"memory":[{"region":"code","virtualAddress":4194304,"rights":"rx"}]}],
+"scheduling":{"groups":[{"name":"g","cpu":0,"subjects":["one"]}],
+"majorFrames":[{"cpus":[{"cpu":0,"minorFrames":[{"group":"g","ticks":10}]}]}]}}"#;
+
+// The system of an image, ready to run for three ticks in which nothing reaches it.
+fn system(alloc: Global, image: &[u8]) -> Result<Ready, Fail>
+    ensures { IfOk result (λ r. r.kernel.tick ≡ 0) }
+{
+    let Ok(parts) = unpack(alloc, image) else {
+        return Err(Fail::new("no image"));
+    };
+    let nothing = Record {
+        end: 3,
+        inputs: Seq::new(alloc),
+        orders: Seq::new(alloc),
+    };
+    match ready(alloc, parts, nothing) {
+        Ok(system) => Ok(system),
+        Err(_) => Err(Fail::new("no memory")),
+    }
+}
+
+// The first turn of a system; whether its walk then holds the translation of the first fetch, and of an
+// address behind it.
+fn held_after_a_turn(system: Ready) -> (bool, bool) {
+    let Ready { kernel, .. } = system;
+    let mut kernel = kernel;
+    kernel.begin_tick();
+    kernel.turn(0);
+    let walk = kernel.walker();
+    (walk.holds(0x10_001e, 0x40_0000), walk.holds(0x10_001e, 0x40_1000))
+}
+
+// A system that is made ready keeps translations.
+#[test]
+fn ready_is_cached(rt: HostRuntime) -> Result<(), Fail> {
+    let alloc = rt.alloc();
+    let image = image(alloc, ONE)?;
+    let system = system(alloc, image.as_slice())?;
+    assert_eq!(rt; held_after_a_turn(system), (true, false));
+    Ok(())
+}
+
+// What driving it puts is what `run` prints.
+#[test]
+fn driven(rt: HostRuntime) -> Result<(), Fail> {
+    let alloc = rt.alloc();
+    let image = image(alloc, ONE)?;
+    let mut out = MemSink::make(alloc, 10_000, Vec::new(alloc), 0)?;
+    let driven = drive(system(alloc, image.as_slice())?, &mut out);
+    assert!(rt; driven.is_ok());
+    let printed = text_of(alloc, image.as_slice(), "end 3\n")?;
+    assert!(rt; out.text() == printed.as_bytes());
+    assert!(rt; printed.starts_with("0 0 one 0000000000400000 r1=0000000000000005\n"));
+    Ok(())
+}

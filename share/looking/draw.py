@@ -1,0 +1,35 @@
+"""look draw: pictures of a run and of a system, as SVG."""
+import argparse
+import pathlib
+
+from looking import draw_flows, draw_matrix, draw_plan, draw_trace
+from looking.wrong import Wrong
+
+HELP = "draws a run's turns, the plan, who sees what, or the direct flows, as SVG"
+LONG_HELP = """Draws a picture, and prints it as SVG, which any browser shows. It stands by itself, with
+its whole words as titles of shortened ones; `look draw PICTURE --help` says more of each.
+The same input gives the same picture."""
+PICTURES = {"trace": draw_trace, "plan": draw_plan, "matrix": draw_matrix, "flows": draw_flows}
+
+
+def add_arguments(parser):
+    """The words of this form: those of each picture."""
+    pictures = parser.add_subparsers(dest="picture", metavar="PICTURE", required=True)
+    for name, module in PICTURES.items():
+        own = pictures.add_parser(name, help=module.HELP, description=module.LONG_HELP,
+                                  formatter_class=argparse.RawDescriptionHelpFormatter)
+        module.add_arguments(own)
+        own.add_argument("--output", metavar="FILE", help="write it into this file")
+
+
+def run(arguments):
+    """Prints the picture, or writes it into a file."""
+    text = PICTURES[arguments.picture].draw(arguments)
+    if arguments.output is None:
+        print(text, end="")
+        return 0
+    try:
+        pathlib.Path(arguments.output).write_text(text, encoding="ascii")
+    except OSError as error:
+        raise Wrong(f"{arguments.output}: {error.strerror}") from None
+    return 0

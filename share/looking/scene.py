@@ -1,0 +1,250 @@
+"""What pictures show of a system: that of a policy, or of an image with its DMA tables.
+
+Both say the same, but that an image has no names of groups, events and domains, and a policy no places.
+"""
+from __future__ import annotations
+
+import pathlib
+from dataclasses import dataclass, field
+
+from looking import bitmaps
+from looking.dma_file import domains_of, read_dma
+from looking.document import lawful
+from looking.files import MEBIBYTE, read_bytes
+from looking.image import reached
+from looking.image_file import DEVICE, KERNEL, KINDS, MODES, STATE, MajorFrame
+from looking.policy import PAGE, first, name
+from looking.schema import number_of
+from looking.system import System
+from looking.wrong import Wrong
+
+
+@dataclass(frozen=True)
+class Thing:
+    """A region, a channel, a device's memory or a page of the kernel, by the name that `map` prints."""
+    name: str
+    kind: str
+    size: int
+    place: int | None = field(default=None, compare=False)
+
+
+@dataclass(frozen=True)
+class Sight:
+    """A window on a thing; `part` says which part of it, where it isn't the whole."""
+    thing: Thing
+    address: int
+    rights: str
+    part: str = ""
+
+
+@dataclass(frozen=True)
+class Cause:
+    """An event that a subject raises by a call or a trap, with its target's name; 0 is no vector."""
+    way: str
+    number: int
+    mode: str
+    target: str
+    vector: int
+    name: str = field(default="", compare=False)
+
+
+@dataclass
+class Subject:
+    """What a subject has. Ports are with their device, and MSRs with their rights."""
+    name: str
+    cpu: int
+    sights: list[Sight] = field(default_factory=list)
+    ports: list[tuple[str, int, int]] = field(default_factory=list)
+    msrs: list[tuple[int, int, str]] = field(default_factory=list)
+    causes: list[Cause] = field(default_factory=list)
+    interrupts: list[tuple[str, str, int]] = field(default_factory=list)
+
+
+@dataclass
+class Group:
+    """A scheduling group, its first member foremost."""
+    name: str = field(compare=False)
+    cpu: int = 0
+    members: list[str] = field(default_factory=list)
+
+
+@dataclass
+class Body:
+    """A device in no domain, or those of a domain, with what they reach by themselves."""
+    devices: list[str]
+    domain: str | None = field(default=None, compare=False)
+    sights: list[Sight] = field(default_factory=list)
+
+    @property
+    def title(self):
+        """Its devices, and the domain."""
+        return ", ".join(self.devices) + (f" in {self.domain}" if self.domain else "")
+
+
+@dataclass
+class Scene:
+    """A system, by the name of its file. `choosers` may write the region that chooses the next major frame."""
+    source: str
+    cpus: int
+    subjects: list[Subject]
+    things: list[Thing]
+    groups: list[Group]
+    frames: list[MajorFrame]
+    bodies: list[Body]
+    choice: str | None
+    choosers: list[str]
+
+    @property
+    def by_cpu(self):
+        """The subjects, those of a CPU together."""
+        return sorted(self.subjects, key=lambda subject: subject.cpu)
+
+
+def add_system(parser):
+    """The words that name a system."""
+    parser.add_argument("system", metavar="SYSTEM", help="a policy; or an image, which tells places, and no names of groups and events")
+    parser.add_argument("--dma", metavar="DMA", help="the file of DMA tables of the image's build")
+
+
+def scene_of(arguments):
+    """The scene of an image with the file of its DMA tables, or of a policy."""
+    file, dma = arguments.system, arguments.dma
+    # standard input can be read once alone, and is a policy
+    if file != "-" and read_bytes(file, 96 * MEBIBYTE).startswith(b"MUENIMG"):
+        return image_scene(file, dma)
+    if dma is not None:
+        raise Wrong(f"{file}: it is no image, and a policy has its domains in itself")
+    return policy_scene(file)
+
+
+# ---- an image
+
+def image_scene(file, dma):
+    """What the bytes say."""
+    system = System(file)
+    image = system.image
+    things = {span.number: Thing(span.name, "state" if span.part == STATE else KINDS[span.kind], span.size, span.place)
+              for span in sorted(image.spans, key=lambda span: span.number)}
+
+    def sight(span, place, address, size, rights):
+        """What is seen there of a span, or of no span."""
+        if span is None:
+            return Sight(Thing(f"no memory at {place:x}", "nothing", size, place), address, rights)
+        part = "" if (place, size) == (span.place, span.size) else f"{size:x} from {place - span.place:x}"
+        return Sight(things[span.number], address, rights, part)
+
+    subjects = []
+    for number, one in enumerate(image.subjects):
+        subject = Subject(one.name, one.cpu, msrs=bitmaps.granted_msrs(one))
+        subject.sights = [sight(window.span, window.place, window.guest, window.size, window.rights)
+                          for window in system.view(number).windows]
+        ranges = [(device.name, low, high) for device in image.devices for low, high in device.ports]
+        for low, high in bitmaps.granted_ports(one):
+            subject.ports += cut(low, high, ranges)
+        subject.causes = [Cause(way, at, MODES[event.mode], system.name(event.target), event.vector)
+                          for way, events in (("call", one.calls), ("trap", one.traps)) for at, event in sorted(events.items())]
+        subject.interrupts = [(device.name, irq.name, irq.vector) for device in image.devices
+                              for irq in device.interrupts if irq.target == number]
+        subjects.append(subject)
+    shown = {sight.thing for subject in subjects for sight in subject.sights}
+    listed = [thing for thing in things.values() if thing.kind not in ("state", KINDS[KERNEL]) or thing in shown]
+    listed += sorted((thing for thing in shown if thing.kind == "nothing"), key=lambda thing: thing.place)
+    members = [[group.first, *(at for at, one in enumerate(image.subjects) if one.group == number and at != group.first)]
+               for number, group in enumerate(image.groups)]
+    groups = [Group(f"group {number}", group.cpu, [system.name(at) for at in members[number]])
+              for number, group in enumerate(image.groups)]
+    domains = [Body(sorted(names), f"domain {number}", [sight(*one) for reach in reaches for one in reached(system, reach)])
+               for number, names, reaches in (domains_of(read_dma(dma)) if dma is not None else ())]
+    domestic = {device for domain in domains for device in domain.devices}
+    others = [Body([device.name]) for device in image.devices if device.name not in domestic]
+    choosers = [] if image.choice is None else writers(subjects, things[image.choice.number])
+    return Scene(pathlib.Path(file).name, image.cpus, subjects, listed, groups, image.frames, domains + others,
+                 image.choice and image.choice.name, choosers)
+
+
+def cut(low, high, ranges):
+    """A range of ports as parts that are all of a device's range, or of none."""
+    edges = sorted({low, high + 1, *(edge for _, first, last in ranges for edge in (first, last + 1) if low < edge <= high)})
+    for first, behind in zip(edges, edges[1:]):
+        owner = next((device for device, start, end in ranges if start <= first <= end), "")
+        yield owner, first, behind - 1
+
+
+def writers(subjects, thing):
+    """Who may write a thing."""
+    return [subject.name for subject in subjects
+            if any(sight.thing == thing and "w" in sight.rights for sight in subject.sights)]
+
+
+# ---- a policy
+
+def policy_scene(file):
+    """What a policy grants."""
+    policy = lawful(file)
+    things = [Thing(name(node), kind, number_of(node.get("size")), number_of(node.get("physicalAddress")))
+              for kind, nodes in (("own", policy.memory), ("channel", policy.channels)) for node in nodes]
+    for subject in policy.subjects:
+        component = policy.component(subject)
+        things += [Thing(f"{name(subject)}|{name(node, 'logical')}", "provided", number_of(node.get("size")))
+                   for node in (component.items("provides") if component else [])]
+    things += [Thing(f"{name(subject)}:state", "state", PAGE) for subject in policy.subjects
+               if any(name(node, "subject") == name(subject) for one in policy.subjects for node in one.items("monitors"))]
+    things += [Thing(f"{name(device)}|{name(node)}", KINDS[DEVICE], number_of(node.get("size")), number_of(node.get("physicalAddress")))
+               for device in policy.devices for node in device.items("memory")]
+    by_name = {thing.name: thing for thing in things}
+    subjects = [policy_subject(policy, node, by_name) for node in policy.subjects]
+    places = {name(group): number for number, group in enumerate(policy.groups)}
+    groups = [Group(name(group), number_of(group.get("cpu")), [member.value for member in group.items("subjects")])
+              for group in policy.groups]
+    frames = []
+    for frame in policy.frames:
+        cpus = sorted(frame.items("cpus"), key=lambda cpu: number_of(cpu.get("cpu")))
+        minors = [[(places[name(minor, "group")], number_of(minor.get("ticks"))) for minor in cpu.items("minorFrames")] for cpu in cpus]
+        frames.append(MajorFrame(sum(ticks for _, ticks in minors[0]), minors))
+    found = []
+    for domain in policy.domains:
+        sights = [Sight(by_name[name(node, "region")], number_of(node.get("virtualAddress")), name(node, "rights"))
+                  for node in domain.items("memory")]
+        found.append(Body(sorted(node.value for node in domain.items("devices")), f"domain {name(domain)}",
+                          sorted(sights, key=lambda one: one.address)))
+    domestic = {device for domain in found for device in domain.devices}
+    found = [body for body in found if body.devices] + [Body([name(device)]) for device in policy.devices if name(device) not in domestic]
+    tau0 = policy.tau0
+    return Scene(pathlib.Path(file).name, policy.cpus, subjects, things, groups, frames, found,
+                 name(tau0, "region") if tau0 else None, [name(tau0, "subject")] if tau0 else [])
+
+
+def policy_subject(policy, node, things):
+    """What a subject has by itself, and by its component."""
+    subject = Subject(name(node), number_of(node.get("cpu")))
+    for window in policy.windows(node):
+        shown = {"provided": f"{name(node)}|{window.shows}", "state": f"{window.shows}:state",
+                 "device": f"{window.device}|{window.shows}"}.get(window.kind, window.shows)
+        subject.sights.append(Sight(things[shown], window.start, window.rights))
+    subject.sights.sort(key=lambda sight: sight.address)
+    for use in node.items("devices"):
+        device = first(policy.devices, use.text("device"))
+        ranges = [first(device.items("ioPorts"), port.value) for port in use.items("ioPorts")]
+        subject.ports += [(name(device), number_of(one.get("start")), number_of(one.get("end"))) for one in ranges]
+        subject.interrupts += [(name(device), name(irq, "irq"), number_of(irq.get("vector"))) for irq in use.items("irqs")]
+    subject.ports.sort(key=lambda one: one[1])
+    granted = {right: {index for one in node.items("msrs") if right in name(one, "rights")
+                       for index in range(number_of(one.get("start")), number_of(one.get("end")) + 1)} for right in "rw"}
+    subject.msrs = bitmaps.by_rights(granted["r"], granted["w"])
+    subject.causes = sorted(policy_causes(policy, node), key=lambda cause: (cause.way, cause.number))
+    return subject
+
+
+def policy_causes(policy, node):
+    """The events of a subject's channels, and those that are no channel's."""
+    for end in policy.ends(node):
+        mode = first(policy.channels, end.channel).text("hasEvent")
+        for other in policy.all_ends:
+            if mode and end.role == "writer" and other.role == "reader" and other.channel == end.channel:
+                yield Cause("call", number_of(end.call), mode, name(other.subject), number_of(other.vector) or 0, end.channel)
+    for entry in node.items("sources"):
+        event = name(entry, "event")
+        mode = first(policy.events, event).text("mode")
+        way = "call" if entry.get("call") is not None else "trap"
+        for target, other in policy.targets(event):
+            yield Cause(way, number_of(entry.get(way)), mode, name(target), number_of(other.get("vector")) or 0, event)
