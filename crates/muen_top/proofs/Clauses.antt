@@ -1,5 +1,5 @@
 -- The clauses of a whole call, from what came of its command.
-use Rattle.std.proofs.Common.{◌≡◌, inl, inr, ◌⊎◌, ◌≢◌, ℕ, ◌+◌, List, [], ◌∷◌, length, drop, Option, Some, None, IfSome, Result, Ok, Err, refl, sym, ap, subst, ◌∙◌}
+use Rattle.std.proofs.Common.{◌≡◌, inl, inr, ◌⊎◌, ◌≢◌, ℕ, ◌+◌, List, [], ◌∷◌, length, drop, Option, Some, None, IfSome, Result, Ok, Err, refl, sym, ap, subst, ◌∙◌, arith}
 use Rattle.std.specs.FinMap.{get}
 use Rattle.std.specs.List.{All}
 use Rattle.std.proofs.Math.Seq.{drop-append_seam}
@@ -231,7 +231,7 @@ writes_are old new looks ws is = sym (ap (λ h. drop (length old.writes) h.write
 -- ---- none has failed
 
 one_more : (n : ℕ) → n + 1 ≡ n → ⊥
-one_more n h = omega
+one_more n h = omega (arith, h)
 
 looks_well : (ls : List Look) → All (λ l. l.got ≢ Err FileFailed) ls → EndsInFault ls → ⊥
 looks_well ls well ends = (All-pop (λ l. l.got ≢ Err FileFailed) ls ends.front (Some (look ends.name ends.most (Err FileFailed))) ends.is well).1 refl
@@ -239,7 +239,7 @@ looks_well ls well ends = (All-pop (λ l. l.got ≢ Err FileFailed) ls ends.fron
 last_well : (ws : List Write) (image : List ℕ) (tables : Option (List ℕ)) (p : Source) (files : Store) → All (λ w. w.end ≢ Err FileFailed) ws → Wrote image tables p files (Err FileFailed) ws → ⊥
 last_well ws image tables p files well (image_last bytes of last is) =
     All-head (λ w. w.end ≢ Err FileFailed) (write image bytes (Err FileFailed)) [] (subst (All (λ w. w.end ≢ Err FileFailed)) is well) refl
-last_well ws image tables p files well (tables_last bytes of name named file tables_of is) =
+last_well ws image tables p files well (tables_last bytes of name file named tables_of is) =
     (All-pop (λ w. w.end ≢ Err FileFailed) ws (write image bytes (Ok tt) ∷ []) (Some (write name file (Err FileFailed))) is well).1 refl
 
 -- ---- a whole call
@@ -369,7 +369,7 @@ module _ (words : List (List ℕ)) (held held' : Option Store) (old new : Histor
   whole_done : (answer : Answer) → IsDone answer ws out out' → status ≡ statuses.Done → err' ≡ err → IsWhole answer ws out out' err err' status
   whole_done (prints text) did is quiet = (is, did.0, did.1, quiet)
   whole_done (writes image tables p files) did is quiet = (is, did.0, did.1, quiet)
-  whole_done (judges p files bytes i) did is quiet = inl (did.1.0, is, did.0, did.1.1, quiet)
+  whole_done (judges p files bytes i) did is quiet = inl (did.1, is, did.0, did.2, quiet)
   whole_done (stops reason) did is quiet = absurd did
 
   whole_found : (answer : Answer) (fault : Fault) → Finds answer (Some fault) → status ≡ statuses.NotSound → ws ≡ [] → out' ≡ out → Appended (line_of (fault_text fault)) err err' → IsWhole answer ws out out' err err' status
@@ -381,13 +381,13 @@ module _ (words : List (List ℕ)) (held held' : Option Store) (old new : Histor
   module _ (well : NothingFails old new out out' err err') where
     told_whole : (text : List ℕ) → Told text err err' → Appended (line_of text) err err'
     told_whole text (inl told) = told
-    told_whole text (inr failed) = absurd (one_more err.faults (sym (ap (λ s. s.faults) failed.state) ∙ well.lines))
+    told_whole text (inr cut) = absurd (one_more err.faults (sym (ap (λ s. s.faults) cut.state) ∙ well.lines))
 
     no_cut : (answer : Answer) → Prints answer (λ text. Failed text out out') → ⊥
-    no_cut (prints text) failed = one_more out.faults (sym (ap (λ s. s.faults) failed.state) ∙ well.puts)
-    no_cut (judges p files bytes i) failed = one_more out.faults (sym (ap (λ s. s.faults) failed.1.state) ∙ well.puts)
-    no_cut (writes image tables p files) failed = failed
-    no_cut (stops reason) failed = failed
+    no_cut (prints text) cut = one_more out.faults (sym (ap (λ s. s.faults) cut.state) ∙ well.puts)
+    no_cut (judges p files bytes i) cut = one_more out.faults (sym (ap (λ s. s.faults) cut.1.state) ∙ well.puts)
+    no_cut (writes image tables p files) cut = cut
+    no_cut (stops reason) cut = cut
 
     no_failed_write : (answer : Answer) → Unwritten FileFailed ws answer → ⊥
     no_failed_write (writes image tables p files) wrote = last_well ws image tables p files well.writes wrote

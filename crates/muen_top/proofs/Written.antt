@@ -1,7 +1,7 @@
 -- What `build` leaves by its writes.
 use Rattle.std.proofs.Common.{◌≡◌, ◌∙◌, refl, sym, ap, subst, ℕ, Bool, true, false, List, [], ◌∷◌, if◌then◌else◌, Option, Some, None, Result, Ok, Err}
 use Rattle.std.specs.FinMap.{get, insert}
-use Rattle.std.specs.Prelude.{codes}
+use Rattle.std.specs.Prelude.{codes, option_map}
 use Rattle.std.specs.Str.{bytes_eq}
 use Rattle.image_pack.proofs.ImageSizes.{image_fits}
 use Rattle.muen_build.proofs.Documents.{admitted, other_bytes, own_bytes}
@@ -15,7 +15,7 @@ use Rattle.policy_lawful.specs.refusal.Refusal.{Refusal}
 use Rattle.policy_lawful.specs.source.Source.{Source}
 use Rattle.muen_top.specs.Answers.{answer_of, build_answer, image_answer, of_file}
 use Rattle.muen_top.specs.Calls.{IsDone}
-use Rattle.muen_top.specs.Commands.{build, boot, run, map, flows, verify, command_of}
+use Rattle.muen_top.specs.Commands.{build, boot, run, map, flows, verify, load, load_number, command_of}
 use Rattle.muen_top.specs.Headline.{HoldsBuilt, HoldsPolicy, HoldsWanted, WritesBuilt, after_writes}
 use Rattle.muen_top.specs.Images.{IsLast, Wrote, image_last, tables_last}
 use Rattle.muen_top.specs.Tables.{HoldsTablesFor, IsTablesFor}
@@ -43,15 +43,18 @@ three_so false false true is_verify policy image name a b h = cc (h)
 three_so false false false true policy image name a b h = cc (h)
 three_so false false false false policy image name a b h = cc (h)
 
-two_so : (is_map is_flows : Bool) (policy image name a : List ℕ) → (if is_map then Some (map a) else (if is_flows then Some (flows a) else None)) ≡ Some (build policy image (Some name)) → ⊥
-two_so true is_flows policy image name a h = cc (h)
-two_so false true policy image name a h = cc (h)
-two_so false false policy image name a h = cc (h)
+two_so : (is_map is_flows is_load : Bool) (policy image name a : List ℕ) (number : Option ℕ)
+    → (if is_map then Some (map a) else (if is_flows then Some (flows a) else (if is_load then option_map load number else None))) ≡ Some (build policy image (Some name)) → ⊥
+two_so true is_flows is_load policy image name a number h = cc (h)
+two_so false true is_load policy image name a number h = cc (h)
+two_so false false true policy image name a None h = cc (h)
+two_so false false true policy image name a (Some n) h = cc (h)
+two_so false false false policy image name a number h = cc (h)
 
 pub differ : (words : List (List ℕ)) (policy image name : List ℕ) → command_of words ≡ Some (build policy image (Some name)) → bytes_eq image name ≡ false
 differ [] policy image name h = absurd (cc (h))
 differ (word ∷ []) policy image name h = absurd (cc (h))
-differ (word ∷ a ∷ []) policy image name h = absurd (two_so (bytes_eq word (codes "map")) (bytes_eq word (codes "flows")) policy image name a h)
+differ (word ∷ a ∷ []) policy image name h = absurd (two_so (bytes_eq word (codes "map")) (bytes_eq word (codes "flows")) (bytes_eq word (codes "load")) policy image name a (load_number a) h)
 differ (word ∷ a ∷ b ∷ []) policy image name h = absurd (three_so (bytes_eq word (codes "build")) (bytes_eq word (codes "boot")) (bytes_eq word (codes "run")) (bytes_eq word (codes "verify")) policy image name a b h)
 differ (word ∷ a ∷ b ∷ c ∷ []) policy image name h = differ_so (bytes_eq b c) (bytes_eq word (codes "run")) policy image name a b c refl (bytes_eq word (codes "build")) h
 differ (word ∷ a ∷ b ∷ c ∷ d ∷ rest) policy image name h = absurd (cc (h))

@@ -1,8 +1,7 @@
 -- The commands of the program (this project's own).
-use Rattle.std.specs.Prelude.{ℕ, ◌^◌, List, [], ◌∷◌, Option, Some, None, option_map, codes, if◌then◌else◌}
-use Rattle.std.specs.Result.{result_ok}
+use Rattle.std.specs.Prelude.{ℕ, ◌^◌, List, [], ◌∷◌, Option, Some, None, option_and_then, option_map, codes, nat_lt, if◌then◌else◌}
 use Rattle.std.specs.Str.{bytes_eq}
-use Rattle.record_text.specs.Words.{number_below}
+use Rattle.record_text.specs.Words.{number_of}
 
 pub data Command : Type 0 where
   -- a policy, an image, and tables for direct memory access, or none, by the names of their files: the policy's image is
@@ -22,9 +21,12 @@ pub data Command : Type 0 where
   -- a number: the system that is generated of it runs, and what its text comes to is printed
   load : ℕ → Command
 
+abbrev pub for_load : ℕ → Option ℕ
+for_load n = if nat_lt n (2 ^ 16) then Some n else None
+
 -- the number below 2 ^ 16 that a word spells
 abbrev pub load_number : List ℕ → Option ℕ
-load_number word = result_ok (number_below (2 ^ 16) word)
+load_number word = option_and_then for_load (number_of word)
 
 -- the command that the words after the program's name ask for; none where they have no command's form
 abbrev pub command_of : List (List ℕ) → Option Command

@@ -8,7 +8,7 @@ ghost use Rattle.generated_system.specs.System.{generated_system};
 ghost use Rattle.muen_outside.specs.Puts.{Puts};
 ghost use Rattle.policy_lawful.specs.Contents.{no_files};
 ghost use Rattle.subject_model.specs.Trace.{trace_of};
-ghost use Rattle.muen_top.specs.Generated.{HoldsGenerated};
+ghost use Rattle.muen_top.specs.GeneratedFiles.{HoldsGenerated};
 ghost use Rattle.muen_top.specs.LoadText.{load_text, summary};
 ghost use Rattle.muen_top.specs.Runs.{RunsTo};
 
@@ -61,6 +61,7 @@ fn digest(alloc: Global, text: &[u8]) -> Result<String, NoMemory>
 }
 
 // Two subjects on each of the CPUs, of which there are one to four.
+#[tactic(auto, using(crate::proofs::GeneratedRuns::many_subjects))]
 fn subjects_of(number: u16) -> u16
     ensures { result ≡ length (generated_system number).subjects }
 {
@@ -68,6 +69,7 @@ fn subjects_of(number: u16) -> u16
 }
 
 // Prints how many subjects and ticks there are, and what a text comes to.
+#[tactic(auto, unfolding(generated_system::specs::Record::generated_record))]
 fn put_summary<S: Sink>(
     number: u16,
     text: &[u8],
@@ -103,6 +105,7 @@ fn summed_up(alloc: Global, number: u16) -> Result<(MemSink, String), NoMemory>
 }
 
 /// Runs the system that is generated of a number, and prints what comes of it.
+#[tactic(auto, unfolding(crate::specs::LoadText::load_text))]
 pub(crate) fn load<'a, S: Sink>(alloc: Global, number: u16, out: &mut S) -> Outcome<'a>
     ensures { RunsTo (load_text number) (S.state out.old) (S.state out.new) result }
 {

@@ -1,16 +1,16 @@
 -- What `boot` prints of the files that are generated of a number.
-use Rattle.std.proofs.Common.{◌≡◌, ℕ, ◌<◌, ◌%◌, Bool, true, false, List, [], ◌∷◌, ◌++◌, map, length, Option, Some, None, Result, Ok, Err, refl, sym, ap, subst, ◌∙◌, inl, inr, zero, suc, true≢false}
+use Rattle.std.proofs.Common.{◌≡◌, ℕ, ◌+◌, ◌<◌, ◌%◌, Bool, true, false, List, [], ◌∷◌, ◌++◌, map, length, Option, Some, None, Result, Ok, Err, refl, sym, ap, subst, ◌∙◌, inl, inr, zero, suc, true≢false, arith}
 use Rattle.std.specs.Prelude.{◌&&◌, codes, nat_lt, if◌then◌else◌}
-use Rattle.std.specs.FinMap.{get, get-from_entries}
+use Rattle.std.specs.FinMap.{get}
 use Rattle.std.specs.List.{find, flat_map, list_all}
 use Rattle.std.specs.Option.{option_map_or}
 use Rattle.std.proofs.lemmas.Bool.{cases_Bool}
-use Rattle.generated_system.specs.Record.{generated_record}
+use Rattle.generated_system.specs.Record.{generated_bench, generated_record}
 use Rattle.generated_system.specs.System.{generated_system, system_with}
-use Rattle.guest_isa.specs.state.SubjectState.{SubjectState}
 use Rattle.image_soundness.specs.Bench.{devices_of}
 use Rattle.muen_build.specs.Refusals.{accepted_policy_of, refusal_of}
 use Rattle.muen_num.specs.declared.limits.TheConstants.{POLICY_MOST, RECORD_MOST}
+use Rattle.muen_outside.proofs.HeldMap.{get-stored}
 use Rattle.muen_outside.specs.MemFiles.{Shelf, store_of}
 use Rattle.muen_outside.specs.MemSink.{Filling, sink_of}
 use Rattle.muen_outside.specs.States.{History, SinkState, Write}
@@ -22,16 +22,16 @@ use Rattle.policy_lawful.specs.refusal.Refusal.{Refusal}
 use Rattle.policy_lawful.specs.source.Content.{Content}
 use Rattle.policy_lawful.specs.source.Content.TheVariants.{Zero, Fill, Inline, File}
 use Rattle.policy_lawful.specs.source.Source.{Source}
+use Rattle.record_text.specs.Bench.{Bench}
 use Rattle.record_text.specs.DeviceRecord.{DeviceRecord}
 use Rattle.record_text.specs.Reading.{record_of}
-use Rattle.subject_model.specs.Clock.{inputs_at, order_at, run_of, run_to}
-use Rattle.subject_model.specs.System.{System, first_page, start_of, system}
-use Rattle.subject_model.specs.Trace.{final_text, trace_of}
-use Rattle.view_text.specs.ViewText.{turn_text}
+use Rattle.subject_model.specs.Clock.{run_of}
+use Rattle.subject_model.specs.System.{first_page, start_of}
+use Rattle.subject_model.specs.Trace.{trace_of}
 use Rattle.muen_top.specs.Answers.{Answer, boot_answer, of_file, policy_answer, trace_answer}
 use Rattle.muen_top.specs.Calls.{ComesOfCommand, IsDone}
 use Rattle.muen_top.specs.Commands.{boot}
-use Rattle.muen_top.specs.Generated.{HoldsGenerated}
+use Rattle.muen_top.specs.GeneratedFiles.{HoldsGenerated}
 use Rattle.muen_top.specs.declared.outcome.Outcome.TheVariants.{Done}
 
 -- ---- a policy whose contents name no file
@@ -70,7 +70,7 @@ same_among f g x (i ∷ items) h =
 
 same_mapped : {X Y : Type 0} (f g : X → Y) → ((x : X) → f x ≡ g x) → (xs : List X) → map f xs ≡ map g xs
 same_mapped f g same [] = refl
-same_mapped f g same (x ∷ xs) = same x ∷ same_mapped f g same xs
+same_mapped f g same (x ∷ xs) = ap (λ y. y ∷ map f xs) (same x) ∙ ap (λ ys. g x ∷ ys) (same_mapped f g same xs)
 
 module _ (p : Source) (f g : Held) (none : names_no_file (items_of p) ≡ true) where
   same_bytes : (x : Thing) → initial_bytes p f x ≡ initial_bytes p g x
@@ -85,24 +85,33 @@ module _ (p : Source) (f g : Held) (none : names_no_file (items_of p) ≡ true) 
 
   same_text : (r : DeviceRecord) → trace_of p f r ≡ trace_of p g r
   unfolding trace_of run_of
-  same_text r =
-      ap
-      (λ y. let ran = run_to (system p) (inputs_at r) (order_at p r) r.end y in flat_map turn_text ran.lines ++ final_text p ran.state)
-      same_start
+  same_text r = rw same_start refl
 
 -- ---- the generated system is such
 
 none_with : (m first : ℕ) (code : ℕ → List ℕ) → m < 4 → names_no_file (items_of (system_with (1 + m) first code)) ≡ true
 unfolding items_of placed_items device_items
-none_with 0 first code h = refl
-none_with 1 first code h = refl
-none_with 2 first code h = refl
-none_with 3 first code h = refl
-none_with (suc (suc (suc (suc m)))) first code h = absurd (omega)
+none_with zero first code h = refl
+none_with (suc zero) first code h = refl
+none_with (suc (suc zero)) first code h = refl
+none_with (suc (suc (suc zero))) first code h = refl
+none_with (suc (suc (suc (suc m)))) first code h = absurd (omega arith)
 
 none_named : (n : ℕ) → names_no_file (items_of (generated_system n)) ≡ true
 unfolding generated_system
-none_named n = none_with (n % 4) _ _ omega
+none_named n = none_with (n % 4) _ _ (omega arith)
+
+-- ---- its subjects
+
+pub many_subjects : (n : ℕ) → 2 * (1 + n % 4) ≡ length (generated_system n).subjects
+unfolding generated_system
+many_subjects n = sym (length-map (numbers_below (2 * (1 + n % 4))) (subject (1 + n % 4)) ∙ length_numbers (2 * (1 + n % 4)))
+
+-- ---- its devices
+
+pub same_bench : (n : ℕ) → devices_of (generated_system n) ≡ generated_bench n
+unfolding generated_system
+same_bench n = refl
 
 -- ---- the run
 
@@ -114,10 +123,10 @@ module _ (n : ℕ) (s : Shelf) (g : HoldsGenerated n s) where
   p = generated_system n
 
   policy_there : get held (codes "policy") ≡ Some g.policy
-  policy_there = rw g.entries (get-from_entries ((codes "policy", g.policy) ∷ (codes "record", g.input) ∷ []) (codes "policy"))
+  policy_there = rw g.entries (get-stored ((codes "policy", g.policy) ∷ (codes "record", g.input) ∷ []) (codes "policy"))
 
   record_there : get held (codes "record") ≡ Some g.input
-  record_there = rw g.entries (get-from_entries ((codes "policy", g.policy) ∷ (codes "record", g.input) ∷ []) (codes "record"))
+  record_there = rw g.entries (get-stored ((codes "policy", g.policy) ∷ (codes "record", g.input) ∷ []) (codes "record"))
 
   -- where something is done, it is what is printed of the run
   abbrev Runs : Answer → SinkState → Type 0
