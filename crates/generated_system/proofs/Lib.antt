@@ -1,8 +1,16 @@
+pub mod Accepted
+pub mod CodeBytes
+pub mod CodeParts
+pub mod Depths
 pub mod Examples
 pub mod GeneratedRoom
 pub mod Lawful
 pub mod LinesRead
+pub mod Lines
+pub mod Lists
 pub mod Numerals
+pub mod PolicyRead
+pub mod PolicyText
 pub mod RecordRead
 pub mod Room
 pub mod Shapes

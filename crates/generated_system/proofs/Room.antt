@@ -66,14 +66,14 @@ pub record IsSmall (r : Region) : Type 0 where
   pub alignment : r.alignment ≡ 4096
   pub size : r.size ≤ 32768
 
-abbrev pub block : Block → Type 0
-block b = (b.physical_address ≡ 16777216) × (b.size ≡ 4194304)
+abbrev pub IsBlock : Block → Type 0
+IsBlock b = (b.physical_address ≡ 16777216) × (b.size ≡ 4194304)
 
 -- what ends here, with so many regions of eight pages
 abbrev end_of : ℕ → ℕ
 end_of many = 16777216 + 32768 * many
 
-free : (b : Block) (spots : _) (r : Region) (many : ℕ) → block b → IsSmall r → many < 128 → ((a z : ℕ) → end_of many ≤ a → is_apart spots a z ≡ true) → is_room (b ∷ []) spots r (end_of many) ≡ true
+free : (b : Block) (spots : _) (r : Region) (many : ℕ) → IsBlock b → IsSmall r → many < 128 → ((a z : ℕ) → end_of many ≤ a → is_apart spots a z ≡ true) → is_room (b ∷ []) spots r (end_of many) ≡ true
 unfolding is_room
 free b spots r many at small few h =
     let fixed = small.anywhere in
@@ -84,7 +84,7 @@ free b spots r many at small few h =
     let upper : nat_le (end_of many + r.size) (16777216 + 4194304) ≡ true = grind (arith, nat_tests) in
     rw (fixed, alignment, at.0, at.1, aligned, lower, upper, h (end_of many) r.size (omega arith)) refl
 
-lowest_here : (b : Block) (spots : _) (r : Region) (many : ℕ) → block b → IsSmall r → many < 128 → ((a z : ℕ) → end_of many ≤ a → is_apart spots a z ≡ true) → Found (lowest (b ∷ []) spots r) (end_of many)
+lowest_here : (b : Block) (spots : _) (r : Region) (many : ℕ) → IsBlock b → IsSmall r → many < 128 → ((a z : ℕ) → end_of many ≤ a → is_apart spots a z ≡ true) → Found (lowest (b ∷ []) spots r) (end_of many)
 unfolding lowest
 lowest_here b spots r many at small few h = found (is_room (b ∷ []) spots r) (end_of many) (free b spots r many at small few h) PHYSICAL_END (omega arith)
 
@@ -93,7 +93,7 @@ lowest_here b spots r many at small few h = found (is_room (b ∷ []) spots r) (
 beside : (address size end a z : ℕ) → address + size ≤ end → end ≤ a → (share_none a (a + z) address (address + size) && true) ≡ true
 beside address size end a z h l = grind (arith, nat_tests)
 
-placed : (b : Block) (turns : List (ℕ × Region)) (spots : _) (many : ℕ) → block b → All (λ x. IsSmall x.1) turns → many + length turns ≤ 127 → ((a z : ℕ) → end_of many ≤ a → is_apart spots a z ≡ true)
+placed : (b : Block) (turns : List (ℕ × Region)) (spots : _) (many : ℕ) → IsBlock b → All (λ x. IsSmall x.1) turns → many + length turns ≤ 127 → ((a z : ℕ) → end_of many ≤ a → is_apart spots a z ≡ true)
     → (out : _) × (placed_after (b ∷ []) turns spots ≡ Ok out)
 unfolding placed_after
 placed b [] spots many at small few h = (spots, refl)
@@ -140,7 +140,7 @@ pub record HasPlaces (b : Block) (regions : List Region) : Type 0 where
   pub addresses : List ℕ
   pub is : placement_in (b ∷ []) regions ≡ Ok addresses
 
-pub small_placed : (b : Block) (regions : List Region) → block b → All IsSmall regions → length regions ≤ 127 → HasPlaces b regions
+pub small_placed : (b : Block) (regions : List Region) → IsBlock b → All IsSmall regions → length regions ≤ 127 → HasPlaces b regions
 unfolding placement_in
 small_placed b regions at small few =
     let p = placed b (in_turn regions) [] 0 at (regions_in_turn IsSmall regions small) (omega (arith, length_in_turn regions)) (λ a z l. refl) in

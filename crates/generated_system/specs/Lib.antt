@@ -1,3 +1,4 @@
+pub mod PolicyValue
 pub mod Record
 pub mod RecordText
 pub mod System

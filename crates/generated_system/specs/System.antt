@@ -1,5 +1,5 @@
 -- The system that `load` makes of a number (this project's own): subjects in a ring, each with a channel to the next.
-use Rattle.std.specs.Prelude.{ℕ, zero, suc, ◌+◌, ◌-◌, ◌*◌, ◌/◌, ◌%◌, pos, negsuc, List, [], ◌∷◌, ◌++◌, map, replicate, codes, decimal, Some, None}
+use Rattle.std.specs.Prelude.{ℕ, ◌+◌, ◌-◌, ◌*◌, ◌/◌, ◌%◌, ◌==◌, pos, negsuc, List, [], ◌∷◌, ◌++◌, map, replicate, codes, decimal, Some, None, if◌then◌else◌}
 use Rattle.std.specs.List.{flat_map}
 use Rattle.guest_isa.specs.GuestIsa.{encoding_of}
 use Rattle.guest_isa.specs.declared.instr.Instr.{Instr}
@@ -11,6 +11,7 @@ use Rattle.muen_num.specs.declared.mode.EventMode.TheVariants.{Asap}
 use Rattle.policy_lawful.specs.rights.Caching.TheVariants.{Wb}
 use Rattle.policy_lawful.specs.rights.Rights.TheVariants.{Rx}
 use Rattle.policy_lawful.specs.rights.Role.TheVariants.{Writer, Reader}
+use Rattle.policy_lawful.specs.source.Block.{Block}
 use Rattle.policy_lawful.specs.source.Channel.{Channel}
 use Rattle.policy_lawful.specs.source.ChannelUse.{ChannelUse}
 use Rattle.policy_lawful.specs.source.Content.TheVariants.{Inline}
@@ -20,6 +21,7 @@ use Rattle.policy_lawful.specs.source.DeviceUse.{DeviceUse}
 use Rattle.policy_lawful.specs.source.Group.{Group}
 use Rattle.policy_lawful.specs.source.MinorFrame.{MinorFrame}
 use Rattle.policy_lawful.specs.source.Region.{Region}
+use Rattle.policy_lawful.specs.source.Scheduling.{Scheduling}
 use Rattle.policy_lawful.specs.source.Source.{Source}
 use Rattle.policy_lawful.specs.source.Subject.{Subject}
 
@@ -70,8 +72,7 @@ read_address = 6295552
 
 -- the first subject reads the device's port; the others do nothing
 abbrev pub polling : ℕ → Instr
-polling zero = In 9 0 One (pos 16)
-polling (suc i) = Nop
+polling i = if i == 0 then In 9 0 One (pos 16) else Nop
 
 -- goes round, and writes on what came together with its own number; a call tells the next subject. Behind that the handlers
 -- of vector 40, which counts, and of vector 41
@@ -134,8 +135,7 @@ whole_device = record {
 
 -- the first subject has it
 abbrev pub devices_of_subject : ℕ → List DeviceUse
-devices_of_subject zero = whole_device ∷ []
-devices_of_subject (suc i) = []
+devices_of_subject i = if i == 0 then whole_device ∷ [] else []
 
 -- ---- subjects
 
@@ -177,7 +177,18 @@ minor_frame i ticks = record { group = group_name i; ticks = ticks }
 abbrev pub frames : ℕ → ℕ → CpuFrames
 frames first j = record { cpu = j; minor_frames = minor_frame (2 * j) first ∷ minor_frame (2 * j + 1) (8 - first) ∷ [] }
 
+-- one major frame
+abbrev pub scheduling_with : ℕ → ℕ → Scheduling
+scheduling_with cpus first = record {
+  groups = map group (numbers_below (subjects_on cpus));
+  major_frames = record { cpus = map (frames first) (numbers_below cpus) } ∷ [];
+  tau0 = None;
+}
+
 -- ---- the system
+
+abbrev pub block : Block
+block = record { name = codes "ram"; physical_address = 16777216; size = 4194304 }
 
 -- with so many CPUs, on which the first subjects have so many ticks, and this code of each subject
 abbrev pub system_with : ℕ → ℕ → (ℕ → List ℕ) → Source
@@ -185,18 +196,14 @@ system_with cpus first code =
     let subjects : List ℕ = numbers_below (subjects_on cpus) in
     record {
       processor = record { logical_cpus = cpus };
-      memory_blocks = record { name = codes "ram"; physical_address = 16777216; size = 4194304 } ∷ [];
+      memory_blocks = block ∷ [];
       devices = device ∷ [];
       memory = map (code_region code) subjects;
       channels = map channel subjects;
       components = [];
       events = [];
       subjects = map (subject cpus) subjects;
-      scheduling = record {
-        groups = map group subjects;
-        major_frames = record { cpus = map (frames first) (numbers_below cpus) } ∷ [];
-        tau0 = None;
-      };
+      scheduling = scheduling_with cpus first;
       device_domains = [];
     }
 
