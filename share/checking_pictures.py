@@ -19,6 +19,7 @@ from itertools import groupby, product
 
 from checking import EXAMPLES, LOOK, PROGRAM, TOP, Wrong, call, look, looked, said, want
 from looking.draw_flows import dot_text
+from looking.draw_trace import KINDS, SLOT
 from looking.scene import scene_of
 from looking.svg import width
 
@@ -41,6 +42,7 @@ def checks(examples, rules):
     yield "look draw trace of packet_ring, by hand", lambda: of_example("packet_ring.json", above)
     yield "look draw flows of the gateway, by hand", gateway_flows
     yield "look draw, names of 63 letters", lambda: long_names(rules)
+    yield "look draw trace, printed in black and white", lightness
     yield "faults of look draw", faults
     there = [(name, picture) for name in examples for picture in pictures_of(name)]
     for name, picture in there:
@@ -255,6 +257,18 @@ def is_arrow(steps, begin, end, at):
     want(at(begin) - .2 <= numbers[0] < at(begin + 1) and at(end) < numbers[-2] < at(end + 1), True, f"the arrow from {begin} to {end}")
 
 
+def lightness():
+    """No two kinds of lines have nearly the same lightness (L* of CIE 1976)."""
+    def light(colour):
+        """The lightness of a colour, 0 to 100."""
+        parts = [int(colour[at:at + 2], 16) / 255 for at in (1, 3, 5)]
+        red, green, blue = (part / 12.92 if part <= .04045 else ((part + .055) / 1.055) ** 2.4 for part in parts)
+        bright = .2126 * red + .7152 * green + .0722 * blue
+        return 116 * bright ** (1 / 3) - 16 if bright > .008856 else 903.3 * bright
+    lights = sorted(map(light, (*KINDS.values(), SLOT, "#ffffff")))
+    want(min(later - earlier for earlier, later in zip(lights, lights[1:])) > 5, True, f"the lightness of kinds: {lights}")
+
+
 def gateway_arrows(built):
     """Which calls of cipher lead to which events of black: those of the calls in the ticks 27 and 33 come in tick 34, since
     black had no tick before 30 and needed four to turn events on."""
@@ -267,7 +281,7 @@ def gateway_arrows(built):
         subject, count, kind = re.fullmatch(r"ticks \d+ to \d+ of (\S+): (\d+) (.*)", title).groups()
         sums[subject, kind] += int(count)
     want(sums, Counter((line.split()[2], kind_of(line)) for line in built.lines), "the sums of all ticks")
-    grey = sorted(side(element, "y", "x", "width") for element in seen.root.iter(f"{SVG}rect") if element.get("fill") == "#ececec")[1:]
+    grey = sorted(side(element, "y", "x", "width") for element in seen.root.iter(f"{SVG}rect") if element.get("fill") == SLOT)[1:]
     want([round(one[2] / grey[0][2] * 30) for one in grey], [30, 10, 20, 10, 10, 10, 30], "the slots of plain, black, keys, slots, cipher")
 
 

@@ -6,9 +6,9 @@ from looking import draw_flows, draw_matrix, draw_plan, draw_trace
 from looking.wrong import Wrong
 
 HELP = "draws a run's turns, the plan, who sees what, or the direct flows, as SVG"
-LONG_HELP = """Draws a picture, and prints it as SVG, which any browser shows. It stands by itself, with
-its whole words as titles of shortened ones; `look draw PICTURE --help` says more of each.
-The same input gives the same picture."""
+LONG_HELP = """Draws a picture, and prints it as SVG, which any browser shows; where the pointer rests it
+tells more, as the whole of a name that is shortened. The same input gives the same picture.
+`look draw PICTURE --help` says more of each."""
 PICTURES = {"trace": draw_trace, "plan": draw_plan, "matrix": draw_matrix, "flows": draw_flows}
 
 

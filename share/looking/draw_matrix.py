@@ -1,5 +1,6 @@
 """look draw matrix: which subject sees which memory, with rights and addresses; ports, MSRs and interrupts."""
 from dataclasses import dataclass
+from itertools import accumulate
 
 from looking.image import spread
 from looking.scene import add_system, scene_of
@@ -86,16 +87,14 @@ def draw_row(picture, row, places, y):
     left, name_room, rooms, ends = places
     base = y + row.high / 2 + 4
     picture.text(left - PAD, base, row.name, room=name_room, bold=row.shared, text_anchor="end")
-    x = left
-    for at, room in enumerate(rooms):
-        cells = row.cells.get(at, [])
+    edges = list(accumulate(rooms, initial=left))
+    picture.path(f"M{left:.1f} {y}H{edges[-1]:.1f}M{left:.1f} {y + row.high}H{edges[-1]:.1f}" + "".join(f"M{x:.1f} {y}v{row.high}" for x in edges),
+                 stroke="#ccc", stroke_width=".6")
+    for at, cells in row.cells.items():
+        x, high = edges[at], row.high / len(cells)
         for line, (text, colour, title) in enumerate(cells):
-            high = row.high / len(cells)
-            picture.rect(x, y + line * high, room, high, title=title, fill=colour, stroke="#999", stroke_width=".6")
-            picture.text(x + room / 2, y + line * high + high / 2 + 4, text, size=10, text_anchor="middle")
-        if not cells:
-            picture.rect(x, y, room, row.high, fill="#ffffff", stroke="#ccc", stroke_width=".6")
-        x += room
+            picture.rect(x, y + line * high, rooms[at], high, title=title, fill=colour, stroke="#999", stroke_width=".6")
+            picture.text(x + rooms[at] / 2, y + line * high + high / 2 + 4, text, size=10, text_anchor="middle")
     for end, fact in zip(ends, row.facts):
         picture.text(end, base, fact, size=10, fill="#333")
 

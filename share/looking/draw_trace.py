@@ -22,10 +22,10 @@ dashed one from a handover to the first turn of the subject that gets the CPU. A
 the value of an output, hexadecimal, and the name of a device's interrupt. What the text
 doesn't tell is left out. More than 400 ticks are summed up: how many turns of each kind
 there are in so many ticks."""
-# the kinds of lines, each with its colour
-KINDS = {"instruction": "#5b8fc4", "jump, flag, NOP": "#b7d3ec", "store": "#f3a552", "call": "#4d9a55", "halt": "#a9a9a9",
-         "event": "#8157ad", "output": "#d5483f", "trapped fault": "#7a4a3a", "fault, stops": "#000000"}
-SLOT, ARROW, HANDOVER = "#ececec", "#2f6f37", "#7a4a3a"
+# the kinds of lines, each with its colour; each is of another lightness, so that they print in black and white
+KINDS = {"instruction": "#6699d0", "jump, flag, NOP": "#c6dcf1", "store": "#f7b45c", "call": "#2c7a3f", "halt": "#a9a9a9",
+         "event": "#6536a0", "output": "#dc4136", "trapped fault": "#5a3322", "fault, stops": "#000000"}
+SLOT, ARROW, HANDOVER = "#ececec", "#2c7a3f", "#5a3322"
 SHOWN, MOST_EACH, MOST = 150, 400, 10_000
 COLUMNS, LEAST_COLUMNS = 300, 40
 HIGH, HIGH_SUMS, GAP, WIDE = 19, 44, 13, 1200

@@ -37,12 +37,12 @@ def form(name):
     return importlib.import_module(f"looking.{FORMS[name]}")
 
 
-def parser():
-    """All forms with their words."""
+def parser(words):
+    """The form that is asked for with its words; all forms where it is none of them."""
     top = Parser(prog="look", description="Looks at what muen reads and writes. An error is one "
                  "line on standard error, and status 1.")
     forms = top.add_subparsers(dest="form", metavar="FORM", required=True)
-    for name in FORMS:
+    for name in words[:1] if words and words[0] in FORMS else FORMS:
         module = form(name)
         text = getattr(module, "LONG_HELP", module.HELP)
         own = forms.add_parser(name, help=module.HELP, description=text,
@@ -68,7 +68,7 @@ def answer(words):
     if sys.stdout is None:
         raise Wrong("standard output is closed")
     try:
-        arguments = parser().parse_args(words)
+        arguments = parser(words).parse_args(words)
         return form(arguments.form).run(arguments)
     finally:
         sys.stdout.flush()

@@ -1,6 +1,7 @@
 """What pictures show of a system: that of a policy, or of an image with its DMA tables.
 
-Both say the same, but that an image has no names of groups, events and domains, and a policy no places.
+Both say the same, but that an image has no names of groups, events and domains, and no order of a group's
+further members, and a policy has no places.
 """
 from __future__ import annotations
 
@@ -12,7 +13,7 @@ from looking.dma_file import domains_of, read_dma
 from looking.document import lawful
 from looking.files import MEBIBYTE, read_bytes
 from looking.image import reached
-from looking.image_file import DEVICE, KERNEL, KINDS, MODES, STATE, MajorFrame
+from looking.image_file import DEVICE, KERNEL, KINDS, MODES, PART_NAMES, STATE, MajorFrame
 from looking.policy import PAGE, first, name
 from looking.schema import number_of
 from looking.system import System
@@ -21,7 +22,8 @@ from looking.wrong import Wrong
 
 @dataclass(frozen=True)
 class Thing:
-    """A region, a channel, a device's memory or a page of the kernel, by the name that `map` prints."""
+    """A region, a channel, a device's memory or a page of the kernel, with its number and the name that `map` prints."""
+    number: int
     name: str
     kind: str
     size: int
@@ -123,43 +125,50 @@ def image_scene(file, dma):
     """What the bytes say."""
     system = System(file)
     image = system.image
-    things = {span.number: Thing(span.name, "state" if span.part == STATE else KINDS[span.kind], span.size, span.place)
+    things = {span.number: Thing(span.number, span.name, "state" if span.part == STATE else KINDS[span.kind], span.size, span.place)
               for span in sorted(image.spans, key=lambda span: span.number)}
-
-    def sight(span, place, address, size, rights):
-        """What is seen there of a span, or of no span."""
-        if span is None:
-            return Sight(Thing(f"no memory at {place:x}", "nothing", size, place), address, rights)
-        part = "" if (place, size) == (span.place, span.size) else f"{size:x} from {place - span.place:x}"
-        return Sight(things[span.number], address, rights, part)
-
-    subjects = []
-    for number, one in enumerate(image.subjects):
-        subject = Subject(one.name, one.cpu, msrs=bitmaps.granted_msrs(one))
-        subject.sights = [sight(window.span, window.place, window.guest, window.size, window.rights)
-                          for window in system.view(number).windows]
-        ranges = [(device.name, low, high) for device in image.devices for low, high in device.ports]
-        for low, high in bitmaps.granted_ports(one):
-            subject.ports += cut(low, high, ranges)
-        subject.causes = [Cause(way, at, MODES[event.mode], system.name(event.target), event.vector)
-                          for way, events in (("call", one.calls), ("trap", one.traps)) for at, event in sorted(events.items())]
-        subject.interrupts = [(device.name, irq.name, irq.vector) for device in image.devices
-                              for irq in device.interrupts if irq.target == number]
-        subjects.append(subject)
+    subjects = [image_subject(system, things, number) for number in range(len(image.subjects))]
     shown = {sight.thing for subject in subjects for sight in subject.sights}
     listed = [thing for thing in things.values() if thing.kind not in ("state", KINDS[KERNEL]) or thing in shown]
     listed += sorted((thing for thing in shown if thing.kind == "nothing"), key=lambda thing: thing.place)
-    members = [[group.first, *(at for at, one in enumerate(image.subjects) if one.group == number and at != group.first)]
-               for number, group in enumerate(image.groups)]
-    groups = [Group(f"group {number}", group.cpu, [system.name(at) for at in members[number]])
-              for number, group in enumerate(image.groups)]
-    domains = [Body(sorted(names), f"domain {number}", [sight(*one) for reach in reaches for one in reached(system, reach)])
-               for number, names, reaches in (domains_of(read_dma(dma)) if dma is not None else ())]
-    domestic = {device for domain in domains for device in domain.devices}
-    others = [Body([device.name]) for device in image.devices if device.name not in domestic]
+    groups = []
+    for number, group in enumerate(image.groups):
+        others = [at for at, one in enumerate(image.subjects) if one.group == number and at != group.first]
+        groups.append(Group(f"group {number}", group.cpu, list(map(system.name, [group.first, *others]))))
+    bodies = [Body(sorted(names), f"domain {number}", [sight_of(things, *one) for reach in reaches for one in reached(system, reach)])
+              for number, names, reaches in (domains_of(read_dma(dma)) if dma is not None else ())]
     choosers = [] if image.choice is None else writers(subjects, things[image.choice.number])
-    return Scene(pathlib.Path(file).name, image.cpus, subjects, listed, groups, image.frames, domains + others,
-                 image.choice and image.choice.name, choosers)
+    return Scene(pathlib.Path(file).name, image.cpus, subjects, listed, groups, image.frames,
+                 with_others(bodies, [device.name for device in image.devices]), image.choice and image.choice.name, choosers)
+
+
+def sight_of(things, span, place, address, size, rights):
+    """What is seen at an address of a span, or of no span."""
+    if span is None:
+        return Sight(Thing(-1, f"no memory at {place:x}", "nothing", size, place), address, rights)
+    part = "" if (place, size) == (span.place, span.size) else f"{size:x} from {place - span.place:x}"
+    return Sight(things[span.number], address, rights, part)
+
+
+def image_subject(system, things, number):
+    """What a subject has by its tables and bitmaps, and what it raises."""
+    one, devices = system.image.subjects[number], system.image.devices
+    subject = Subject(one.name, one.cpu, msrs=bitmaps.granted_msrs(one))
+    subject.sights = [sight_of(things, window.span, window.place, window.guest, window.size, window.rights)
+                      for window in system.view(number).windows]
+    ranges = [(device.name, low, high) for device in devices for low, high in device.ports]
+    for low, high in bitmaps.granted_ports(one):
+        subject.ports += cut(low, high, ranges)
+    subject.causes = [Cause(way, at, MODES[event.mode], system.name(event.target), event.vector)
+                      for way, events in (("call", one.calls), ("trap", one.traps)) for at, event in sorted(events.items())]
+    subject.interrupts = [(device.name, irq.name, irq.vector) for device in devices for irq in device.interrupts if irq.target == number]
+    return subject
+
+
+def with_others(domains, devices):
+    """Those of domains that have devices, and each device that is in none."""
+    domestic = {device for domain in domains for device in domain.devices}
+    return [domain for domain in domains if domain.devices] + [Body([device]) for device in devices if device not in domestic]
 
 
 def cut(low, high, ranges):
@@ -181,37 +190,52 @@ def writers(subjects, thing):
 def policy_scene(file):
     """What a policy grants."""
     policy = lawful(file)
-    things = [Thing(name(node), kind, number_of(node.get("size")), number_of(node.get("physicalAddress")))
-              for kind, nodes in (("own", policy.memory), ("channel", policy.channels)) for node in nodes]
-    for subject in policy.subjects:
-        component = policy.component(subject)
-        things += [Thing(f"{name(subject)}|{name(node, 'logical')}", "provided", number_of(node.get("size")))
-                   for node in (component.items("provides") if component else [])]
-    things += [Thing(f"{name(subject)}:state", "state", PAGE) for subject in policy.subjects
-               if any(name(node, "subject") == name(subject) for one in policy.subjects for node in one.items("monitors"))]
-    things += [Thing(f"{name(device)}|{name(node)}", KINDS[DEVICE], number_of(node.get("size")), number_of(node.get("physicalAddress")))
-               for device in policy.devices for node in device.items("memory")]
-    by_name = {thing.name: thing for thing in things}
-    subjects = [policy_subject(policy, node, by_name) for node in policy.subjects]
-    places = {name(group): number for number, group in enumerate(policy.groups)}
+    things = {thing.name: thing for thing in things_of(policy)}
+    bodies = []
+    for domain in policy.domains:
+        sights = [Sight(things[name(node, "region")], number_of(node.get("virtualAddress")), name(node, "rights"))
+                  for node in domain.items("memory")]
+        bodies.append(Body(sorted(node.value for node in domain.items("devices")), f"domain {name(domain)}",
+                           sorted(sights, key=lambda sight: sight.address)))
     groups = [Group(name(group), number_of(group.get("cpu")), [member.value for member in group.items("subjects")])
               for group in policy.groups]
-    frames = []
-    for frame in policy.frames:
+    tau0 = policy.tau0
+    return Scene(pathlib.Path(file).name, policy.cpus, [policy_subject(policy, node, things) for node in policy.subjects],
+                 list(things.values()), groups, list(map(frame_of(policy), policy.frames)), with_others(bodies, list(map(name, policy.devices))),
+                 name(tau0, "region") if tau0 else None, [name(tau0, "subject")] if tau0 else [])
+
+
+def things_of(policy):
+    """All that windows may show, by number (docs/placement.md); of the kernel's regions the states that are monitored."""
+    plain = [(name(node), kind, node) for kind, nodes in (("own", policy.memory), ("channel", policy.channels)) for node in nodes]
+    for subject in policy.subjects:
+        component = policy.component(subject)
+        plain += [(f"{name(subject)}|{name(node, 'logical')}", "provided", node) for node in (component.items("provides") if component else [])]
+    devices = [(f"{name(device)}|{name(node)}", KINDS[DEVICE], node) for device in policy.devices for node in device.items("memory")]
+    monitored = {name(node, "subject") for subject in policy.subjects for node in subject.items("monitors")}
+    kernel = len(plain) + len(PART_NAMES) * len(policy.subjects)
+
+    def thing(number, named):
+        """A region or a device's memory."""
+        words, kind, node = named
+        return Thing(number, words, kind, number_of(node.get("size")), number_of(node.get("physicalAddress")))
+    yield from (thing(number, named) for number, named in enumerate(plain))
+    for number, subject in enumerate(policy.subjects):
+        if name(subject) in monitored:
+            yield Thing(len(plain) + len(PART_NAMES) * number, f"{name(subject)}:state", "state", PAGE)
+    yield from (thing(kernel + number, named) for number, named in enumerate(devices))
+
+
+def frame_of(policy):
+    """A function that takes a major frame of the policy as an image has it."""
+    places = {name(group): number for number, group in enumerate(policy.groups)}
+
+    def taken(frame):
+        """The frame, by the numbers of CPUs and groups."""
         cpus = sorted(frame.items("cpus"), key=lambda cpu: number_of(cpu.get("cpu")))
         minors = [[(places[name(minor, "group")], number_of(minor.get("ticks"))) for minor in cpu.items("minorFrames")] for cpu in cpus]
-        frames.append(MajorFrame(sum(ticks for _, ticks in minors[0]), minors))
-    found = []
-    for domain in policy.domains:
-        sights = [Sight(by_name[name(node, "region")], number_of(node.get("virtualAddress")), name(node, "rights"))
-                  for node in domain.items("memory")]
-        found.append(Body(sorted(node.value for node in domain.items("devices")), f"domain {name(domain)}",
-                          sorted(sights, key=lambda one: one.address)))
-    domestic = {device for domain in found for device in domain.devices}
-    found = [body for body in found if body.devices] + [Body([name(device)]) for device in policy.devices if name(device) not in domestic]
-    tau0 = policy.tau0
-    return Scene(pathlib.Path(file).name, policy.cpus, subjects, things, groups, frames, found,
-                 name(tau0, "region") if tau0 else None, [name(tau0, "subject")] if tau0 else [])
+        return MajorFrame(sum(ticks for _, ticks in minors[0]), minors)
+    return taken
 
 
 def policy_subject(policy, node, things):
