@@ -113,12 +113,19 @@ declared_small cpus first code =
     (both_small _ _ (both_small _ _ (own_small code is) (channels_small is)) (provided_small p cpus is))
 
 kernel_five : (name : List ℕ) → AreSmall (kernel_regions name 5)
-kernel_five name =
-    (record { anywhere = refl; alignment = refl; size = omega arith },
-    (record { anywhere = refl; alignment = refl; size = omega arith },
-    (record { anywhere = refl; alignment = refl; size = omega arith },
-    (record { anywhere = refl; alignment = refl; size = omega arith },
-    (record { anywhere = refl; alignment = refl; size = omega arith }, tt)))))
+kernel_five name = (
+  record { anywhere = refl; alignment = refl; size = omega arith },
+  (
+    record { anywhere = refl; alignment = refl; size = omega arith },
+    (
+      record { anywhere = refl; alignment = refl; size = omega arith },
+      (
+        record { anywhere = refl; alignment = refl; size = omega arith },
+        (record { anywhere = refl; alignment = refl; size = omega arith }, tt),
+      ),
+    ),
+  ),
+)
 
 -- the subject has these windows
 abbrev SeesThree : Source → Subject → Type 0

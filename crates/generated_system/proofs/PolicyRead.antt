@@ -128,7 +128,7 @@ subject_read cpus i less before =
       subject_named i less,
       one_read (read_object table.mapping) (window_value i) (record { region = region_name i; virtual_address = 4194304; rights = Rx }) (window_read i less),
       two_read (read_object table.channel_use) (writer_value i) (reader_value (one_before cpus i)) (writes_to i) (reads_from (one_before cpus i)) (writer_read i less) (reader_read (one_before cpus i) before),
-      devices_read i
+      devices_read i,
     ) refl
 
 group_read : (i : ℕ) → i < 8 → read_object table.group (group_value i) ≡ Ok (group i)
@@ -160,7 +160,7 @@ unfolding scheduling_value read_object table.scheduling read_known description r
 scheduling_read cpus first few =
     rw (
       list_read (read_object table.group) group_value group (numbers_below (subjects_on cpus)) (each_below (λ i. read_object table.group (group_value i) ≡ Ok (group i)) (subjects_on cpus) (λ i less. group_read i (omega arith))),
-      one_read (read_object table.major_frame) (major_value cpus first) (record { cpus = map (frames first) (numbers_below cpus) }) (major_read cpus first few)
+      one_read (read_object table.major_frame) (major_value cpus first) (record { cpus = map (frames first) (numbers_below cpus) }) (major_read cpus first few),
     ) refl
 
 block_read : read_object table.block block_value ≡ Ok block
@@ -186,7 +186,7 @@ system_read cpus first code some few bytes =
       one_read (read_object table.block) block_value block block_read,
       processor_read cpus,
       scheduling_read cpus first few,
-      list_read (read_object table.subject) (subject_value cpus) (subject cpus) is (each_below (λ i. read_object table.subject (subject_value cpus i) ≡ Ok (subject cpus i)) (subjects_on cpus) (λ i less. subject_read cpus i (omega arith) (before_below cpus i some few)))
+      list_read (read_object table.subject) (subject_value cpus) (subject cpus) is (each_below (λ i. read_object table.subject (subject_value cpus i) ≡ Ok (subject cpus i)) (subjects_on cpus) (λ i less. subject_read cpus i (omega arith) (before_below cpus i some few))),
     ) refl
 
 policy_read : (n : ℕ) → read_system (generated_value n) ≡ Ok (generated_system n)

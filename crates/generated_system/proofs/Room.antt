@@ -103,9 +103,9 @@ placed b (x ∷ turns) spots many at small few h =
     let size = one.size in
     let le = here.le in
     let clear : (a z : ℕ) → end_of (many + 1) ≤ a → is_apart (spots ++ spot x.0 x.1 here.least ∷ []) a z ≡ true =
-        λ a z l.
-            list_all-append _ spots (spot x.0 x.1 here.least ∷ [])
-            ∙ and_from (is_apart spots a z) _ (h a z (omega arith)) (beside here.least x.1.size (end_of (many + 1)) a z (omega arith) l) in
+    λ a z l.
+    list_all-append _ spots (spot x.0 x.1 here.least ∷ [])
+    ∙ and_from (is_apart spots a z) _ (h a z (omega arith)) (beside here.least x.1.size (end_of (many + 1)) a z (omega arith) l) in
     let rest = placed b turns (spots ++ spot x.0 x.1 here.least ∷ []) (many + 1) at (All-tail (λ x. IsSmall x.1) x turns small) (omega arith) clear in
     (rest.0, ap (λ o. if_placed x.1 o (λ address. placed_after (b ∷ []) turns (spots ++ spot x.0 x.1 address ∷ []))) here.is ∙ rest.1)
 

@@ -34,9 +34,9 @@ channel_value i = object
 unfoldable pub device_value : Data
 device_value = object
     (member (codes "ioPorts") (list (object
-        (with_number (codes "end") 16
-        (with_text (codes "name") (codes "p")
-        (with_number (codes "start") 16 no_members))) ∷ []))
+    (with_number (codes "end") 16
+    (with_text (codes "name") (codes "p")
+    (with_number (codes "start") 16 no_members))) ∷ []))
     (member (codes "irqs") (list (object (with_text (codes "name") (codes "t") no_members) ∷ []))
     (with_text (codes "name") (codes "dev") no_members)))
 
@@ -45,8 +45,8 @@ whole_device_value = object
     (with_text (codes "device") (codes "dev")
     (member (codes "ioPorts") (list (string (codes "p") ∷ []))
     (member (codes "irqs") (list (object
-        (with_text (codes "irq") (codes "t")
-        (with_number (codes "vector") 41 no_members)) ∷ [])) no_members)))
+    (with_text (codes "irq") (codes "t")
+    (with_number (codes "vector") 41 no_members)) ∷ [])) no_members)))
 
 unfoldable pub devices_value : ℕ → Data
 devices_value i = list (if i == 0 then whole_device_value ∷ [] else [])

@@ -1,5 +1,5 @@
 //! The code of the subjects.
-ghost use Rattle.std.specs.Prelude.{◌≡◌, ◌++◌, IfOk, OnOk};
+ghost use Rattle.std.specs.Prelude.{◌≡◌, ◌+◌, ◌++◌, pos, IfOk, OnOk};
 ghost use Rattle.std.specs.List.{All, flat_map};
 ghost use Rattle.guest_isa.specs.GuestIsa.{IsValid, encoding_of};
 ghost use Rattle.generated_system.specs.System.{code_of, polling as polling_of};
@@ -19,13 +19,30 @@ fn add_code(bytes: &mut Vec<u8>, program: &[Instr]) -> Result<(), AllocError>
     Ok(())
 }
 
+// Loads what a subject adds to what came.
+fn own_number(number: u16, subject: u8) -> Instr
+    ensures instruction { result ≡ Instr.Li 1 (pos (number + subject)) }
+    ensures valid { IsValid result }
+{
+    let own = number as u32 + subject as u32;
+    Instr::Li {
+        rd: 1,
+        imm: own as i32,
+    }
+}
+
 // What a subject does once in each round: the first reads the device's port.
 fn polling(subject: u8) -> Instr
     ensures instruction { result ≡ polling_of subject }
     ensures valid { IsValid result }
 {
     if subject == 0 {
-        Instr::In { rd: 9, rs: 0, size: AccessSize::One, imm: 16 }
+        Instr::In {
+            rd: 9,
+            rs: 0,
+            size: AccessSize::One,
+            imm: 16,
+        }
     } else {
         Instr::Nop
     }
@@ -40,16 +57,35 @@ pub fn code(alloc: Global, number: u16, subject: u8) -> Result<Vec<u8>, AllocErr
     add_code(
         &mut bytes,
         &[
-            Instr::Li { rd: 1, imm: number as i32 + subject as i32 },
-            Instr::Li { rd: 2, imm: 0x60_1000 },
-            Instr::Li { rd: 3, imm: 0x60_0000 },
+            own_number(number, subject),
+            Instr::Li {
+                rd: 2,
+                imm: 0x60_1000,
+            },
+            Instr::Li {
+                rd: 3,
+                imm: 0x60_0000,
+            },
             Instr::Li { rd: 4, imm: 1 },
-            Instr::Li { rd: 5, imm: 0x40_0000 },
+            Instr::Li {
+                rd: 5,
+                imm: 0x40_0000,
+            },
             Instr::Setv { rs: 5 },
             Instr::Sti,
-            Instr::Load { rd: 6, rs: 2, size: AccessSize::Eight, imm: 0 },
+            Instr::Load {
+                rd: 6,
+                rs: 2,
+                size: AccessSize::Eight,
+                imm: 0,
+            },
             Instr::Add { rd: 1, rs: 6 },
-            Instr::Store { rd: 1, rs: 3, size: AccessSize::Eight, imm: 0 },
+            Instr::Store {
+                rd: 1,
+                rs: 3,
+                size: AccessSize::Eight,
+                imm: 0,
+            },
             Instr::Vmcall { rs: 4 },
             polling(subject),
             Instr::Jmp { imm: -40 },
