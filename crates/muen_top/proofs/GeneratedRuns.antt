@@ -1,14 +1,19 @@
 -- What `boot` prints of the files that are generated of a number.
-use Rattle.std.proofs.Common.{◌≡◌, ℕ, ◌+◌, ◌<◌, ◌%◌, Bool, true, false, List, [], ◌∷◌, ◌++◌, map, length, Option, Some, None, Result, Ok, Err, refl, sym, ap, subst, ◌∙◌, inl, inr, zero, suc, true≢false, arith}
-use Rattle.std.specs.Prelude.{◌&&◌, codes, nat_lt, if◌then◌else◌}
+use Rattle.std.proofs.Common.{◌≡◌, ℕ, ◌+◌, ◌*◌, ◌<◌, ◌%◌, Bool, true, false, List, [], ◌∷◌, ◌++◌, map, length, Option, Some, None, Result, Ok, Err, refl, sym, ap, subst, ◌∙◌, inl, inr, zero, suc, true≢false, arith}
+use Rattle.std.specs.Prelude.{◌&&◌, codes, decimal, nat_lt, if◌then◌else◌}
 use Rattle.std.specs.FinMap.{get}
 use Rattle.std.specs.List.{find, flat_map, list_all}
 use Rattle.std.specs.Option.{option_map_or}
 use Rattle.std.proofs.lemmas.Bool.{cases_Bool}
-use Rattle.generated_system.specs.Record.{generated_bench, generated_record}
-use Rattle.generated_system.specs.System.{generated_system, system_with}
+use Rattle.std.proofs.lemmas.List.{length-map}
+use Rattle.hex.specs.Hex.{encode_lower}
+use Rattle.sha2.specs.Sha256.{sha256}
+use Rattle.generated_system.specs.Record.{generated_record}
+use Rattle.generated_system.specs.System.{generated_system, subject, system_with}
 use Rattle.image_soundness.specs.Bench.{devices_of}
 use Rattle.muen_build.specs.Refusals.{accepted_policy_of, refusal_of}
+use Rattle.muen_num.proofs.NumbersBelow.{length_numbers}
+use Rattle.muen_num.specs.Range.{numbers_below}
 use Rattle.muen_num.specs.declared.limits.TheConstants.{POLICY_MOST, RECORD_MOST}
 use Rattle.muen_outside.proofs.HeldMap.{get-stored}
 use Rattle.muen_outside.specs.MemFiles.{Shelf, store_of}
@@ -22,7 +27,6 @@ use Rattle.policy_lawful.specs.refusal.Refusal.{Refusal}
 use Rattle.policy_lawful.specs.source.Content.{Content}
 use Rattle.policy_lawful.specs.source.Content.TheVariants.{Zero, Fill, Inline, File}
 use Rattle.policy_lawful.specs.source.Source.{Source}
-use Rattle.record_text.specs.Bench.{Bench}
 use Rattle.record_text.specs.DeviceRecord.{DeviceRecord}
 use Rattle.record_text.specs.Reading.{record_of}
 use Rattle.subject_model.specs.Clock.{run_of}
@@ -32,6 +36,7 @@ use Rattle.muen_top.specs.Answers.{Answer, boot_answer, of_file, policy_answer, 
 use Rattle.muen_top.specs.Calls.{ComesOfCommand, IsDone}
 use Rattle.muen_top.specs.Commands.{boot}
 use Rattle.muen_top.specs.GeneratedFiles.{HoldsGenerated}
+use Rattle.muen_top.specs.LoadText.{summary}
 use Rattle.muen_top.specs.declared.outcome.Outcome.TheVariants.{Done}
 
 -- ---- a policy whose contents name no file
@@ -107,11 +112,15 @@ pub many_subjects : (n : ℕ) → 2 * (1 + n % 4) ≡ length (generated_system n
 unfolding generated_system
 many_subjects n = sym (length-map (numbers_below (2 * (1 + n % 4))) (subject (1 + n % 4)) ∙ length_numbers (2 * (1 + n % 4)))
 
--- ---- its devices
+-- ---- what is printed of it
 
-pub same_bench : (n : ℕ) → devices_of (generated_system n) ≡ generated_bench n
-unfolding generated_system
-same_bench n = refl
+pub ticks_are : (n : ℕ) → 20000 ≡ (generated_record n).end
+unfolding generated_record
+ticks_are n = refl
+
+pub summary_is : (n : ℕ) (text subjects ticks size digest : List ℕ) → subjects ≡ decimal (length (generated_system n).subjects) → ticks ≡ decimal (generated_record n).end → size ≡ decimal (length text) → digest ≡ encode_lower (sha256 text)
+    → codes "subjects " ++ (subjects ++ (codes "\nticks " ++ (ticks ++ (codes "\ntrace " ++ (size ++ (codes "\nsha256 " ++ (digest ++ codes "\n"))))))) ≡ summary (length (generated_system n).subjects) (generated_record n).end text
+summary_is n text subjects ticks size digest many end sized sum = rw (many, end, sized, sum) refl
 
 -- ---- the run
 

@@ -25,6 +25,9 @@ use std::alloc::Global;
 // at most, and 56 others, of 256 at most: so there is room for each.
 const TEXT_MOST: usize = 16_777_216;
 
+// How many ticks a generated record has.
+const TICKS: u32 = 20_000;
+
 const POLICY: &str = "policy";
 
 const RECORD: &str = "record";
@@ -69,7 +72,6 @@ fn subjects_of(number: u16) -> u16
 }
 
 // Prints how many subjects and ticks there are, and what a text comes to.
-#[tactic(auto, unfolding(generated_system::specs::Record::generated_record))]
 fn put_summary<S: Sink>(
     number: u16,
     text: &[u8],
@@ -80,12 +82,15 @@ fn put_summary<S: Sink>(
     ensures { Puts (summary (length (generated_system number).subjects) (generated_record number).end text.now) (S.state out.old) (S.state out.new) result }
 {
     let mut subjects = Buffer::new();
+    let mut ticks = Buffer::new();
     let mut length = Buffer::new();
     put_pieces(
         &[
             "subjects ",
             subjects.format(subjects_of(number)),
-            "\nticks 20000\ntrace ",
+            "\nticks ",
+            ticks.format(TICKS),
+            "\ntrace ",
             length.format(text.len()),
             "\nsha256 ",
             digest,
