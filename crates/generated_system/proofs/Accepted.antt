@@ -1,17 +1,13 @@
 -- Each generated system is accepted, whatever files hold: it is lawful, the code of each subject fits its page, and there is room.
-use Rattle.std.proofs.Common.{◌≡◌, ℕ, ◌+◌, ◌<◌, ◌≤◌, List, [], ◌∷◌, ◌++◌, length, map, Option, Some, None, refl, sym, ap, ◌∙◌, arith}
-use Rattle.std.specs.Prelude.{nat_le, if◌then◌else◌}
+use Rattle.std.proofs.Common.{◌≡◌, ℕ, List, [], ◌∷◌, ◌++◌, map, Option, Some, None, refl}
 use Rattle.std.specs.List.{flat_map}
 use Rattle.std.specs.Option.{option_or}
 use Rattle.muen_build.specs.Refusals.{build_refused, contents_refused, item_refused, refusal_of}
 use Rattle.muen_num.specs.Range.{numbers_below}
-use Rattle.muen_num.specs.Search.{first_in, first_of}
+use Rattle.muen_num.specs.Search.{first_in}
 use Rattle.policy_lawful.specs.Contents.{Held}
 use Rattle.policy_lawful.specs.Thing.{Item, channel_item, component_by, device_items, items_of, placed_items, provided_items, region_item}
-use Rattle.policy_lawful.specs.refusal.Refusal.{Refusal}
-use Rattle.policy_lawful.specs.refusal.Refusal.TheVariants.{FileFit}
 use Rattle.policy_lawful.specs.source.Source.{Source}
-use Rattle.region_alloc.specs.Placement.{no_room}
 use Rattle.generated_system.proofs.CodeBytes.{code_length}
 use Rattle.generated_system.proofs.GeneratedRoom.{generated_room}
 use Rattle.generated_system.proofs.Lawful.{generated_lawful}
