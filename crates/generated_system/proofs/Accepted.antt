@@ -1,17 +1,15 @@
 -- Each generated system is accepted, whatever files hold: it is lawful, the code of each subject fits its page, and there is room.
-use Rattle.std.proofs.Common.{◌≡◌, ℕ, ◌+◌, ◌<◌, ◌≤◌, List, [], ◌∷◌, ◌++◌, length, map, Option, Some, None, refl, sym, ap, ◌∙◌, arith}
-use Rattle.std.specs.Prelude.{nat_le, if◌then◌else◌}
+use Rattle.std.proofs.Common.{◌≡◌, ℕ, List, [], ◌∷◌, ◌++◌, map, Option, Some, None, Ok, refl, ap, ◌∙◌}
 use Rattle.std.specs.List.{flat_map}
 use Rattle.std.specs.Option.{option_or}
-use Rattle.muen_build.specs.Refusals.{build_refused, contents_refused, item_refused, refusal_of}
+use Rattle.policy_json.specs.Document.{policy_of}
+use Rattle.policy_lawful.specs.Lawful.{kept_or}
+use Rattle.muen_build.specs.Refusals.{accepted, accepted_policy_of, build_refused, contents_refused, item_refused, refusal_of}
 use Rattle.muen_num.specs.Range.{numbers_below}
-use Rattle.muen_num.specs.Search.{first_in, first_of}
+use Rattle.muen_num.specs.Search.{first_in}
 use Rattle.policy_lawful.specs.Contents.{Held}
 use Rattle.policy_lawful.specs.Thing.{Item, channel_item, component_by, device_items, items_of, placed_items, provided_items, region_item}
-use Rattle.policy_lawful.specs.refusal.Refusal.{Refusal}
-use Rattle.policy_lawful.specs.refusal.Refusal.TheVariants.{FileFit}
 use Rattle.policy_lawful.specs.source.Source.{Source}
-use Rattle.region_alloc.specs.Placement.{no_room}
 use Rattle.generated_system.proofs.CodeBytes.{code_length}
 use Rattle.generated_system.proofs.GeneratedRoom.{generated_room}
 use Rattle.generated_system.proofs.Lawful.{generated_lawful}
@@ -53,3 +51,8 @@ module _ (files : Held) where
   pub generated_accepted : (n : ℕ) → refusal_of files (generated_system n) ≡ None
   unfolding refusal_of build_refused
   generated_accepted n = rw (generated_lawful n, contents_fit n, generated_room n) refl
+
+-- .. and so is a document that is read as it
+pub document_accepted : (files : Held) (n : ℕ) (bytes : List ℕ) → policy_of bytes ≡ Ok (generated_system n) → accepted_policy_of files bytes ≡ Ok (generated_system n)
+unfolding accepted_policy_of
+document_accepted files n bytes is = ap (accepted files) is ∙ ap (kept_or (generated_system n)) (generated_accepted files n)

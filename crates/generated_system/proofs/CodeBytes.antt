@@ -1,17 +1,16 @@
 -- The code of a subject: bytes, which fit a page.
-use Rattle.std.proofs.Common.{◌≡◌, ℕ, zero, suc, ◌+◌, ◌/◌, ◌%◌, ◌^◌, ◌<◌, ◌≤◌, Bool, true, false, List, [], ◌∷◌, ◌++◌, length, replicate, ℤ, pos, negsuc, refl, sym, ap, ◌∙◌, arith}
-use Rattle.std.specs.Prelude.{◌==◌, ◌&&◌, if◌then◌else◌, nat_lt, slice_index}
+use Rattle.std.proofs.Common.{◌≡◌, ℕ, zero, suc, ◌+◌, ◌/◌, ◌%◌, ◌^◌, Bool, true, false, List, [], ◌∷◌, ◌++◌, length, replicate, ℤ, pos, negsuc, refl, ◌∙◌, arith}
+use Rattle.std.specs.Prelude.{◌==◌, if◌then◌else◌, nat_lt}
 use Rattle.std.specs.Int.{w32, cast_unsigned}
 use Rattle.std.specs.List.{flat_map, list_all}
 use Rattle.std.proofs.lemmas.Bool.{and_from, and_parts, lt-ltb, ltb-true}
-use Rattle.std.proofs.lemmas.Bool.Decides.{nat_tests}
 use Rattle.std.proofs.lemmas.List.Folds.{list_all-append}
 use Rattle.guest_isa.specs.GuestIsa.{encoding_of}
 use Rattle.guest_isa.specs.declared.instr.Instr.{Instr}
 use Rattle.guest_isa.specs.declared.instr.Instr.TheVariants.{Nop, Li, Add, Load, Store, Jmp, In, Vmcall, Sti, Setv, Reti}
 use Rattle.hex.specs.Hex.{IsBytes}
 use Rattle.muen_num.specs.declared.access.AccessSize.TheVariants.{One, Eight}
-use Rattle.generated_system.specs.System.{code_of, polling, program}
+use Rattle.generated_system.specs.System.{code_of, polling}
 
 abbrev is_byte : ℕ → Bool
 is_byte b = nat_lt b 256

@@ -1,12 +1,12 @@
 -- The code of a subject, part after part.
-use Rattle.std.proofs.Common.{◌≡◌, ℕ, ◌+◌, List, [], ◌∷◌, ◌++◌, replicate, pos, negsuc, refl, sym, ap, ap₂, ◌∙◌, append_assoc}
+use Rattle.std.proofs.Common.{◌≡◌, ℕ, ◌+◌, List, [], ◌∷◌, ◌++◌, replicate, pos, negsuc, sym, ap, ap₂, ◌∙◌, append_assoc}
 use Rattle.std.specs.List.{flat_map}
 use Rattle.std.proofs.lemmas.Grind.{flat_map-append}
 use Rattle.guest_isa.specs.GuestIsa.{encoding_of}
 use Rattle.guest_isa.specs.declared.instr.Instr.{Instr}
 use Rattle.guest_isa.specs.declared.instr.Instr.TheVariants.{Nop, Li, Add, Load, Store, Jmp, Vmcall, Sti, Setv, Reti}
 use Rattle.muen_num.specs.declared.access.AccessSize.TheVariants.{Eight}
-use Rattle.generated_system.specs.System.{code_of, polling, program}
+use Rattle.generated_system.specs.System.{code_of, polling}
 
 -- what stands before the handlers and the room for them
 abbrev pub round : Instr → Instr → List Instr

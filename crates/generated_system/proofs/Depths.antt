@@ -1,5 +1,5 @@
 -- The value of the generated policy document doesn't nest deep.
-use Rattle.std.proofs.Common.{◌≡◌, ℕ, suc, ◌+◌, ◌<◌, ◌≤◌, max, true, false, List, [], ◌∷◌, map, refl, arith}
+use Rattle.std.proofs.Common.{ℕ, ◌≤◌, true, false, List, [], ◌∷◌, map, arith}
 use Rattle.std.specs.Prelude.{◌==◌, if◌then◌else◌}
 use Rattle.muen_num.specs.Range.{numbers_below}
 use Rattle.serde_json.specs.Data.{Data, depth, items_depth}

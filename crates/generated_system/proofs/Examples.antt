@@ -1,5 +1,5 @@
 -- The generated system at small numbers, against answers that were worked out by hand.
-use Rattle.std.proofs.Common.{◌≡◌, ℕ, ◌++◌, List, [], ◌∷◌, length, refl}
+use Rattle.std.proofs.Common.{◌≡◌, ◌++◌, [], ◌∷◌, refl}
 use Rattle.std.specs.Prelude.{replicate}
 use Rattle.guest_isa.specs.GuestIsa.{encoding_of}
 use Rattle.generated_system.specs.System.{code_of}

@@ -1,5 +1,5 @@
 -- The generated systems keep every rule, whatever the code of their subjects is.
-use Rattle.std.proofs.Common.{◌≡◌, ℕ, zero, suc, ◌+◌, ◌%◌, ◌<◌, List, None, refl, arith}
+use Rattle.std.proofs.Common.{◌≡◌, ℕ, ◌+◌, ◌%◌, ◌<◌, List, None, refl, arith}
 use Rattle.std.specs.Fmt.{digits}
 use Rattle.policy_lawful.specs.Domains.{offence_21, offence_22, offence_23, offence_24}
 use Rattle.policy_lawful.specs.Lawful.{IsLawful, offences, unlawful}
@@ -7,7 +7,7 @@ use Rattle.policy_lawful.specs.MoreRules.{offence_6, offence_7, offence_9, offen
 use Rattle.policy_lawful.specs.Rules.{offence_1, offence_2, offence_3, offence_4, offence_5, offence_8, offence_16, offence_17, offence_18, offence_20, first_overlap, window_extents}
 use Rattle.policy_lawful.specs.Windows.{windows_of}
 use Rattle.generated_system.proofs.Shapes.{below_four, below_seven}
-use Rattle.generated_system.specs.System.{cpus_for, first_ticks_for, code_of, generated_system, system_with}
+use Rattle.generated_system.specs.System.{first_ticks_for, code_of, generated_system, system_with}
 
 on_one : (code : ℕ → List ℕ) (a : ℕ) → a < 7 → IsLawful (system_with 1 (1 + a) code)
 unfolding unlawful offences offence_1 offence_2 offence_3 offence_4 offence_5 offence_6 offence_7 offence_8 offence_9 offence_10 offence_11 offence_12 offence_13 offence_14 offence_15 offence_16 offence_17 offence_18 offence_19 offence_20 offence_21 offence_22 offence_23 offence_24 first_overlap window_extents windows_of digits

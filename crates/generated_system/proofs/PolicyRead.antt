@@ -1,21 +1,20 @@
 -- The value of the generated policy document is read as the generated system.
-use Rattle.std.proofs.Common.{◌≡◌, ℕ, zero, suc, ◌+◌, ◌-◌, ◌*◌, ◌/◌, ◌%◌, ◌<◌, ◌≤◌, Bool, true, false, List, [], ◌∷◌, ◌++◌, map, Ok, Err, Result, Some, None, refl, sym, ap, ◌∙◌, arith}
+use Rattle.std.proofs.Common.{◌≡◌, ℕ, zero, suc, ◌+◌, ◌-◌, ◌*◌, ◌<◌, ◌≤◌, true, false, List, [], ◌∷◌, ◌++◌, map, Ok, Result, Some, None, refl, ap, ◌∙◌, arith}
 use Rattle.std.specs.Prelude.{◌==◌, codes, decimal, if◌then◌else◌}
 use Rattle.std.specs.Fmt.{digits}
 use Rattle.std.specs.List.{AllByRecursion}
 use Rattle.std.specs.Result.{result_ok}
 use Rattle.hex.proofs.HexLemmas.{decode_of-encode_lower}
-use Rattle.hex.specs.Hex.{IsBytes, decode_of, encode_lower}
+use Rattle.hex.specs.Hex.{IsBytes, encode_lower}
 use Rattle.muen_num.specs.Naming.{is_name}
 use Rattle.muen_num.specs.Range.{numbers_below}
 use Rattle.policy_json.specs.Document.{json_of, policy_from, policy_of, read_system, shape_refused}
 use Rattle.policy_json.specs.Objects.{description, read_if_present, read_known, read_object, read_optional, read_required}
 use Rattle.policy_json.specs.Table as table
-use Rattle.policy_json.specs.Values.{and_then, under, or_want, read_byte, read_caching, read_hexadecimal, read_items, read_list, read_mode, read_name, read_number, read_rights, read_role}
+use Rattle.policy_json.specs.Values.{and_then, under, or_want, read_hexadecimal, read_items, read_list, read_mode, read_name, read_number, read_rights, read_role}
 use Rattle.policy_types.specs.declared.refusal.Fault.{Fault}
-use Rattle.policy_types.specs.declared.refusal.Want.TheVariants.{Name as WantName, Hexadecimal}
+use Rattle.policy_types.specs.declared.refusal.Want.TheVariants.{Hexadecimal}
 use Rattle.policy_lawful.specs.rights.Rights.TheVariants.{Rx}
-use Rattle.policy_lawful.specs.source.Source.{Source}
 use Rattle.serde_json.specs.Data.{Data, member, no_members, number, object, string, unsigned}
 use Rattle.serde_json.specs.Read.{read}
 use Rattle.serde_json.specs.View.{items_of}

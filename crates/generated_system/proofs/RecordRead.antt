@@ -1,6 +1,6 @@
 -- The text of the generated record is read as that record.
-use Rattle.std.proofs.Common.{◌≡◌, ℕ, zero, suc, ◌+◌, ◌*◌, ◌%◌, ◌^◌, ◌<◌, ◌≤◌, Bool, true, false, List, [], ◌∷◌, ◌++◌, map, reverse, Ok, Err, Result, refl, sym, ap, ap₂, ◌∙◌, append_assoc, arith}
-use Rattle.std.specs.Prelude.{◌&&◌, ◌||◌, ◌==◌, codes, decimal, nat_lt, not, if◌then◌else◌}
+use Rattle.std.proofs.Common.{◌≡◌, ℕ, zero, suc, ◌+◌, ◌*◌, ◌%◌, ◌^◌, ◌<◌, ◌≤◌, true, false, List, [], ◌∷◌, ◌++◌, map, reverse, Ok, Result, refl, sym, ap, ap₂, ◌∙◌, append_assoc, arith}
+use Rattle.std.specs.Prelude.{◌&&◌, ◌||◌, ◌==◌, codes, decimal, if◌then◌else◌}
 use Rattle.std.specs.Fmt.{digits}
 use Rattle.std.specs.List.{flat_map, list_all, list_any}
 use Rattle.std.proofs.lemmas.Bool.{and_from, le-ltb}
@@ -9,17 +9,17 @@ use Rattle.std.proofs.lemmas.List.Folds.{list_all-append, list_any-append}
 use Rattle.muen_num.specs.Range.{numbers_below}
 use Rattle.muen_num.specs.declared.limits.TheConstants.{LAST_PORT}
 use Rattle.record_text.specs.Bench.{Bench}
-use Rattle.record_text.specs.DeviceRecord.{DeviceRecord, NamedInput, port_input, irq_input}
+use Rattle.record_text.specs.DeviceRecord.{DeviceRecord, port_input, irq_input}
 use Rattle.record_text.specs.Reading.{Standing, all_ascii, are_distinct, at_start, entry_at, record_after, record_of, standing_after, with_entry}
 use Rattle.record_text.specs.Steps.{◌>>=◌, ◌>>◌}
 use Rattle.record_text.specs.Table.{Entry, input_entry, order_entry, end_entry, as_many, cpu_numbers, kind_of, read_words, end_line as said_end, irq_line as said_irq, order_line as said_order, port_line as said_port}
-use Rattle.record_text.specs.Words.{lines_of, number_below, tick_of}
+use Rattle.record_text.specs.Words.{number_below, tick_of}
 use Rattle.record_text.specs.declared.fault.RecordFault.{RecordFault}
 use Rattle.generated_system.proofs.LinesRead.{ascii_lines, digits_word, is_plain, is_word, line_plain, lines_back, words_back}
 use Rattle.generated_system.proofs.Numerals.{below_read, digits_alone}
 use Rattle.generated_system.proofs.Shapes.{below_four}
-use Rattle.generated_system.specs.Record.{generated_record, inputs_at, order_at}
-use Rattle.generated_system.specs.RecordText.{end_line, irq_line, line_of, lines_in, order_line, orders_in, port_line, record_lines, record_text}
+use Rattle.generated_system.specs.Record.{generated_record, inputs_at}
+use Rattle.generated_system.specs.RecordText.{end_line, irq_line, lines_in, order_line, orders_in, port_line, record_lines, record_text}
 use Rattle.generated_system.specs.System.{cpus_for}
 
 -- ---- what the generated record names

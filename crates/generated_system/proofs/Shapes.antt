@@ -1,5 +1,5 @@
 -- What holds of each of a few numbers.
-use Rattle.std.proofs.Common.{◌≡◌, ℕ, zero, suc, ◌<◌, arith}
+use Rattle.std.proofs.Common.{ℕ, zero, suc, ◌<◌, arith}
 
 pub below_four : (P : ℕ → Type 0) → P 0 → P 1 → P 2 → P 3 → (n : ℕ) → n < 4 → P n
 below_four P p0 p1 p2 p3 zero h = p0

@@ -1,5 +1,5 @@
 -- The device record that `load` makes of a number (this project's own).
-use Rattle.std.specs.Prelude.{ℕ, ◌+◌, ◌*◌, ◌/◌, ◌%◌, List, [], ◌∷◌, map, reverse, codes}
+use Rattle.std.specs.Prelude.{ℕ, ◌+◌, ◌*◌, ◌%◌, List, [], ◌∷◌, map, reverse, codes}
 use Rattle.std.specs.List.{flat_map}
 use Rattle.generated_system.specs.System.{cpus_for}
 use Rattle.muen_num.specs.Range.{numbers_below}
