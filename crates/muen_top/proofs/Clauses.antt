@@ -216,7 +216,6 @@ no_usage files (Some (verify image policy)) e =
     absurd (no_usage_of_file image _ _ (λ bytes h. no_usage_of_verified files policy bytes (unpacked image_form bytes) h) e)
 no_usage files (Some (load number)) e = absurd (prints_not_stops (load_text number) usage e)
 
-
 judges_not_stops : (p : Source) (files : Store) (bytes : List ℕ) (i : Image) (reason : Reason) → judges p files bytes i ≡ stops reason → ⊥
 judges_not_stops p files bytes i reason e = cc
 

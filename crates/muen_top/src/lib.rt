@@ -28,8 +28,8 @@ mod status;
 mod tables;
 mod verify;
 
-use muen_outside::{Files, Sink};
 pub use generated_system::{Generated, generate};
+use muen_outside::{Files, Sink};
 pub use over_held::muen_over_held;
 pub use status::Status;
 use std::alloc::Global;

@@ -68,7 +68,11 @@ fn cut_images(rt: HostRuntime) -> Result<(), Fail> {
                 return Err(Fail::new("a short image"));
             };
             let ended = ran(alloc, cut, b"end 1\n")?;
-            assert_eq!(rt; ended.answer(alloc)?.as_str(), short_at(alloc, at)?.as_str(), "{length}");
+            assert_eq!(rt;
+                ended.answer(alloc)?.as_str(),
+                short_at(alloc, at)?.as_str(),
+                "{length}"
+            );
         }
     }
     Ok(())
@@ -120,7 +124,10 @@ fn records_with_another_byte(rt: HostRuntime) -> Result<(), Fail> {
             b"end 200000\n\n\n\x80\n",
             "6 muen: record refused at line 4: not ASCII\n",
         ),
-        (b"no word\nend 1\x7f", "6 muen: record refused at line 1: word\n"),
+        (
+            b"no word\nend 1\x7f",
+            "6 muen: record refused at line 1: word\n",
+        ),
     ] {
         let ended = ran(alloc, image.as_slice(), record)?;
         assert_eq!(rt; ended.answer(alloc)?.as_str(), want);
@@ -156,7 +163,11 @@ fn each_command_with_failing_files(rt: HostRuntime) -> Result<(), Fail> {
             let mut files = failing(alloc, image.as_slice(), fails)?;
             let mut out = MemSink::make(alloc, 5000, Vec::new(alloc), 0)?;
             let ended = call(alloc, words, &mut files, &mut out)?;
-            let want = if fails < calls { "4 muen: file fault\n" } else { "0 " };
+            let want = if fails < calls {
+                "4 muen: file fault\n"
+            } else {
+                "0 "
+            };
             assert_eq!(rt; ended.answer(alloc)?.as_str(), want, "{words} {fails}");
             assert!(rt; fails >= calls || out.calls() == 0, "{words} {fails}");
         }
@@ -179,7 +190,11 @@ fn loads(rt: HostRuntime) -> Result<(), Fail> {
         assert!(rt; ended.out.as_str().starts_with(begin), "{words}");
         let mut failing = MemSink::make(alloc, 500, Vec::from_slice(alloc, &[0])?, 1)?;
         let ended = call(alloc, words, &mut files, &mut failing)?;
-        assert_eq!(rt; ended.answer(alloc)?.as_str(), "7 muen: output fault\n", "{words}");
+        assert_eq!(rt;
+            ended.answer(alloc)?.as_str(),
+            "7 muen: output fault\n",
+            "{words}"
+        );
         assert_eq!(rt; ended.out.as_str(), "s");
         assert_eq!(rt; failing.calls(), 1);
     }

@@ -42,7 +42,10 @@ fn held_after_a_turn(system: Ready) -> (bool, bool) {
     kernel.begin_tick();
     kernel.turn(0);
     let walk = kernel.walker();
-    (walk.holds(0x10_001e, 0x40_0000), walk.holds(0x10_001e, 0x40_1000))
+    (
+        walk.holds(0x10_001e, 0x40_0000),
+        walk.holds(0x10_001e, 0x40_1000),
+    )
 }
 
 // A system that is made ready keeps translations.

@@ -114,7 +114,9 @@ fn each_put_fails(rt: HostRuntime) -> Result<(), Fail> {
             let mut out = MemSink::make(alloc, 1_000_000, fails, keep)?;
             let ended = call(alloc, "run i r", &mut files, &mut out)?;
             let calls = out.calls();
-            assert!(rt; (ended.status, calls) == (7, failing + 1) || ended.status == 0 && calls <= failing);
+            assert!(rt;
+                (ended.status, calls) == (7, failing + 1) || ended.status == 0 && calls <= failing
+            );
             assert!(rt; whole.out.as_str().starts_with(ended.out.as_str()));
         }
     }
