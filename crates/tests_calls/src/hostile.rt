@@ -63,7 +63,7 @@ fn cut_images(rt: HostRuntime) -> Result<(), Fail> {
     let image = image(alloc)?;
     assert_eq!(rt; image.len(), 42_576);
     for (first, last_field, end) in PARTS {
-        for (length, at) in [(first, first), (end - 1, last_field)] {
+        for (length, at) in [(first, first), (end.saturating_sub(1), last_field)] {
             let Some(cut) = image.get(..length) else {
                 return Err(Fail::new("a short image"));
             };
