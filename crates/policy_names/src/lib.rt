@@ -30,8 +30,8 @@ use crate::refers::resolve_all;
 use crate::scope::Scope;
 use muen_num::Seq;
 use policy_lawful::resolved::{Scheduling, Subject};
-use policy_lawful::{Elements, Refusal, Resolved, Source};
-use policy_views::seen;
+use policy_lawful::{Elements, Refusal, Source};
+use policy_views::Linked;
 use std::alloc::Global;
 
 // The elements that refer to names, with indexes in place of these.
@@ -64,13 +64,13 @@ fn resolve_source(alloc: Global, source: &Source) -> Result<(Seq<Subject>, Sched
     elements
 }
 
-/// Resolves the references of a policy, and keeps what its subjects see.
+/// Resolves the references of a policy, and keeps what each of its subjects sees by itself.
 ///
 /// Answers `Rule` with the first offence against rule 1, that names are unique for each kind, else
 /// against rule 2, that each reference names a declared thing; and `NoMemory` where memory was
 /// refused.
 #[tactic(auto, using(crate::proofs::Resolved::resolution))]
-pub fn resolve(alloc: Global, source: Source) -> Result<Resolved, Refusal>
+pub fn resolve(alloc: Global, source: Source) -> Result<Linked, Refusal>
     ensures { Answers NoMemory (kept_or source (names_broken source)) (kept_source result) }
 {
     let (subjects, scheduling) = resolve_source(alloc, &source)?;
@@ -97,6 +97,6 @@ pub fn resolve(alloc: Global, source: Source) -> Result<Resolved, Refusal>
         scheduling,
         device_domains,
     };
-    let seen = seen(alloc, &elements)?;
-    Ok(Resolved::make(elements, seen))
+    let linked = Linked::of(alloc, elements)?;
+    Ok(linked)
 }

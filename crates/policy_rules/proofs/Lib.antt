@@ -4,6 +4,7 @@ pub mod GroupsByIndex
 pub mod LimitsByIndex
 pub mod MajorsByIndex
 pub mod NamesAdded
+pub mod Parted
 pub mod RangesByIndex
 pub mod RulesJoined
 pub mod SubjectsInTurn

@@ -6,6 +6,7 @@ pub mod Keys
 pub mod Limits
 pub mod Majors
 pub mod Names
+pub mod Parted
 pub mod Tau0
 pub mod Windows
 pub mod Writers

@@ -18,7 +18,6 @@ use Rattle.policy_lawful.specs.source.Device.{Device}
 use Rattle.policy_lawful.specs.source.Event.{Event}
 use Rattle.policy_lawful.specs.source.Msrs.{Msrs}
 use Rattle.policy_lawful.specs.Views.{views_of}
-use Rattle.policy_lawful.specs.declared.view.View.{View}
 
 -- the limits on blocks
 abbrev pub blocks_limit : List Block → Option Offence
@@ -47,12 +46,12 @@ names_limit channels components events =
 abbrev pub msrs_in : Msrs → ℕ
 msrs_in x = (x.end + 1) - x.start
 
--- on a subject's windows and MSRs, where these are its views
-abbrev pub subject_limit_with : List View → Subject → Option Offence
-subject_limit_with views s = unless (nat_le (length views) MOST_WINDOWS && nat_le (sum_by msrs_in s.msrs) MOST_MSRS) (alone s.name)
+-- on a subject's windows and MSRs, where it has so many windows
+abbrev pub subject_limit_with : ℕ → Subject → Option Offence
+subject_limit_with windows s = unless (nat_le windows MOST_WINDOWS && nat_le (sum_by msrs_in s.msrs) MOST_MSRS) (alone s.name)
 
 abbrev pub subject_limit_at : Resolution → Subject → Option Offence
-subject_limit_at r s = subject_limit_with (views_of r s) s
+subject_limit_at r s = subject_limit_with (length (views_of r s)) s
 
 abbrev pub count_limit : List Subject → Option Offence
 count_limit subjects = unless (nat_le 1 (length subjects) && nat_le (length subjects) MOST_SUBJECTS) (alone (codes "subjects"))

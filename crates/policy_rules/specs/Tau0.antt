@@ -1,5 +1,5 @@
 -- Rule 16 of a resolved policy: who chooses the major frames, with the windows of subjects by what these see.
-use Rattle.std.specs.Prelude.{ℕ, ◌==◌, ◌&&◌, Bool, false, List, length, codes, Option}
+use Rattle.std.specs.Prelude.{ℕ, ◌==◌, ◌&&◌, ◌||◌, Bool, false, List, length, codes, Option}
 use Rattle.std.specs.Option.{option_or}
 use Rattle.std.specs.List.{list_any}
 use Rattle.std.specs.Str.{bytes_eq}
@@ -31,12 +31,12 @@ abbrev pub is_own_region : List ℕ → Region → Bool
 is_own_region name r = bytes_eq r.name name && (length r.shared_memory == 0)
 
 -- the subject that chooses, where it may write the region by one of these views
-abbrev pub is_chooser_with : Tau0 → List View → Subject → Bool
-is_chooser_with t views s = bytes_eq s.name t.subject && list_any (may_write t.region) views
+abbrev pub is_chooser_by : Tau0 → List View → List View → Subject → Bool
+is_chooser_by t front behind s = bytes_eq s.name t.subject && (list_any (may_write t.region) front || list_any (may_write t.region) behind)
 
 -- where it may write it
 abbrev pub is_chooser : Resolution → Tau0 → Subject → Bool
-is_chooser r t s = is_chooser_with t (views_of r s) s
+is_chooser r t s = bytes_eq s.name t.subject && list_any (may_write t.region) (views_of r s)
 
 abbrev pub chooser_offence : Resolution → Tau0 → Option Offence
 chooser_offence r t =

@@ -10,10 +10,10 @@ use crate::windows::outside;
 use muen_num::limits::{GUEST_END, LARGE_PAGE, PAGE, PHYSICAL_END};
 use muen_num::{Name, first};
 use policy_lawful::Offence;
-use policy_lawful::resolved::Resolved;
 use policy_lawful::source::{
     Block, Channel, Component, ComponentChannel, Device, Provided, Region, Required,
 };
+use policy_views::Linked;
 
 fn is_page_aligned(n: u64) -> bool
     ensures { result ≡ is_page_aligned n }
@@ -167,7 +167,7 @@ fn components(components: &[Component]) -> Option<Offence>
 }
 
 // The first element that offends, windows aside.
-fn of_elements(policy: &Resolved) -> Option<Offence>
+fn of_elements(policy: &Linked) -> Option<Offence>
     ensures value { result ≡ elements_offence policy.now }
     ensures resolved { IsResolved policy.now }
 {
@@ -180,16 +180,20 @@ fn of_elements(policy: &Resolved) -> Option<Offence>
 }
 
 // The first element or window that offends.
-fn of_all(policy: &Resolved) -> Option<Offence>
+#[tactic(auto, using(crate::proofs::Parted::components_kept))]
+fn of_all(policy: &Linked) -> Option<Offence>
     ensures value { result ≡ addresses_offence policy.now }
     ensures resolved { IsResolved policy.now }
 {
-    of_elements(policy).or_else(|| outside(policy))
+    match of_elements(policy) {
+        Some(offence) => Some(offence),
+        None => outside(policy),
+    }
 }
 
 /// Rule 4: the first address or size that isn't one.
 #[tactic(auto, using(crate::proofs::RangesByIndex::addresses_by_index))]
-pub(crate) fn addresses(policy: &Resolved) -> Option<Offence>
+pub(crate) fn addresses(policy: &Linked) -> Option<Offence>
     ensures { result ≡ offence_4 (source_of policy.now) }
 {
     of_all(policy)

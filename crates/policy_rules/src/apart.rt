@@ -1,19 +1,21 @@
 // Rules 5 and 18: windows of a subject, and blocks and devices' memory, that share no address.
-ghost use Rattle.std.specs.Prelude.{◌≡◌, None, map, IfOk};
-ghost use Rattle.std.specs.List.{flat_map};
-ghost use Rattle.muen_num.specs.Search.{first_in};
+ghost use Rattle.std.specs.Prelude.{◌≡◌, ◌++◌, true, nat_lt, None, map, IfOk, IsSomeAnd, IsTrue};
+ghost use Rattle.std.specs.List.{flat_map, list_all};
 ghost use Rattle.policy_lawful.specs.ByIndex.{block_extent};
 ghost use Rattle.policy_lawful.specs.Resolution.{source_of};
 ghost use Rattle.policy_lawful.specs.Rules.{first_overlap, offence_4, offence_5, offence_18};
-ghost use Rattle.policy_lawful.specs.Views.{view_extent};
-ghost use Rattle.policy_rules.specs.Windows.{device_extent, device_extents, outside, physical_extents};
+ghost use Rattle.policy_rules.specs.Parted.{AreProvided, provided_extent, provided_to};
+ghost use Rattle.policy_rules.specs.Windows.{device_extent, device_extents, outside_in, overlap_in, physical_extents};
+ghost use Rattle.policy_views.specs.Parts.{behind_views, front_views};
+ghost use Rattle.rules_extents.specs.Shared.{StayApart};
 
 use crate::windows::view_extents;
 use muen_num::NoMemory;
-use policy_lawful::resolved::Subject;
-use policy_lawful::source::{Block, Device, DeviceMemory};
-use policy_lawful::{Extent, Offence, Resolved, View};
-use rules_extents::first_overlap;
+use policy_lawful::resolved::{ComponentUse, Subject};
+use policy_lawful::source::{Block, Component, Device, DeviceMemory, Provided};
+use policy_lawful::{Extent, Offence, View};
+use policy_views::Linked;
+use rules_extents::{Apart, first_overlap};
 use std::alloc::{AllocError, Global};
 
 // A block as a named range of physical memory.
@@ -64,7 +66,7 @@ pub(crate) fn device_extents(alloc: Global, devices: &[Device]) -> Result<Vec<Ex
 }
 
 // The blocks, then all devices' memory.
-fn physical_extents(alloc: Global, policy: &Resolved) -> Result<Vec<Extent>, NoMemory>
+fn physical_extents(alloc: Global, policy: &Linked) -> Result<Vec<Extent>, NoMemory>
     ensures { IfOk result (λ v. v.items ≡ physical_extents policy.now.memory_blocks policy.now.devices) }
 {
     let mut extents = block_extents(alloc, policy.memory_blocks())?;
@@ -77,7 +79,7 @@ fn physical_extents(alloc: Global, policy: &Resolved) -> Result<Vec<Extent>, NoM
 ///
 /// Answers `NoMemory` where memory was refused.
 #[tactic(auto, using(crate::proofs::RangesByIndex::physical_sized, crate::proofs::RangesByIndex::blocks_apart))]
-pub(crate) fn blocks_apart(alloc: Global, policy: &Resolved) -> Result<Option<Offence>, NoMemory>
+pub(crate) fn blocks_apart(alloc: Global, policy: &Linked) -> Result<Option<Offence>, NoMemory>
     requires { offence_4 (source_of policy.now) ≡ None }
     ensures { IfOk result (λ o. o ≡ offence_18 (source_of policy.now)) }
 {
@@ -85,25 +87,113 @@ pub(crate) fn blocks_apart(alloc: Global, policy: &Resolved) -> Result<Option<Of
     first_overlap(alloc, &extents)
 }
 
-// The first two of a subject's windows that share an address.
-#[tactic(auto, using(crate::proofs::RangesByIndex::windows_sized))]
-fn of_subject(alloc: Global, subject: &Subject, views: &[View]) -> Result<Option<Offence>, NoMemory>
-    requires { first_in (outside subject.now.name) views.now ≡ None }
-    ensures { IfOk result (λ o. o ≡ first_overlap (map view_extent views.now)) }
+// ---- windows
+
+// A region that a component provides as a named range of guest addresses.
+fn provided_extent(provided: &Provided) -> Extent
+    ensures { result ≡ provided_extent provided.now }
 {
-    let extents = view_extents(alloc, views)?;
+    Extent {
+        name: provided.logical,
+        address: provided.virtual_address,
+        size: provided.size,
+    }
+}
+
+fn provided_extents(alloc: Global, provides: &[Provided]) -> Result<Vec<Extent>, AllocError>
+    ensures { IfOk result (λ v. v.items ≡ map provided_extent provides.now) }
+{
+    provides.iter().map(provided_extent).collect(alloc)
+}
+
+// Of each component the regions that it provides, where no two share an address.
+fn all_provided(alloc: Global, components: &[Component]) -> Result<Vec<Option<Apart>>, NoMemory>
+    ensures { IfOk result (λ v. AreProvided v.items components.now) }
+{
+    let mut all = Vec::new(alloc);
+    for component in components {
+        let extents = provided_extents(alloc, component.provides.items())?;
+        all.push(Apart::of(alloc, &extents)?)?;
+    }
+    Ok(all)
+}
+
+// All windows of a subject, with the ranges of those in front of the provided ones, and behind them.
+fn all_extents(
+    alloc: Global,
+    front: &[Extent],
+    provides: &[Provided],
+    behind: &[Extent],
+) -> Result<Vec<Extent>, NoMemory>
+    ensures { IfOk result (λ v. v.items ≡ front.now ++ map provided_extent provides.now ++ behind.now) }
+{
+    let mut extents: Vec<Extent> = Vec::new(alloc);
+    extents.extend_from_slice(front)?;
+    let provided = provided_extents(alloc, provides)?;
+    extents.extend_from_slice(&provided)?;
+    extents.extend_from_slice(behind)?;
+    Ok(extents)
+}
+
+// Whether the windows of a subject are told to be disjoint by those that its component provides, which
+// are gone through for the component alone.
+fn are_told_apart(
+    alloc: Global,
+    provided: &[Option<Apart>],
+    used: &Option<ComponentUse>,
+    front: &[Extent],
+    behind: &[Extent],
+) -> Result<bool, NoMemory>
+    requires { list_all (λ e. nat_lt 0 e.size) (front.now ++ behind.now) ≡ true }
+    ensures { IfOk result (λ b. IsTrue b → IsSomeAnd (provided_to provided.now used.now) (λ ranges. StayApart ranges front.now behind.now)) }
+{
+    match used {
+        None => Ok(false),
+        Some(used) => match provided.get(used.used) {
+            None => Ok(false),
+            Some(kept) => match kept {
+                None => Ok(false),
+                Some(apart) => apart.stay_apart(alloc, front, behind),
+            },
+        },
+    }
+}
+
+// The first two of a subject's windows that share an address.
+fn of_subject(
+    alloc: Global,
+    policy: &Linked,
+    provided: &[Option<Apart>],
+    subject: &Subject,
+    front: &[View],
+    behind: &[View],
+) -> Result<Option<Offence>, NoMemory>
+    requires front { front.now ≡ front_views policy.now subject.now }
+    requires behind { behind.now ≡ behind_views policy.now subject.now }
+    requires inside { outside_in policy.now subject.now ≡ None }
+    requires provided { AreProvided provided.now policy.now.components }
+    ensures { IfOk result (λ o. o ≡ overlap_in policy.now subject.now) }
+{
+    let front = view_extents(alloc, front)?;
+    let behind = view_extents(alloc, behind)?;
+    if are_told_apart(alloc, provided, &subject.component, &front, &behind)? {
+        return Ok(None);
+    }
+    let extents = all_extents(alloc, &front, policy.provided_by(subject), &behind)?;
     first_overlap(alloc, &extents)
 }
 
 /// Rule 5: the first two windows of a subject that share an address.
 ///
 /// Answers `NoMemory` where memory was refused.
-pub(crate) fn windows_apart(alloc: Global, policy: &Resolved) -> Result<Option<Offence>, NoMemory>
+pub(crate) fn windows_apart(alloc: Global, policy: &Linked) -> Result<Option<Offence>, NoMemory>
     requires { offence_4 (source_of policy.now) ≡ None }
     ensures { IfOk result (λ o. o ≡ offence_5 (source_of policy.now)) }
 {
+    let provided = all_provided(alloc, policy.components())?;
     for (index, subject) in policy.subjects().iter().enumerate() {
-        if let Some(offence) = of_subject(alloc, subject, policy.views(index))? {
+        let (front, behind) = (policy.front(index), policy.behind(index));
+        if let Some(offence) = of_subject(alloc, policy, &provided, subject, front, behind)? {
             return Ok(Some(offence));
         }
     }

@@ -12,7 +12,8 @@ use muen_num::limits::MOST_CPUS;
 use muen_num::{first, first_numbered};
 use policy_lawful::Offence;
 use policy_lawful::frame_names::{cpu_name, major_name};
-use policy_lawful::resolved::{CpuFrames, Group, MajorFrame, Resolved, Subject};
+use policy_lawful::resolved::{CpuFrames, Group, MajorFrame, Subject};
+use policy_views::Linked;
 
 // The first subject whose CPU there isn't.
 fn subjects(subjects: &[Subject], cpus: u64) -> Option<Offence>
@@ -75,7 +76,7 @@ fn of_elements(
 
 /// Rule 3: the number of CPUs, and the CPUs of subjects, groups and frames.
 #[tactic(auto, using(crate::proofs::CpusByIndex::cpus_by_index))]
-pub(crate) fn cpus(policy: &Resolved) -> Option<Offence>
+pub(crate) fn cpus(policy: &Linked) -> Option<Offence>
     ensures { result ≡ offence_3 (source_of policy.now) }
 {
     of_elements(

@@ -8,7 +8,8 @@ ghost use Rattle.policy_rules.specs.Fixed.{block_extents, fixed_extents};
 use crate::apart::block_extents;
 use muen_num::NoMemory;
 use policy_lawful::source::Region;
-use policy_lawful::{Extent, Offence, Resolved};
+use policy_lawful::{Extent, Offence};
+use policy_views::Linked;
 use rules_extents::{count_inside, first_fault};
 use std::alloc::{AllocError, Global};
 
@@ -34,7 +35,7 @@ fn fixed_extents(alloc: Global, memory: &[Region]) -> Result<Vec<Extent>, AllocE
 ///
 /// Answers `NoMemory` where memory was refused.
 #[tactic(auto, using(crate::proofs::FixedByExtent::fixed_blocks_sized, crate::proofs::FixedByExtent::fixed_blocks_apart, crate::proofs::FixedByExtent::fixed_sized, crate::proofs::FixedByExtent::fixed_front_sized, crate::proofs::FixedByExtent::inside_within, crate::proofs::FixedByExtent::fixed_by_extent))]
-pub(crate) fn fixed_regions(alloc: Global, policy: &Resolved) -> Result<Option<Offence>, NoMemory>
+pub(crate) fn fixed_regions(alloc: Global, policy: &Linked) -> Result<Option<Offence>, NoMemory>
     requires addresses { offence_4 (source_of policy.now) ≡ None }
     requires apart { offence_18 (source_of policy.now) ≡ None }
     ensures { IfOk result (λ o. o ≡ offence_19 (source_of policy.now)) }

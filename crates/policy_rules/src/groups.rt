@@ -9,7 +9,8 @@ ghost use Rattle.policy_rules.specs.Groups.{is_member, is_group, group_offence, 
 
 use muen_num::{NoMemory, first, first_numbered};
 use policy_lawful::resolved::{Group, Subject};
-use policy_lawful::{Counts, Offence, Resolved};
+use policy_lawful::{Counts, Offence};
+use policy_views::Linked;
 use std::alloc::{AllocError, Global};
 
 // Whether the subject at an index is on this CPU.
@@ -90,7 +91,7 @@ fn of_groups(
 
 /// The first offence against rule 17, if any.
 #[tactic(auto, using(crate::proofs::GroupsByIndex::groups_by_index))]
-pub(crate) fn groups(alloc: Global, policy: &Resolved) -> Result<Option<Offence>, NoMemory>
+pub(crate) fn groups(alloc: Global, policy: &Linked) -> Result<Option<Offence>, NoMemory>
     ensures { IfOk result (λ o. o ≡ offence_17 (source_of policy.now)) }
 {
     let offence = of_groups(alloc, policy.subjects(), policy.scheduling().groups.items())?;

@@ -1,5 +1,5 @@
 // Rule 20: the limits.
-ghost use Rattle.std.specs.Prelude.{◌≡◌, ◌≤◌, ◌^◌, length, IfOk, is_some};
+ghost use Rattle.std.specs.Prelude.{◌≡◌, ◌+◌, ◌≤◌, ◌^◌, length, IfOk, is_some};
 ghost use Rattle.std.specs.List.{count_by, list_all, sum_by, enumerate_from};
 ghost use Rattle.muen_num.specs.Search.{first_in};
 ghost use Rattle.policy_lawful.specs.Resolution.{source_of};
@@ -18,8 +18,9 @@ use muen_num::limits::{
 use muen_num::{NoMemory, first, first_numbered};
 use policy_lawful::frame_names::major_name;
 use policy_lawful::resolved::{CpuFrames, MajorFrame, Subject};
-use policy_lawful::source::{Block, Channel, Component, Device, Event, Msrs};
-use policy_lawful::{Extent, Offence, Resolved, View};
+use policy_lawful::source::{Block, Channel, Component, Device, Event, Msrs, Provided};
+use policy_lawful::{Extent, Offence, View};
+use policy_views::Linked;
 use std::alloc::Global;
 
 // ---- what is declared before the subjects
@@ -123,7 +124,7 @@ fn of_names(channels: &[Channel], components: &[Component], events: &[Event]) ->
 }
 
 // The limits on what is declared before the subjects.
-fn of_declared(alloc: Global, policy: &Resolved) -> Result<Option<Offence>, NoMemory>
+fn of_declared(alloc: Global, policy: &Linked) -> Result<Option<Offence>, NoMemory>
     ensures { IfOk result (λ o. o ≡ declared_limit policy.now) }
 {
     let devices = policy.devices();
@@ -156,24 +157,37 @@ fn msrs(ranges: &[Msrs]) -> u128
     total
 }
 
-// The limits on a subject with these windows.
-fn of_subject(subject: &Subject, views: &[View]) -> Option<Offence>
-    ensures { result ≡ subject_limit_with views.now subject.now }
+// The limits on a subject with windows in front of those that its component provides, and behind them.
+fn of_subject(
+    subject: &Subject,
+    front: &[View],
+    provided: &[Provided],
+    behind: &[View],
+) -> Option<Offence>
+    ensures { result ≡ subject_limit_with (length front.now + length provided.now + length behind.now) subject.now }
 {
+    let windows = front.len() as u128 + provided.len() as u128 + behind.len() as u128;
     let msrs = msrs(subject.msrs.items());
-    Offence::alone(subject.name).unless(views.len() <= MOST_WINDOWS && msrs <= MOST_MSRS as u128)
+    Offence::alone(subject.name).unless(
+        windows <= MOST_WINDOWS as u128 && msrs <= MOST_MSRS as u128,
+    )
 }
 
-fn each_subject(policy: &Resolved) -> Option<Offence>
+fn each_subject(policy: &Linked) -> Option<Offence>
     ensures { result ≡ first_in (subject_limit_at policy.now) policy.now.subjects }
 {
     first_numbered(policy.subjects(), |index, subject| {
-        of_subject(subject, policy.views(index))
+        of_subject(
+            subject,
+            policy.front(index),
+            policy.provided_by(subject),
+            policy.behind(index),
+        )
     })
 }
 
 // The limits on subjects, and on each.
-fn of_subjects(policy: &Resolved) -> Option<Offence>
+fn of_subjects(policy: &Linked) -> Option<Offence>
     ensures { result ≡ subjects_limit policy.now }
 {
     let subjects = policy.subjects().len();
@@ -184,14 +198,14 @@ fn of_subjects(policy: &Resolved) -> Option<Offence>
 
 // ---- regions
 
-fn regions_of(policy: &Resolved, subject: &Subject) -> u128
+fn regions_of(policy: &Linked, subject: &Subject) -> u128
     ensures value { result ≡ regions_of_subject policy.now subject.now }
     ensures room { result ≤ 2 ^ 65 }
 {
     policy.provided_by(subject).len() as u128 + KERNEL_REGIONS as u128
 }
 
-fn regions_of_subjects(policy: &Resolved, subjects: &[Subject]) -> u128
+fn regions_of_subjects(policy: &Linked, subjects: &[Subject]) -> u128
     ensures value { result ≡ sum_by (regions_of_subject policy.now) subjects.now }
     ensures room { result ≤ 2 ^ 127 }
 {
@@ -203,7 +217,7 @@ fn regions_of_subjects(policy: &Resolved, subjects: &[Subject]) -> u128
 }
 
 // The limit on all regions.
-fn of_regions(policy: &Resolved) -> Option<Offence>
+fn of_regions(policy: &Linked) -> Option<Offence>
     ensures { result ≡ regions_limit policy.now }
 {
     let declared = policy.memory().len() as u128 + policy.channels().len() as u128;
@@ -244,7 +258,7 @@ fn of_frames(majors: &[MajorFrame]) -> Option<Offence>
 ///
 /// Answers `NoMemory` where memory was refused.
 #[tactic(auto, using(crate::proofs::LimitsByIndex::limits_by_index))]
-pub(crate) fn limits(alloc: Global, policy: &Resolved) -> Result<Option<Offence>, NoMemory>
+pub(crate) fn limits(alloc: Global, policy: &Linked) -> Result<Option<Offence>, NoMemory>
     ensures { IfOk result (λ o. o ≡ offence_20 (source_of policy.now)) }
 {
     let majors = policy.scheduling().major_frames.items();

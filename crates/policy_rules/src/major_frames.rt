@@ -12,9 +12,10 @@ ghost use Rattle.policy_rules.specs.Majors.{cpu_of_group, is_frame, has_first_ti
 
 use crate::tau0::tau0;
 use muen_num::first_numbered;
+use policy_lawful::Offence;
 use policy_lawful::frame_names::{cpu_name, major_name};
 use policy_lawful::resolved::{CpuFrames, Group, MajorFrame, MinorFrame};
-use policy_lawful::{Offence, Resolved};
+use policy_views::Linked;
 
 // Whether the group at an index is on this CPU.
 fn is_on(groups: &[Group], index: usize, cpu: u64) -> bool
@@ -120,7 +121,7 @@ fn of_majors(groups: &[Group], count: u64, majors: &[MajorFrame]) -> Option<Offe
 }
 
 // The first offence of a major frame of the policy.
-fn of_frames(policy: &Resolved) -> Option<Offence>
+fn of_frames(policy: &Linked) -> Option<Offence>
     ensures value { result ≡ first_in (major_offence policy.now.scheduling.groups policy.now.processor.logical_cpus) (enumerate_from 0 policy.now.scheduling.major_frames) }
     ensures resolved { IsResolved policy.now }
 {
@@ -133,7 +134,7 @@ fn of_frames(policy: &Resolved) -> Option<Offence>
 }
 
 // The first offence of a major frame, else of who chooses them.
-fn of_all(policy: &Resolved) -> Option<Offence>
+fn of_all(policy: &Linked) -> Option<Offence>
     ensures value { result ≡ option_or (first_in (major_offence policy.now.scheduling.groups policy.now.processor.logical_cpus) (enumerate_from 0 policy.now.scheduling.major_frames)) (tau0_offence (source_of policy.now) policy.now.scheduling.tau0) }
     ensures resolved { IsResolved policy.now }
 {
@@ -142,7 +143,7 @@ fn of_all(policy: &Resolved) -> Option<Offence>
 
 /// The first offence against rule 16, if any: of a major frame, else of who chooses them.
 #[tactic(auto, using(crate::proofs::MajorsByIndex::majors_by_index))]
-pub(crate) fn major_frames(policy: &Resolved) -> Option<Offence>
+pub(crate) fn major_frames(policy: &Linked) -> Option<Offence>
     ensures { result ≡ offence_16 (source_of policy.now) }
 {
     of_all(policy)

@@ -19,7 +19,8 @@ use crate::groups::groups;
 use crate::limits::limits;
 use crate::major_frames::major_frames;
 use crate::writers::writers;
-use policy_lawful::{Lawful, Offence, Refusal, Resolved};
+use policy_lawful::{Lawful, Offence, Refusal};
+use policy_views::Linked;
 use rules_devices::{
     domain_devices, domain_windows, granted_once, msr_ranges, port_ranges, regions_in_one_domain,
 };
@@ -41,7 +42,7 @@ fn keep(number: u8, offence: Option<Offence>) -> Result<(), Refusal>
 }
 
 // Rules 3 to 8, or the least of them that is broken.
-fn memory_rules(alloc: Global, policy: &Resolved) -> Result<(), Refusal>
+fn memory_rules(alloc: Global, policy: &Linked) -> Result<(), Refusal>
     ensures { Keeps (memory_broken (source_of policy.now)) (λ _. offence_4 (source_of policy.now) ≡ None) result }
 {
     keep(3, cpus(policy))?;
@@ -53,7 +54,7 @@ fn memory_rules(alloc: Global, policy: &Resolved) -> Result<(), Refusal>
 }
 
 // Rules 9 to 15, or the least of them that is broken.
-fn grants_rules(alloc: Global, policy: &Resolved) -> Result<(), Refusal>
+fn grants_rules(alloc: Global, policy: &Linked) -> Result<(), Refusal>
     ensures { Keeps (grants_broken (source_of policy.now)) (λ _. ⊤) result }
 {
     keep(9, granted_once(alloc, policy)?)?;
@@ -66,7 +67,7 @@ fn grants_rules(alloc: Global, policy: &Resolved) -> Result<(), Refusal>
 }
 
 // Rules 16 to 20, or the least of them that is broken.
-fn plan_rules(alloc: Global, policy: &Resolved) -> Result<(), Refusal>
+fn plan_rules(alloc: Global, policy: &Linked) -> Result<(), Refusal>
     requires { offence_4 (source_of policy.now) ≡ None }
     ensures { Keeps (plan_broken (source_of policy.now)) (λ _. ⊤) result }
 {
@@ -78,7 +79,7 @@ fn plan_rules(alloc: Global, policy: &Resolved) -> Result<(), Refusal>
 }
 
 // Rules 21 to 24, or the least of them that is broken.
-fn domains_rules(alloc: Global, policy: &Resolved) -> Result<(), Refusal>
+fn domains_rules(alloc: Global, policy: &Linked) -> Result<(), Refusal>
     requires { offence_4 (source_of policy.now) ≡ None }
     ensures { Keeps (domains_broken (source_of policy.now)) (λ _. ⊤) result }
 {
@@ -89,7 +90,7 @@ fn domains_rules(alloc: Global, policy: &Resolved) -> Result<(), Refusal>
 }
 
 // All rules from 3 on, or the least of them that is broken.
-fn all_rules(alloc: Global, policy: &Resolved) -> Result<(), Refusal>
+fn all_rules(alloc: Global, policy: &Linked) -> Result<(), Refusal>
     ensures { let p = source_of policy.now in Keeps (option_or (memory_broken p) (option_or (grants_broken p) (option_or (plan_broken p) (domains_broken p)))) (λ _. ⊤) result }
 {
     memory_rules(alloc, policy)?;
@@ -101,12 +102,12 @@ fn all_rules(alloc: Global, policy: &Resolved) -> Result<(), Refusal>
 /// The policy, where it keeps every rule; else the least rule that is broken, with its two names, or
 /// `NoMemory`. A refused policy is dropped.
 #[tactic(auto, using(crate::proofs::RulesJoined::rules_joined, policy_lawful::proofs::Keeps::refused))]
-pub fn check(alloc: Global, policy: Resolved) -> Result<Lawful, Refusal>
+pub fn check(alloc: Global, policy: Linked) -> Result<Lawful, Refusal>
     ensures { Answers OutOfMemory (kept_or (source_of policy) (unlawful (source_of policy))) (kept_source result) }
 {
     let _subjects = policy.subjects();
     match all_rules(alloc, &policy) {
-        Ok(()) => Ok(Lawful::make(policy)),
+        Ok(()) => Ok(Lawful::make(policy.resolved(alloc)?)),
         Err(refusal) => Err(refusal),
     }
 }

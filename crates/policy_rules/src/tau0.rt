@@ -4,13 +4,14 @@ ghost use Rattle.std.specs.List.{list_any};
 ghost use Rattle.std.specs.Str.{bytes_eq};
 ghost use Rattle.policy_lawful.specs.Resolution.{source_of};
 ghost use Rattle.policy_lawful.specs.Rules.{tau0_offence};
-ghost use Rattle.policy_rules.specs.Tau0.{chooser_offence, is_chooser, is_chooser_with, is_on_named, is_own_region, may_write};
+ghost use Rattle.policy_rules.specs.Tau0.{chooser_offence, is_chooser, is_chooser_by, is_on_named, is_own_region, may_write};
 
 use crate::keys::Key;
 use muen_num::{AccessKind, Name};
 use policy_lawful::resolved::Subject;
 use policy_lawful::source::{Region, Tau0};
-use policy_lawful::{Offence, Resolved, Shown, View};
+use policy_lawful::{Offence, Shown, View};
+use policy_views::Linked;
 
 // Whether it shows a region of this name.
 fn is_on_named(name: Name, view: &View) -> bool
@@ -28,18 +29,20 @@ fn may_write(name: Name, views: &[View]) -> bool
     views.iter().any(|view| is_on_named(name, view) && view.rights.allows(AccessKind::Write))
 }
 
-// Whether this subject is the one that chooses, and may write the region by one of these windows.
-fn is_chooser(chooser: &Tau0, subject: &Subject, views: &[View]) -> bool
-    ensures { result ≡ is_chooser_with chooser.now views.now subject.now }
+// Whether this subject is the one that chooses, and may write the region by one of these windows: those
+// on what its component provides are on no region.
+fn is_chooser(chooser: &Tau0, subject: &Subject, front: &[View], behind: &[View]) -> bool
+    ensures { result ≡ is_chooser_by chooser.now front.now behind.now subject.now }
 {
-    subject.name == chooser.subject && may_write(chooser.region, views)
+    subject.name == chooser.subject
+        && (may_write(chooser.region, front) || may_write(chooser.region, behind))
 }
 
-fn some_chooser(policy: &Resolved, chooser: &Tau0) -> bool
+fn some_chooser(policy: &Linked, chooser: &Tau0) -> bool
     ensures { result ≡ list_any (is_chooser policy.now chooser.now) policy.now.subjects }
 {
     for (index, subject) in policy.subjects().iter().enumerate() {
-        if is_chooser(chooser, subject, policy.views(index)) {
+        if is_chooser(chooser, subject, policy.front(index), policy.behind(index)) {
             return true;
         }
     }
@@ -58,7 +61,7 @@ fn has_own_region(memory: &[Region], name: Name) -> bool
     memory.iter().any(|region| region.name == name && region.shared_memory.is_empty())
 }
 
-fn of_chooser(policy: &Resolved, chooser: &Tau0) -> Option<Offence>
+fn of_chooser(policy: &Linked, chooser: &Tau0) -> Option<Offence>
     ensures { result ≡ chooser_offence policy.now chooser.now }
 {
     if !is_declared(policy.subjects(), chooser.subject) {
@@ -74,7 +77,7 @@ fn of_chooser(policy: &Resolved, chooser: &Tau0) -> Option<Offence>
 /// The offence of the subject that chooses the major frames, if one does: it isn't declared, or its
 /// region isn't or is shared, or it may not write that.
 #[tactic(auto, using(crate::proofs::Tau0ByIndex::chooser_by_index, crate::proofs::Tau0ByIndex::no_chooser))]
-pub(crate) fn tau0(policy: &Resolved) -> Option<Offence>
+pub(crate) fn tau0(policy: &Linked) -> Option<Offence>
     ensures { result ≡ tau0_offence (source_of policy.now) policy.now.scheduling.tau0 }
 {
     match &policy.scheduling().tau0 {

@@ -1,12 +1,13 @@
 // The windows of subjects, as named ranges of guest addresses.
-ghost use Rattle.std.specs.Prelude.{◌≡◌, map, IfOk};
+ghost use Rattle.std.specs.Prelude.{◌≡◌, None, map, IfOk};
 ghost use Rattle.muen_num.specs.Search.{first_in};
-ghost use Rattle.policy_rules.specs.Windows.{outside, outside_in};
+ghost use Rattle.policy_rules.specs.Windows.{component_ranges, outside, outside_in};
 ghost use Rattle.policy_lawful.specs.Views.{view_extent};
 
 use crate::addresses::is_guest;
 use muen_num::{Name, first, first_numbered};
-use policy_lawful::{Extent, Offence, Resolved, View};
+use policy_lawful::{Extent, Offence, View};
+use policy_views::Linked;
 use std::alloc::{AllocError, Global};
 
 // A view as a named range of guest addresses.
@@ -40,11 +41,16 @@ fn outside_among(by: &Name, views: &[View]) -> Option<Offence>
     })
 }
 
-/// The first window of a subject that isn't a range of guest addresses.
-pub(crate) fn outside(policy: &Resolved) -> Option<Offence>
+/// The first window of a subject that isn't a range of guest addresses. Those on what its component
+/// provides are such, where the component keeps the rule.
+pub(crate) fn outside(policy: &Linked) -> Option<Offence>
+    requires { first_in component_ranges policy.now.components ≡ None }
     ensures { result ≡ first_in (outside_in policy.now) policy.now.subjects }
 {
     first_numbered(policy.subjects(), |index, subject| {
-        outside_among(&subject.name, policy.views(index))
+        outside_among(&subject.name, policy.front(index)).or_else(|| outside_among(
+            &subject.name,
+            policy.behind(index),
+        ))
     })
 }

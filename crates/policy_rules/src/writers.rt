@@ -11,7 +11,8 @@ ghost use Rattle.policy_rules.specs.Writers.{HasUsers, added, fault_at, not_shar
 
 use muen_num::{AccessKind, Name, NoMemory, Seq};
 use policy_lawful::source::Region;
-use policy_lawful::{NameSet, Offence, Resolved, Shown, View};
+use policy_lawful::{NameSet, Offence, Shown, View};
+use policy_views::Linked;
 use std::alloc::{AllocError, Global};
 
 // A subject that has a window on a region, and whether it may write by that.
@@ -58,6 +59,20 @@ fn note_views(users: &mut [Seq<User>], name: Name, views: &[View]) -> Result<(),
     Ok(())
 }
 
+// Notes the subject of this name at each region that it has a window on: those on what its component
+// provides are on none.
+fn note_subject(
+    users: &mut [Seq<User>],
+    name: Name,
+    front: &[View],
+    behind: &[View],
+) -> Result<(), NoMemory>
+    ensures { OnOk result ((k : ℕ) → k < length users.old → slice_index_or users.new k [] ≡ slice_index_or users.old k [] ++ filter_map (user_of k name) front.now ++ filter_map (user_of k name) behind.now) }
+{
+    note_views(users, name, front)?;
+    note_views(users, name, behind)
+}
+
 // So many lists with no users.
 fn no_users(alloc: Global, regions: usize) -> Result<Vec<Seq<User>>, NoMemory>
     ensures { IfOk result (λ v. v.items ≡ replicate regions []) }
@@ -71,13 +86,14 @@ fn no_users(alloc: Global, regions: usize) -> Result<Vec<Seq<User>>, NoMemory>
 
 // The users of each region.
 #[tactic(auto, using(crate::proofs::WritersByIndex::none_yet))]
-fn users_of(alloc: Global, policy: &Resolved) -> Result<Vec<Seq<User>>, NoMemory>
+fn users_of(alloc: Global, policy: &Linked) -> Result<Vec<Seq<User>>, NoMemory>
     ensures users { IfOk result (λ v. HasUsers policy.now v.items policy.now.subjects) }
     ensures resolved { IsResolved policy.now }
 {
     let mut users = no_users(alloc, policy.memory().len())?;
     for (index, subject) in policy.subjects().iter().enumerate() {
-        note_views(&mut users, subject.name, policy.views(index))?;
+        let (front, behind) = (policy.front(index), policy.behind(index));
+        note_subject(&mut users, subject.name, front, behind)?;
     }
     Ok(users)
 }
@@ -211,7 +227,7 @@ fn of_regions(
 ///
 /// Answers `NoMemory` where memory was refused.
 #[tactic(auto, using(crate::proofs::WritersByIndex::writers_by_index))]
-pub(crate) fn writers(alloc: Global, policy: &Resolved) -> Result<Option<Offence>, NoMemory>
+pub(crate) fn writers(alloc: Global, policy: &Linked) -> Result<Option<Offence>, NoMemory>
     ensures { IfOk result (λ o. o ≡ offence_8 (source_of policy.now)) }
 {
     let users = users_of(alloc, policy)?;

@@ -1,1 +1,3 @@
 pub mod EntriesNoted
+pub mod SightsAtIndex
+pub mod ViewsInParts

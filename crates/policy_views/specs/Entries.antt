@@ -1,6 +1,8 @@
--- For each logical name of a kind the first entry that a subject has for it, in a table by indexes.
-use Rattle.std.specs.Prelude.{◌≡◌, ℕ, ◌<◌, Bool, true, false, List, length, slice_index_or, Option, Some, None, option_and_then, option_map, unwrap_or}
+-- For each logical name of a kind the first entry that a subject has for it, in a map by indexes.
+use Rattle.std.specs.Prelude.{◌≡◌, ℕ, Bool, true, false, List, slice_get, Option, Some, None, option_and_then, option_map, unwrap_or}
+use Rattle.std.specs.BTreeMap.{BTreeMap, get}
 use Rattle.std.specs.Option.{option_or}
+use Rattle.std.specs.Ordering.{nat_cmp}
 use Rattle.policy_lawful.specs.Resolution.{Resolution}
 use Rattle.policy_lawful.specs.declared.resolved.MapEntry.{MapEntry}
 use Rattle.policy_lawful.specs.declared.resolved.Wanted.{Wanted}
@@ -34,21 +36,20 @@ abbrev pub noted : Option Choice → Bool → Choice → Option Choice
 noted old false c = old
 noted old true c = option_or old (Some c)
 
--- so many choices, each by the first entry for its logical name
-pub record HasChoices (kind : Wants) (choices : List (Option Choice)) (many : ℕ) (entries : List MapEntry) : Type 0 where
-  pub room : length choices ≡ many
-  pub at : (k : ℕ) → k < many → slice_index_or choices k None ≡ option_map choice_of (entry_for entries (wanted_at kind k))
+-- what is chosen, each by the first entry for its logical name
+pub record HasChoices (kind : Wants) (choices : BTreeMap ℕ Choice) (entries : List MapEntry) : Type 0 where
+  pub at : (k : ℕ) → get nat_cmp choices k ≡ option_map choice_of (entry_for entries (wanted_at kind k))
 
--- ---- views and ends by choices
+-- ---- views and ends by choices, each with the index of its logical name
 
-abbrev pub chosen_region : Resolution → List (Option Choice) → ℕ × Required → Option View
-chosen_region r choices (index, x) =
-    option_and_then (λ c. region_view r c.physical x.virtual_address (unwrap_or c.rights x.rights)) (slice_index_or choices index None)
+abbrev pub chosen_region : Resolution → List Required → ℕ × Choice → Option View
+chosen_region r memory (index, c) =
+    option_and_then (λ x. region_view r c.physical x.virtual_address (unwrap_or c.rights x.rights)) (slice_get memory index)
 
-abbrev pub chosen_channel : Resolution → List (Option Choice) → ℕ × ComponentChannel → Option View
-chosen_channel r choices (index, x) =
-    option_and_then (λ c. channel_view r c.physical x.virtual_address x.role) (slice_index_or choices index None)
+abbrev pub chosen_channel : Resolution → List ComponentChannel → ℕ × Choice → Option View
+chosen_channel r channels (index, c) =
+    option_and_then (λ x. channel_view r c.physical x.virtual_address x.role) (slice_get channels index)
 
-abbrev pub chosen_end : List (Option Choice) → ℕ × ComponentChannel → Option IndexedEnd
-chosen_end choices (index, x) =
-    option_map (λ c. record { channel = c.physical; role = x.role; call = x.call; vector = x.vector }) (slice_index_or choices index None)
+abbrev pub chosen_end : List ComponentChannel → ℕ × Choice → Option IndexedEnd
+chosen_end channels (index, c) =
+    option_map (λ x. record { channel = c.physical; role = x.role; call = x.call; vector = x.vector }) (slice_get channels index)

@@ -1,32 +1,29 @@
 //! The ends of channels of a subject.
 ghost use Rattle.std.specs.Prelude.{◌≡◌, map, IfOk};
 ghost use Rattle.std.specs.List.{filter_map, enumerate_from};
+ghost use Rattle.std.specs.BTreeMap.{IsOrdered};
+ghost use Rattle.std.specs.Ordering.{nat_cmp};
 ghost use Rattle.policy_views.specs.Entries.{chosen_end};
 ghost use Rattle.policy_lawful.specs.Views.{component_end, channel_ends_of, use_ends};
 
-use crate::entries::{Choice, Wants, choices};
+use crate::entries::{Choice, Choices, Wants, choices};
 use muen_num::NoMemory;
 use policy_lawful::resolved::{ChannelUse, ComponentUse, MapEntry, Subject};
 use policy_lawful::source::ComponentChannel;
 use policy_lawful::{Elements, IndexedEnd};
 use std::alloc::{AllocError, Global};
 
-fn component_end(
-    choices: &[Option<Choice>],
-    index: usize,
-    channel: &ComponentChannel,
-) -> Option<IndexedEnd>
-    ensures { result ≡ chosen_end choices.now (index, channel.now) }
+// The end of the channel that is chosen for the channel at an index of these.
+fn chosen_end(channels: &[ComponentChannel], index: usize, choice: &Choice) -> Option<IndexedEnd>
+    ensures { result ≡ chosen_end channels.now (index, choice.now) }
 {
-    match choices.get(index) {
-        Some(Some(choice)) => Some(IndexedEnd {
-            channel: choice.physical,
-            role: channel.role,
-            call: channel.call,
-            vector: channel.vector,
-        }),
-        _ => None,
-    }
+    let channel = channels.get(index)?;
+    Some(IndexedEnd {
+        channel: choice.physical,
+        role: channel.role,
+        call: channel.call,
+        vector: channel.vector,
+    })
 }
 
 fn of_channels(alloc: Global, channels: &[ChannelUse]) -> Result<Vec<IndexedEnd>, AllocError>
@@ -45,16 +42,19 @@ fn of_channels(alloc: Global, channels: &[ChannelUse]) -> Result<Vec<IndexedEnd>
 
 fn chosen_ends(
     alloc: Global,
-    choices: &[Option<Choice>],
+    choices: &Choices,
     channels: &[ComponentChannel],
-) -> Result<Vec<IndexedEnd>, AllocError>
-    ensures { IfOk result (λ v. v.items ≡ filter_map (chosen_end choices.now) (enumerate_from 0 channels.now)) }
+) -> Result<Vec<IndexedEnd>, NoMemory>
+    ensures value { IfOk result (λ v. v.items ≡ filter_map (chosen_end channels.now) choices.now.entries) }
+    ensures ordered { IsOrdered nat_cmp choices.now }
 {
-    channels
-        .iter()
-        .enumerate()
-        .filter_map(|(index, channel)| component_end(choices, index, channel))
-        .collect(alloc)
+    let mut ends = Vec::new(alloc);
+    for (index, choice) in choices.iter() {
+        if let Some(end) = chosen_end(channels, *index, choice) {
+            ends.push(end)?;
+        }
+    }
+    Ok(ends)
 }
 
 #[tactic(auto, using(crate::proofs::EntriesNoted::ends_chosen))]
@@ -65,7 +65,7 @@ fn of_component(
 ) -> Result<Vec<IndexedEnd>, NoMemory>
     ensures { IfOk result (λ v. v.items ≡ filter_map (component_end entries.now) (enumerate_from 0 channels.now)) }
 {
-    let choices = choices(alloc, Wants::Channel, channels.len(), entries)?;
+    let choices = choices(alloc, Wants::Channel, entries)?;
     let ends = chosen_ends(alloc, &choices, channels)?;
     Ok(ends)
 }

@@ -1,5 +1,7 @@
 //! What stands for a component's logical names at a subject.
-ghost use Rattle.std.specs.Prelude.{◌≡◌, ℕ, ◌<◌, ◌==◌, [], None, length, slice_index_or, IfOk};
+ghost use Rattle.std.specs.Prelude.{◌≡◌, ℕ, ◌==◌, IfOk, OnOk};
+ghost use Rattle.std.specs.BTreeMap.{get};
+ghost use Rattle.std.specs.Ordering.{nat_cmp};
 ghost use Rattle.policy_views.specs.Entries.{HasChoices, choice_of, index_among, noted, wanted_at};
 ghost use Rattle.policy_lawful.specs.Views.{same_wanted};
 
@@ -7,6 +9,7 @@ use muen_num::NoMemory;
 use policy_lawful::Rights;
 use policy_lawful::resolved::{MapEntry, Wanted};
 use std::alloc::Global;
+use std::collections::BTreeMap;
 
 /// A kind of logical names that want something.
 #[derive(Clone, Copy, Debug, PartialEq, Eq)]
@@ -34,22 +37,27 @@ fn index_among(kind: Wants, wanted: Wanted) -> Option<usize>
     }
 }
 
-// Notes a choice at an index, where that is there and has none.
-fn note(choices: &mut [Option<Choice>], index: usize, choice: Choice)
-    ensures { (k : ℕ) → k < length choices.old → slice_index_or choices.new k None ≡ noted (slice_index_or choices.old k None) (index == k) choice }
+/// What is chosen, by the indexes of the logical names of a kind.
+pub(crate) type Choices = BTreeMap<usize, Choice>;
+
+// Notes a choice at an index that has none.
+#[tactic(auto, using(crate::proofs::EntriesNoted::noted_new, crate::proofs::EntriesNoted::noted_old))]
+fn note(choices: &mut Choices, index: usize, choice: Choice) -> Result<(), NoMemory>
+    ensures { OnOk result ((k : ℕ) → get nat_cmp choices.new k ≡ noted (get nat_cmp choices.old k) (index == k) choice) }
 {
-    if index < choices.len() && choices[index].is_none() {
-        choices[index] = Some(choice);
+    if !choices.contains_key(&index) {
+        choices.insert(index, choice)?;
     }
+    Ok(())
 }
 
 // Notes what an entry chooses, where its logical name is of this kind.
 #[tactic(auto, using(crate::proofs::EntriesNoted::noted_at))]
-fn note_entry(choices: &mut [Option<Choice>], kind: Wants, entry: &MapEntry)
-    ensures { (k : ℕ) → k < length choices.old → slice_index_or choices.new k None ≡ noted (slice_index_or choices.old k None) (same_wanted entry.now.logical (wanted_at kind k)) (choice_of entry.now) }
+fn note_entry(choices: &mut Choices, kind: Wants, entry: &MapEntry) -> Result<(), NoMemory>
+    ensures { OnOk result ((k : ℕ) → get nat_cmp choices.new k ≡ noted (get nat_cmp choices.old k) (same_wanted entry.now.logical (wanted_at kind k)) (choice_of entry.now)) }
 {
     match index_among(kind, entry.logical) {
-        None => {}
+        None => Ok(()),
         Some(index) => note(
             choices,
             index,
@@ -61,19 +69,15 @@ fn note_entry(choices: &mut [Option<Choice>], kind: Wants, entry: &MapEntry)
     }
 }
 
-/// For each of so many logical names of a kind what its first entry chooses.
-#[tactic(auto, using(crate::proofs::EntriesNoted::none_yet))]
-pub(crate) fn choices(
-    alloc: Global,
-    kind: Wants,
-    many: usize,
-    entries: &[MapEntry],
-) -> Result<Vec<Option<Choice>>, NoMemory>
-    ensures { IfOk result (λ v. HasChoices kind v.items many entries.now) }
+/// For each logical name of a kind that has an entry what its first entry chooses.
+///
+/// Answers `NoMemory` where memory was refused.
+pub(crate) fn choices(alloc: Global, kind: Wants, entries: &[MapEntry]) -> Result<Choices, NoMemory>
+    ensures { IfOk result (λ m. HasChoices kind m entries.now) }
 {
-    let mut choices: Vec<Option<Choice>> = vec![in alloc; None; many]?;
+    let mut choices = BTreeMap::new(alloc);
     for entry in entries {
-        note_entry(&mut choices, kind, entry);
+        note_entry(&mut choices, kind, entry)?;
     }
     Ok(choices)
 }

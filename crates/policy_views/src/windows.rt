@@ -2,10 +2,14 @@
 ghost use Rattle.std.specs.Prelude.{◌≡◌, map, IfOk, option_copied};
 ghost use Rattle.std.specs.List.{filter_map, flat_map, enumerate_from};
 ghost use Rattle.policy_lawful.specs.Windows.{role_rights};
+ghost use Rattle.std.specs.BTreeMap.{IsOrdered};
+ghost use Rattle.std.specs.Ordering.{nat_cmp};
+ghost use Rattle.policy_lawful.specs.ByIndex.{provided_at};
 ghost use Rattle.policy_views.specs.Entries.{chosen_channel, chosen_region};
-ghost use Rattle.policy_lawful.specs.Views.{channel_view, component_channel_view, component_views, device_view, monitor_view, provided_view, region_view, required_view, use_views, views_of};
+ghost use Rattle.policy_views.specs.Parts.{behind_views, component_asks, front_views, use_asks};
+ghost use Rattle.policy_lawful.specs.Views.{channel_view, component_channel_view, device_view, monitor_view, provided_view, region_view, required_view, views_of};
 
-use crate::entries::{Choice, Wants, choices};
+use crate::entries::{Choice, Choices, Wants, choices};
 use muen_num::NoMemory;
 use muen_num::limits::PAGE;
 use policy_lawful::resolved::{
@@ -97,44 +101,40 @@ fn provided_view(index: usize, provided: &Provided) -> View
     }
 }
 
-fn required_view(
+// On the region that is chosen for the required memory at an index of these.
+fn chosen_region(
     policy: &Elements,
-    choices: &[Option<Choice>],
+    memory: &[Required],
     index: usize,
-    required: &Required,
+    choice: &Choice,
 ) -> Option<View>
-    ensures { result ≡ chosen_region policy.now choices.now (index, required.now) }
+    ensures { result ≡ chosen_region policy.now memory.now (index, choice.now) }
 {
-    match choices.get(index) {
-        Some(Some(choice)) => region_view(
-            policy,
-            choice.physical,
-            required.virtual_address,
-            choice.rights.unwrap_or(required.rights),
-        ),
-        _ => None,
-    }
+    let required = memory.get(index)?;
+    region_view(
+        policy,
+        choice.physical,
+        required.virtual_address,
+        choice.rights.unwrap_or(required.rights),
+    )
 }
 
-fn component_channel_view(
+// On the channel that is chosen for the channel at an index of these.
+fn chosen_channel(
     policy: &Elements,
-    choices: &[Option<Choice>],
+    channels: &[ComponentChannel],
     index: usize,
-    channel: &ComponentChannel,
+    choice: &Choice,
 ) -> Option<View>
-    ensures { result ≡ chosen_channel policy.now choices.now (index, channel.now) }
+    ensures { result ≡ chosen_channel policy.now channels.now (index, choice.now) }
 {
-    match choices.get(index) {
-        Some(Some(choice)) => {
-            channel_view(
-                policy,
-                choice.physical,
-                channel.virtual_address,
-                channel.role,
-            )
-        }
-        _ => None,
-    }
+    let channel = channels.get(index)?;
+    channel_view(
+        policy,
+        choice.physical,
+        channel.virtual_address,
+        channel.role,
+    )
 }
 
 fn of_mappings(
@@ -201,16 +201,19 @@ fn of_provided(alloc: Global, provides: &[Provided]) -> Result<Vec<View>, AllocE
 fn chosen_regions(
     alloc: Global,
     policy: &Elements,
-    choices: &[Option<Choice>],
+    choices: &Choices,
     memory: &[Required],
-) -> Result<Vec<View>, AllocError>
-    ensures { IfOk result (λ v. v.items ≡ filter_map (chosen_region policy.now choices.now) (enumerate_from 0 memory.now)) }
+) -> Result<Vec<View>, NoMemory>
+    ensures value { IfOk result (λ v. v.items ≡ filter_map (chosen_region policy.now memory.now) choices.now.entries) }
+    ensures ordered { IsOrdered nat_cmp choices.now }
 {
-    memory
-        .iter()
-        .enumerate()
-        .filter_map(|(index, required)| required_view(policy, choices, index, required))
-        .collect(alloc)
+    let mut views = Vec::new(alloc);
+    for (index, choice) in choices.iter() {
+        if let Some(view) = chosen_region(policy, memory, *index, choice) {
+            views.push(view)?;
+        }
+    }
+    Ok(views)
 }
 
 #[tactic(auto, using(crate::proofs::EntriesNoted::regions_chosen))]
@@ -222,7 +225,7 @@ fn of_required(
 ) -> Result<Vec<View>, NoMemory>
     ensures { IfOk result (λ v. v.items ≡ filter_map (required_view policy.now entries.now) (enumerate_from 0 memory.now)) }
 {
-    let choices = choices(alloc, Wants::Memory, memory.len(), entries)?;
+    let choices = choices(alloc, Wants::Memory, entries)?;
     let views = chosen_regions(alloc, policy, &choices, memory)?;
     Ok(views)
 }
@@ -230,16 +233,19 @@ fn of_required(
 fn chosen_channels(
     alloc: Global,
     policy: &Elements,
-    choices: &[Option<Choice>],
+    choices: &Choices,
     channels: &[ComponentChannel],
-) -> Result<Vec<View>, AllocError>
-    ensures { IfOk result (λ v. v.items ≡ filter_map (chosen_channel policy.now choices.now) (enumerate_from 0 channels.now)) }
+) -> Result<Vec<View>, NoMemory>
+    ensures value { IfOk result (λ v. v.items ≡ filter_map (chosen_channel policy.now channels.now) choices.now.entries) }
+    ensures ordered { IsOrdered nat_cmp choices.now }
 {
-    channels
-        .iter()
-        .enumerate()
-        .filter_map(|(index, channel)| component_channel_view(policy, choices, index, channel))
-        .collect(alloc)
+    let mut views = Vec::new(alloc);
+    for (index, choice) in choices.iter() {
+        if let Some(view) = chosen_channel(policy, channels, *index, choice) {
+            views.push(view)?;
+        }
+    }
+    Ok(views)
 }
 
 #[tactic(auto, using(crate::proofs::EntriesNoted::channels_chosen))]
@@ -251,22 +257,21 @@ fn of_component_channels(
 ) -> Result<Vec<View>, NoMemory>
     ensures { IfOk result (λ v. v.items ≡ filter_map (component_channel_view policy.now entries.now) (enumerate_from 0 channels.now)) }
 {
-    let choices = choices(alloc, Wants::Channel, channels.len(), entries)?;
+    let choices = choices(alloc, Wants::Channel, entries)?;
     let views = chosen_channels(alloc, policy, &choices, channels)?;
     Ok(views)
 }
 
+// On what a component asks for: its memory, then its channels.
 fn of_component(
     alloc: Global,
     policy: &Elements,
     entries: &[MapEntry],
     component: &Component,
 ) -> Result<Vec<View>, NoMemory>
-    ensures { IfOk result (λ v. v.items ≡ component_views policy.now entries.now component.now) }
+    ensures { IfOk result (λ v. v.items ≡ component_asks policy.now entries.now component.now) }
 {
-    let mut views = of_provided(alloc, component.provides.items())?;
-    let required = of_required(alloc, policy, entries, component.memory.items())?;
-    views.extend_from_slice(&required)?;
+    let mut views = of_required(alloc, policy, entries, component.memory.items())?;
     let channels = of_component_channels(alloc, policy, entries, component.channels.items())?;
     views.extend_from_slice(&channels)?;
     Ok(views)
@@ -277,13 +282,26 @@ fn of_use(
     policy: &Elements,
     used: &Option<ComponentUse>,
 ) -> Result<Vec<View>, NoMemory>
-    ensures { IfOk result (λ v. v.items ≡ use_views policy.now used.now) }
+    ensures { IfOk result (λ v. v.items ≡ use_asks policy.now used.now) }
 {
     match used {
         None => Ok(Vec::new(alloc)),
         Some(used) => match policy.components.items().get(used.used) {
             None => Ok(Vec::new(alloc)),
             Some(component) => of_component(alloc, policy, used.map.items(), component),
+        },
+    }
+}
+
+// The regions that a subject's component brings along.
+pub(crate) fn provided<'a>(policy: &'a Elements, used: &Option<ComponentUse>) -> &'a [Provided]
+    ensures { result.now ≡ provided_at policy.now.components used.now }
+{
+    match used {
+        None => &[],
+        Some(used) => match policy.components.items().get(used.used) {
+            None => &[],
+            Some(component) => component.provides.items(),
         },
     }
 }
@@ -301,11 +319,46 @@ fn of_monitors(
         .collect(alloc)
 }
 
-/// The windows of a subject: its mappings, its channels, its devices' memory, those of its
+/// The windows of a subject before those on what its component provides: its mappings, its channels,
+/// its devices' memory.
+///
+/// Answers `NoMemory` where memory was refused.
+pub(crate) fn front(
+    alloc: Global,
+    policy: &Elements,
+    subject: &Subject,
+) -> Result<Vec<View>, NoMemory>
+    ensures { IfOk result (λ v. v.items ≡ front_views policy.now subject.now) }
+{
+    let mut views = of_mappings(alloc, policy, subject.memory.items())?;
+    let channels = of_channels(alloc, policy, subject.channels.items())?;
+    views.extend_from_slice(&channels)?;
+    let devices = of_devices(alloc, policy, subject.devices.items())?;
+    views.extend_from_slice(&devices)?;
+    Ok(views)
+}
+
+/// Those behind them: on what its component asks for, and on the state pages that it monitors.
+///
+/// Answers `NoMemory` where memory was refused.
+pub(crate) fn behind(
+    alloc: Global,
+    policy: &Elements,
+    subject: &Subject,
+) -> Result<Vec<View>, NoMemory>
+    ensures { IfOk result (λ v. v.items ≡ behind_views policy.now subject.now) }
+{
+    let mut views = of_use(alloc, policy, &subject.component)?;
+    let monitors = of_monitors(alloc, policy, subject.monitors.items())?;
+    views.extend_from_slice(&monitors)?;
+    Ok(views)
+}
+
+/// All windows of a subject: its mappings, its channels, its devices' memory, those of its
 /// component, the state pages that it monitors.
 ///
 /// Answers `NoMemory` where memory was refused.
-#[tactic(auto, unfolding(policy_lawful::specs::Views::views_of))]
+#[tactic(auto, using(crate::proofs::ViewsInParts::in_parts))]
 pub(crate) fn views(
     alloc: Global,
     policy: &Elements,
@@ -313,14 +366,10 @@ pub(crate) fn views(
 ) -> Result<Vec<View>, NoMemory>
     ensures { IfOk result (λ v. v.items ≡ views_of policy.now subject.now) }
 {
-    let mut views = of_mappings(alloc, policy, subject.memory.items())?;
-    let channels = of_channels(alloc, policy, subject.channels.items())?;
-    views.extend_from_slice(&channels)?;
-    let devices = of_devices(alloc, policy, subject.devices.items())?;
-    views.extend_from_slice(&devices)?;
-    let component = of_use(alloc, policy, &subject.component)?;
-    views.extend_from_slice(&component)?;
-    let monitors = of_monitors(alloc, policy, subject.monitors.items())?;
-    views.extend_from_slice(&monitors)?;
+    let mut views = front(alloc, policy, subject)?;
+    let given = of_provided(alloc, provided(policy, &subject.component))?;
+    views.extend_from_slice(&given)?;
+    let behind = behind(alloc, policy, subject)?;
+    views.extend_from_slice(&behind)?;
     Ok(views)
 }

@@ -14,8 +14,9 @@ use crate::declared::Declared;
 use crate::listed::{Listed, devices_of, first_repeat, names_of};
 use muen_num::limits::MOST_DOMAINS;
 use muen_num::{Name, NoMemory, first};
+use policy_lawful::Offence;
 use policy_lawful::source::{Device, Domain};
-use policy_lawful::{Offence, Resolved};
+use policy_views::Linked;
 use std::alloc::Global;
 
 // The key of the domains.
@@ -127,7 +128,7 @@ fn of_domains(
 
 // The devices of a resolved policy, no two of which have the same name.
 #[tactic(auto, using(crate::proofs::DomainsByIndex::devices_unique))]
-fn unique_devices(policy: &Resolved) -> &[Device]
+fn unique_devices(policy: &Linked) -> &[Device]
     ensures value { result.now ≡ policy.now.devices }
     ensures unique { repeated (map (λ d. d.name) result.now) ≡ None }
 {
@@ -141,7 +142,7 @@ fn unique_devices(policy: &Resolved) -> &[Device]
 ///
 /// Answers `NoMemory` where memory was refused.
 #[tactic(auto, using(crate::proofs::DomainsByIndex::domains_by_index))]
-pub fn domain_devices(alloc: Global, policy: &Resolved) -> Result<Option<Offence>, NoMemory>
+pub fn domain_devices(alloc: Global, policy: &Linked) -> Result<Option<Offence>, NoMemory>
     ensures { IfOk result (λ o. o ≡ offence_21 (source_of policy.now)) }
 {
     of_domains(alloc, unique_devices(policy), policy.device_domains())

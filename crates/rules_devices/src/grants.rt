@@ -13,7 +13,8 @@ use crate::resource::Resource;
 use muen_num::{Name, NoMemory, first_numbered};
 use policy_lawful::resolved::{DeviceUse, Subject};
 use policy_lawful::source::Device;
-use policy_lawful::{Counts, Offence, Resolved};
+use policy_lawful::{Counts, Offence};
+use policy_views::Linked;
 use std::alloc::{AllocError, Global};
 
 // Counts of all devices, none of whose parts was met.
@@ -189,7 +190,7 @@ impl Grants {
 ///
 /// Answers `NoMemory` where memory was refused.
 #[tactic(auto, using(crate::proofs::GrantsByIndex::uses_on_devices, crate::proofs::GrantsByIndex::grants_by_index))]
-pub fn granted_once(alloc: Global, policy: &Resolved) -> Result<Option<Offence>, NoMemory>
+pub fn granted_once(alloc: Global, policy: &Linked) -> Result<Option<Offence>, NoMemory>
     ensures { IfOk result (λ o. o ≡ offence_9 (source_of policy.now)) }
 {
     let grants = Grants::of(alloc, policy.devices(), policy.subjects())?;

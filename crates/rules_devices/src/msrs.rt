@@ -12,7 +12,8 @@ use muen_num::limits::{HIGH_MSR_FIRST, HIGH_MSR_LAST, LOW_MSR_LAST};
 use muen_num::{Name, NoMemory};
 use policy_lawful::resolved::Subject;
 use policy_lawful::source::Msrs;
-use policy_lawful::{Extent, Offence, Resolved};
+use policy_lawful::{Extent, Offence};
+use policy_views::Linked;
 use rules_extents::first_overlap;
 use std::alloc::{AllocError, Global};
 
@@ -100,7 +101,7 @@ fn of_subjects(alloc: Global, subjects: &[Subject]) -> Result<Option<Offence>, N
 ///
 /// Answers `NoMemory` where memory was refused.
 #[tactic(auto, using(crate::proofs::MsrsByExtent::msrs_by_index))]
-pub fn msr_ranges(alloc: Global, policy: &Resolved) -> Result<Option<Offence>, NoMemory>
+pub fn msr_ranges(alloc: Global, policy: &Linked) -> Result<Option<Offence>, NoMemory>
     ensures { IfOk result (λ o. o ≡ offence_11 (source_of policy.now)) }
 {
     of_subjects(alloc, policy.subjects())

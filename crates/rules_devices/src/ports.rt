@@ -8,7 +8,8 @@ ghost use Rattle.rules_devices.specs.Ranges.{is_port_range, port_extent};
 use muen_num::NoMemory;
 use muen_num::limits::LAST_PORT;
 use policy_lawful::source::{Device, Ports};
-use policy_lawful::{Extent, Offence, Resolved};
+use policy_lawful::{Extent, Offence};
+use policy_views::Linked;
 use rules_extents::first_fault;
 use std::alloc::Global;
 
@@ -80,7 +81,7 @@ fn count_sound(extents: &[Extent]) -> usize
 ///
 /// Answers `NoMemory` where memory was refused.
 #[tactic(auto, using(crate::proofs::PortsByExtent::sound_within, crate::proofs::PortsByExtent::sound_sized, crate::proofs::PortsByExtent::ports_by_extent))]
-pub fn port_ranges(alloc: Global, policy: &Resolved) -> Result<Option<Offence>, NoMemory>
+pub fn port_ranges(alloc: Global, policy: &Linked) -> Result<Option<Offence>, NoMemory>
     ensures { IfOk result (λ o. o ≡ offence_10 (source_of policy.now)) }
 {
     let extents = port_extents(alloc, policy.devices())?;

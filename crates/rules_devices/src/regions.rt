@@ -7,7 +7,8 @@ ghost use Rattle.rules_devices.specs.Domains.{first_repeat};
 
 use crate::listed::{Listed, first_repeat, regions_of};
 use muen_num::NoMemory;
-use policy_lawful::{Offence, Resolved};
+use policy_lawful::Offence;
+use policy_views::Linked;
 use std::alloc::Global;
 
 // The first region that stands in a domain before.
@@ -28,7 +29,7 @@ fn twice(alloc: Global, listed: &[Listed]) -> Result<Option<Offence>, NoMemory>
 ///
 /// Answers `NoMemory` where memory was refused.
 #[tactic(auto, using(crate::proofs::DomainsByIndex::regions_once))]
-pub fn regions_in_one_domain(alloc: Global, policy: &Resolved) -> Result<Option<Offence>, NoMemory>
+pub fn regions_in_one_domain(alloc: Global, policy: &Linked) -> Result<Option<Offence>, NoMemory>
     ensures { IfOk result (λ o. o ≡ offence_23 (source_of policy.now)) }
 {
     let listed = regions_of(alloc, policy.device_domains())?;

@@ -13,7 +13,8 @@ use crate::declared::Declared;
 use muen_num::limits::{GUEST_END, PAGE};
 use muen_num::{Name, NoMemory, first};
 use policy_lawful::source::{Domain, Mapping, Region};
-use policy_lawful::{Extent, Offence, Resolved};
+use policy_lawful::{Extent, Offence};
+use policy_views::Linked;
 use rules_extents::first_overlap;
 use std::alloc::{AllocError, Global};
 
@@ -204,7 +205,7 @@ fn of_windows(
 ///
 /// Answers `NoMemory` where memory was refused.
 #[tactic(auto, using(crate::proofs::WindowsByExtent::regions_unique, crate::proofs::WindowsByExtent::regions_laid, crate::proofs::WindowsByExtent::windows_by_index))]
-pub fn domain_windows(alloc: Global, policy: &Resolved) -> Result<Option<Offence>, NoMemory>
+pub fn domain_windows(alloc: Global, policy: &Linked) -> Result<Option<Offence>, NoMemory>
     requires { offence_4 (source_of policy.now) ≡ None }
     ensures { IfOk result (λ o. o ≡ offence_22 (source_of policy.now)) }
 {

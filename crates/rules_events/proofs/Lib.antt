@@ -12,3 +12,4 @@ pub mod NotedItems
 pub mod NumbersByIndex
 pub mod Rising
 pub mod SeenSearch
+pub mod Shares

@@ -1,7 +1,8 @@
 -- The scheduling groups that list each subject, by indexes.
-use Rattle.std.specs.Prelude.{ℕ, ◌<◌, ◌≤◌, ◌==◌, Bool, List, [], length, map, slice_index_or}
-use Rattle.std.specs.List.{enumerate_from, flat_map, list_any}
+use Rattle.std.specs.Prelude.{◌≡◌, ℕ, ◌<◌, ◌≤◌, ◌==◌, Bool, List, [], length, map, slice_index_or}
+use Rattle.std.specs.List.{All, enumerate_from, flat_map, list_any}
 use Rattle.policy_lawful.specs.declared.resolved.Group.{Group}
+use Rattle.rules_events.specs.declared.listings.Shared.{Shared}
 
 -- a group with its index, at each of its members
 abbrev pub memberships : ℕ × Group → List (ℕ × ℕ)
@@ -24,3 +25,7 @@ Rises indexes = (i j : ℕ) → i ≤ j → j < length indexes → slice_index_o
 -- in each list
 abbrev pub HaveRising : List (List ℕ) → Type 0
 HaveRising lists = (k : ℕ) → Rises (slice_index_or lists k [])
+
+-- of each of these pairs of subjects it is said whether some group lists both
+abbrev pub AreKnown : List (List ℕ) → List Shared → Type 0
+AreKnown lists known = All (λ s. s.shares ≡ share (slice_index_or lists s.one []) (slice_index_or lists s.other [])) known

@@ -11,7 +11,8 @@ use crate::by_index::by_index;
 use crate::parties::Party;
 use muen_num::{NoMemory, Seq};
 use policy_lawful::resolved::Subject;
-use policy_lawful::{IndexedEnd, Resolved, Role};
+use policy_lawful::{IndexedEnd, Role};
+use policy_views::Linked;
 use std::alloc::{AllocError, Global};
 
 /// An end of a channel with its subject.
@@ -41,7 +42,7 @@ fn note_channel_ends(
 }
 
 // All ends of channels, each with the index of its channel, in the order of their subjects.
-fn all_channel_ends(alloc: Global, policy: &Resolved) -> Result<Vec<(usize, Met)>, NoMemory>
+fn all_channel_ends(alloc: Global, policy: &Linked) -> Result<Vec<(usize, Met)>, NoMemory>
     ensures ends { IfOk result (λ v. v.items ≡ all_channel_ends policy.now) }
     ensures resolved { IsResolved policy.now }
 {
@@ -91,10 +92,7 @@ fn of_readers(alloc: Global, noted: &[(usize, Met)]) -> Result<Vec<(usize, Met)>
 /// For each channel the ends of its writers.
 ///
 /// Answers `NoMemory` where memory was refused.
-pub(crate) fn writers_by_channel(
-    alloc: Global,
-    policy: &Resolved,
-) -> Result<Vec<Seq<Met>>, NoMemory>
+pub(crate) fn writers_by_channel(alloc: Global, policy: &Linked) -> Result<Vec<Seq<Met>>, NoMemory>
     ensures ends { IfOk result (λ v. AreItems v.items (length policy.now.channels) (all_writers policy.now)) }
     ensures resolved { IsResolved policy.now }
 {
@@ -106,10 +104,7 @@ pub(crate) fn writers_by_channel(
 /// For each channel the ends of its readers.
 ///
 /// Answers `NoMemory` where memory was refused.
-pub(crate) fn readers_by_channel(
-    alloc: Global,
-    policy: &Resolved,
-) -> Result<Vec<Seq<Met>>, NoMemory>
+pub(crate) fn readers_by_channel(alloc: Global, policy: &Linked) -> Result<Vec<Seq<Met>>, NoMemory>
     ensures ends { IfOk result (λ v. AreItems v.items (length policy.now.channels) (all_readers policy.now)) }
     ensures resolved { IsResolved policy.now }
 {

@@ -11,8 +11,9 @@ use crate::by_index::at;
 use crate::channel_ends::{Met, readers_by_channel, writers_by_channel};
 use crate::interrupts::is_switch;
 use muen_num::{EventMode, NoMemory, Seq, first_numbered};
+use policy_lawful::Offence;
 use policy_lawful::source::Channel;
-use policy_lawful::{Offence, Resolved};
+use policy_views::Linked;
 use std::alloc::Global;
 
 // Whether none of these readers is this writer's subject.
@@ -106,7 +107,7 @@ fn first_fault(writers: &[Seq<Met>], readers: &[Seq<Met>], channels: &[Channel])
 ///
 /// Answers `NoMemory` where memory was refused.
 #[tactic(auto, using(crate::proofs::ChannelsByIndex::connected_by_index))]
-pub fn connected(alloc: Global, policy: &Resolved) -> Result<Option<Offence>, NoMemory>
+pub fn connected(alloc: Global, policy: &Linked) -> Result<Option<Offence>, NoMemory>
     ensures { IfOk result (λ o. o ≡ offence_6 (source_of policy.now)) }
 {
     let writers = writers_by_channel(alloc, policy)?;

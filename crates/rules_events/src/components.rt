@@ -12,7 +12,8 @@ use crate::by_index::{at, by_index};
 use muen_num::{Name, NoMemory, Seq, first_numbered};
 use policy_lawful::resolved::{ComponentUse, MapEntry, Subject, Wanted};
 use policy_lawful::source::{Channel, Component, ComponentChannel, Region, Required};
-use policy_lawful::{Offence, Resolved, Rights};
+use policy_lawful::{Offence, Rights};
+use policy_views::Linked;
 use std::alloc::{AllocError, Global};
 
 /// What an entry gives to a logical name.
@@ -224,7 +225,7 @@ fn channel_offence(
 // The first logical name of a component that these entries don't serve.
 fn component_offence(
     alloc: Global,
-    policy: &Resolved,
+    policy: &Linked,
     by: &Name,
     entries: &[MapEntry],
     component: &Component,
@@ -253,7 +254,7 @@ fn component_offence(
 // The first logical name of a subject's component that has no fitting entry.
 fn use_offence(
     alloc: Global,
-    policy: &Resolved,
+    policy: &Linked,
     by: &Name,
     used: &Option<ComponentUse>,
 ) -> Result<Option<Offence>, NoMemory>
@@ -270,7 +271,7 @@ fn use_offence(
 
 fn first_use(
     alloc: Global,
-    policy: &Resolved,
+    policy: &Linked,
     subjects: &[Subject],
 ) -> Result<Option<Offence>, NoMemory>
     ensures { IfOk result (λ o. o ≡ first_in (subject_offence policy.now) subjects.now) }
@@ -290,7 +291,7 @@ fn first_use(
 ///
 /// Answers `NoMemory` where memory was refused.
 #[tactic(auto, using(crate::proofs::ComponentsByIndex::mapped_by_index))]
-pub fn mapped(alloc: Global, policy: &Resolved) -> Result<Option<Offence>, NoMemory>
+pub fn mapped(alloc: Global, policy: &Linked) -> Result<Option<Offence>, NoMemory>
     ensures { IfOk result (λ o. o ≡ offence_7 (source_of policy.now)) }
 {
     first_use(alloc, policy, policy.subjects())

@@ -13,8 +13,9 @@ use crate::channel_ends::{Met, readers_by_channel, writers_by_channel};
 use crate::listings::Listings;
 use crate::parties::{Party, sources_by_event, targets_by_event};
 use muen_num::{EventMode, Name, NoMemory, Seq, first_numbered};
+use policy_lawful::Offence;
 use policy_lawful::source::{Channel, Event};
-use policy_lawful::{Offence, Resolved};
+use policy_views::Linked;
 use std::alloc::{AllocError, Global};
 
 // Whether an event of this mode may join these subjects, of which the groups are noted.
@@ -135,42 +136,107 @@ fn parties_of(alloc: Global, lists: &[Seq<Met>]) -> Result<Vec<Seq<Party>>, NoMe
     Ok(parties)
 }
 
+// Each source of an event that switches, with each of its targets.
+fn note_switches(
+    pairs: &mut Vec<(usize, usize)>,
+    mode: Option<EventMode>,
+    sources: &[Party],
+    targets: &[Party],
+) -> Result<(), NoMemory> {
+    if mode == Some(EventMode::Switch) {
+        for source in sources {
+            for target in targets {
+                pairs.push((source.index, target.index))?;
+            }
+        }
+    }
+    Ok(())
+}
+
+// Finds out which groups list both ends of a channel whose event switches.
+fn find_out_channels(
+    alloc: Global,
+    groups: &mut Listings,
+    channels: &[Channel],
+    writers: &[Seq<Party>],
+    readers: &[Seq<Party>],
+) -> Result<(), NoMemory>
+    ensures { groups.new ≡ groups.old }
+{
+    let mut pairs = Vec::new(alloc);
+    for (index, channel) in channels.iter().enumerate() {
+        note_switches(
+            &mut pairs,
+            channel.has_event,
+            at(writers, index),
+            at(readers, index),
+        )?;
+    }
+    groups.find_out(alloc, pairs)
+}
+
+// The same of events with their sources and targets.
+fn find_out_events(
+    alloc: Global,
+    groups: &mut Listings,
+    events: &[Event],
+    sources: &[Seq<Party>],
+    targets: &[Seq<Party>],
+) -> Result<(), NoMemory>
+    ensures { groups.new ≡ groups.old }
+{
+    let mut pairs = Vec::new(alloc);
+    for (index, event) in events.iter().enumerate() {
+        note_switches(
+            &mut pairs,
+            Some(event.mode),
+            at(sources, index),
+            at(targets, index),
+        )?;
+    }
+    groups.find_out(alloc, pairs)
+}
+
 // The first channel whose mode doesn't fit its ends.
 #[tactic(auto, using(crate::proofs::ModesByIndex::channels_noted))]
 fn channel_modes(
     alloc: Global,
-    groups: &Listings,
-    policy: &Resolved,
+    groups: &mut Listings,
+    policy: &Linked,
 ) -> Result<Option<Offence>, NoMemory>
-    ensures { IfOk result (λ o. o ≡ channels_fault policy.now groups.now) }
+    ensures value { IfOk result (λ o. o ≡ channels_fault policy.now groups.old) }
+    ensures groups { groups.new ≡ groups.old }
 {
     let writers = parties_of(alloc, &writers_by_channel(alloc, policy)?)?;
     let readers = parties_of(alloc, &readers_by_channel(alloc, policy)?)?;
-    Ok(first_channel(groups, &writers, &readers, policy.channels()))
+    let channels = policy.channels();
+    find_out_channels(alloc, groups, channels, &writers, &readers)?;
+    Ok(first_channel(groups, &writers, &readers, channels))
 }
 
 // The first event whose mode doesn't fit its sources and targets.
 #[tactic(auto, using(crate::proofs::ModesByIndex::events_noted))]
 fn event_modes(
     alloc: Global,
-    groups: &Listings,
-    policy: &Resolved,
+    groups: &mut Listings,
+    policy: &Linked,
 ) -> Result<Option<Offence>, NoMemory>
-    ensures { IfOk result (λ o. o ≡ events_fault policy.now groups.now) }
+    ensures { IfOk result (λ o. o ≡ events_fault policy.now groups.old) }
 {
     let events = policy.events();
     let sources = sources_by_event(alloc, policy.subjects(), events.len())?;
     let targets = targets_by_event(alloc, policy.subjects(), events.len())?;
+    find_out_events(alloc, groups, events, &sources, &targets)?;
     Ok(first_event(groups, &sources, &targets, events))
 }
 
 // The first channel, else the first event, whose mode doesn't fit.
 fn of_modes(
     alloc: Global,
-    groups: &Listings,
-    policy: &Resolved,
+    groups: &mut Listings,
+    policy: &Linked,
 ) -> Result<Option<Offence>, NoMemory>
-    ensures { IfOk result (λ o. o ≡ option_or (channels_fault policy.now groups.now) (events_fault policy.now groups.now)) }
+    ensures { IfOk result (λ o. o ≡ option_or (channels_fault policy.now groups.old) (events_fault policy.now groups.old)) }
 {
     let offence = channel_modes(alloc, groups, policy)?;
     if offence.is_some() {
@@ -185,10 +251,10 @@ fn of_modes(
 ///
 /// Answers `NoMemory` where memory was refused.
 #[tactic(auto, using(crate::proofs::ModesByIndex::modes_by_index))]
-pub fn modes(alloc: Global, policy: &Resolved) -> Result<Option<Offence>, NoMemory>
+pub fn modes(alloc: Global, policy: &Linked) -> Result<Option<Offence>, NoMemory>
     ensures { IfOk result (λ o. o ≡ offence_13 (source_of policy.now)) }
 {
     let listed = policy.scheduling().groups.items();
-    let groups = Listings::of(alloc, listed, policy.subjects().len())?;
-    of_modes(alloc, &groups, policy)
+    let mut groups = Listings::of(alloc, listed, policy.subjects().len())?;
+    of_modes(alloc, &mut groups, policy)
 }

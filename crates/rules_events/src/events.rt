@@ -9,8 +9,9 @@ ghost use Rattle.rules_events.specs.Events.{event_fault};
 use crate::by_index::at;
 use crate::parties::{Party, sources_by_event, targets_by_event};
 use muen_num::{NoMemory, Seq, first_numbered};
+use policy_lawful::Offence;
 use policy_lawful::source::Event;
-use policy_lawful::{Offence, Resolved};
+use policy_views::Linked;
 use std::alloc::Global;
 
 // The first event without sources, or that hasn't one target.
@@ -29,7 +30,7 @@ fn first_fault(sources: &[Seq<Party>], targets: &[Seq<Party>], events: &[Event])
 ///
 /// Answers `NoMemory` where memory was refused.
 #[tactic(auto, using(crate::proofs::EventsByIndex::sourced_by_index))]
-pub fn sourced(alloc: Global, policy: &Resolved) -> Result<Option<Offence>, NoMemory>
+pub fn sourced(alloc: Global, policy: &Linked) -> Result<Option<Offence>, NoMemory>
     ensures { IfOk result (λ o. o ≡ offence_12 (source_of policy.now)) }
 {
     let events = policy.events();

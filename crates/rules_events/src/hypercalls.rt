@@ -12,7 +12,8 @@ use muen_num::NoMemory;
 use muen_num::limits::MOST_CALLS;
 use policy_lawful::resolved::{EventSource, Subject};
 use policy_lawful::source::SourceWay;
-use policy_lawful::{IndexedEnd, Offence, Resolved};
+use policy_lawful::{IndexedEnd, Offence};
+use policy_views::Linked;
 use std::alloc::{AllocError, Global};
 
 fn call_number(way: SourceWay) -> Option<u64>
@@ -84,7 +85,7 @@ fn has_numbers(alloc: Global, subject: &Subject, ends: &[IndexedEnd]) -> Result<
 }
 
 // The first subject with a number that offends.
-fn first_call(alloc: Global, policy: &Resolved) -> Result<Option<Offence>, NoMemory>
+fn first_call(alloc: Global, policy: &Linked) -> Result<Option<Offence>, NoMemory>
     ensures value { IfOk result (λ o. o ≡ first_in (call_offence policy.now) policy.now.subjects) }
     ensures resolved { IsResolved policy.now }
 {
@@ -101,7 +102,7 @@ fn first_call(alloc: Global, policy: &Resolved) -> Result<Option<Offence>, NoMem
 ///
 /// Answers `NoMemory` where memory was refused.
 #[tactic(auto, using(crate::proofs::NumbersByIndex::calls_by_index))]
-pub fn calls(alloc: Global, policy: &Resolved) -> Result<Option<Offence>, NoMemory>
+pub fn calls(alloc: Global, policy: &Linked) -> Result<Option<Offence>, NoMemory>
     ensures { IfOk result (λ o. o ≡ offence_14 (source_of policy.now)) }
 {
     first_call(alloc, policy)

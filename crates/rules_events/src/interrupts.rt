@@ -11,7 +11,8 @@ use muen_num::limits::{FIRST_VECTOR, LAST_VECTOR};
 use muen_num::{EventMode, NoMemory};
 use policy_lawful::resolved::{DeviceUse, EventTarget, IrqUse, Subject};
 use policy_lawful::source::Event;
-use policy_lawful::{IndexedEnd, Offence, Resolved};
+use policy_lawful::{IndexedEnd, Offence};
+use policy_views::Linked;
 use std::alloc::{AllocError, Global};
 
 /// Whether the target also becomes active.
@@ -111,7 +112,7 @@ fn has_vectors(
 }
 
 // The first subject with a vector that offends.
-fn first_vector(alloc: Global, policy: &Resolved) -> Result<Option<Offence>, NoMemory>
+fn first_vector(alloc: Global, policy: &Linked) -> Result<Option<Offence>, NoMemory>
     ensures value { IfOk result (λ o. o ≡ first_in (vector_offence policy.now) policy.now.subjects) }
     ensures resolved { IsResolved policy.now }
 {
@@ -128,7 +129,7 @@ fn first_vector(alloc: Global, policy: &Resolved) -> Result<Option<Offence>, NoM
 ///
 /// Answers `NoMemory` where memory was refused.
 #[tactic(auto, using(crate::proofs::NumbersByIndex::vectors_by_index))]
-pub fn vectors(alloc: Global, policy: &Resolved) -> Result<Option<Offence>, NoMemory>
+pub fn vectors(alloc: Global, policy: &Linked) -> Result<Option<Offence>, NoMemory>
     ensures { IfOk result (λ o. o ≡ offence_15 (source_of policy.now)) }
 {
     first_vector(alloc, policy)

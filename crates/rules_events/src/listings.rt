@@ -1,7 +1,7 @@
 //! The scheduling groups that list each subject.
-ghost use Rattle.std.specs.Prelude.{◌≡◌, ◌++◌, [], slice_index_or, IfOk};
+ghost use Rattle.std.specs.Prelude.{◌≡◌, ℕ, List, ◌++◌, [], slice_index_or, IfOk, IfSome};
 ghost use Rattle.rules_events.specs.ByIndex.{AreItems};
-ghost use Rattle.rules_events.specs.Listings.{Rises, stands_in, share, memberships, all_memberships};
+ghost use Rattle.rules_events.specs.Listings.{AreKnown, HaveRising, Rises, stands_in, share, memberships, all_memberships};
 
 use crate::by_index::{at, by_index};
 use muen_num::{NoMemory, Seq};
@@ -9,21 +9,32 @@ use policy_lawful::resolved::Group;
 use std::alloc::Global;
 use std::marker::Model;
 
-/// For each subject the indexes of the groups that list it, which rise.
+/// Whether some group lists both of two subjects.
+#[derive(Clone, Copy, Debug, PartialEq, Eq)]
+struct Shared {
+    one: usize,
+    other: usize,
+    shares: bool,
+}
+
+/// For each subject the indexes of the groups that list it, which rise. What was found out of pairs of
+/// subjects is kept with them: subjects may be listed by many groups, and met by many events.
 #[derive(Drop)]
 pub(crate) struct Listings {
     lists: Vec<Seq<usize>>,
+    // In the order of the pairs.
+    known: Vec<Shared>,
 }
 
 impl Model for Listings {
     ghost use Rattle.std.specs.Prelude.{List, ℕ};
-    ghost use Rattle.rules_events.specs.Listings.{HaveRising};
+    ghost use Rattle.rules_events.specs.Listings.{AreKnown, HaveRising};
 
     ghost Value = { List (List ℕ) };
 
     ghost view = { λ x. x.lists.items };
 
-    ghost invariant = { λ x. HaveRising x.lists.items };
+    ghost invariant = { λ x. HaveRising x.lists.items × AreKnown x.lists.items x.known.items };
 }
 
 // Notes a group at each of its members.
@@ -72,6 +83,67 @@ fn share(one: &[usize], other: &[usize]) -> bool
     false
 }
 
+// Whether some index stands in both lists, which rise: the shorter one is gone through.
+#[tactic(auto, using(crate::proofs::Shares::share_turned))]
+fn share_rising(one: &[usize], other: &[usize]) -> bool
+    requires one { Rises one.now }
+    requires other { Rises other.now }
+    ensures { result ≡ share one.now other.now }
+{
+    if one.len() <= other.len() {
+        share(one, other)
+    } else {
+        share(other, one)
+    }
+}
+
+// Whether some group lists both subjects.
+fn share_at(lists: &[Seq<usize>], one: usize, other: usize) -> bool
+    requires { HaveRising lists.now }
+    ensures { result ≡ share (slice_index_or lists.now one []) (slice_index_or lists.now other []) }
+{
+    share_rising(at(lists, one), at(lists, other))
+}
+
+// The same of each of these pairs.
+fn find_out(
+    alloc: Global,
+    lists: &[Seq<usize>],
+    pairs: &[(usize, usize)],
+) -> Result<Vec<Shared>, NoMemory>
+    requires { HaveRising lists.now }
+    ensures { IfOk result (λ v. AreKnown lists.now v.items) }
+{
+    let mut known = Vec::new(alloc);
+    for pair in pairs {
+        let (one, other) = *pair;
+        known.push(Shared {
+            one,
+            other,
+            shares: share_at(lists, one, other),
+        })?;
+    }
+    Ok(known)
+}
+
+// What is known of a pair, if it is.
+fn find_known(known: &[Shared], one: usize, other: usize) -> Option<bool>
+    ensures { IfSome result (λ b. (lists : List (List ℕ)) → AreKnown lists known.now → b ≡ share (slice_index_or lists one []) (slice_index_or lists other [])) }
+{
+    let pair = (one, other);
+    match known.binary_search_by_key(&pair, |shared| (shared.one, shared.other)) {
+        Ok(index) => {
+            let shared = known[index];
+            if shared.one == one && shared.other == other {
+                Some(shared.shares)
+            } else {
+                None
+            }
+        }
+        Err(_) => None,
+    }
+}
+
 impl Listings {
     /// The groups that list each of so many subjects.
     ///
@@ -81,13 +153,36 @@ impl Listings {
     {
         let noted = all_memberships(alloc, groups)?;
         let lists = by_index(alloc, &noted, subjects)?;
-        Ok(Listings { lists })
+        Ok(Listings {
+            lists,
+            known: Vec::new(alloc),
+        })
     }
 
     /// Whether some group lists both subjects.
     pub(crate) fn share(&self, one: usize, other: usize) -> bool
         ensures { result ≡ share (slice_index_or self.now one []) (slice_index_or self.now other []) }
     {
-        share(at(&self.lists, one), at(&self.lists, other))
+        match find_known(&self.known, one, other) {
+            Some(shares) => shares,
+            None => share_at(&self.lists, one, other),
+        }
+    }
+
+    /// Finds out of each of these pairs of subjects whether some group lists both, so that it needn't
+    /// be found out again each time.
+    ///
+    /// Answers `NoMemory` where memory was refused.
+    pub(crate) fn find_out(
+        &mut self,
+        alloc: Global,
+        mut pairs: Vec<(usize, usize)>,
+    ) -> Result<(), NoMemory>
+        ensures { self.new ≡ self.old }
+    {
+        pairs.sort_unstable();
+        pairs.dedup();
+        self.known = find_out(alloc, &self.lists, &pairs)?;
+        Ok(())
     }
 }

@@ -9,8 +9,9 @@ ghost use Rattle.rules_events.specs.Monitors.{is_monitor_of, is_monitored, monit
 
 use crate::marks::{is_marked, mark, no_marks};
 use muen_num::NoMemory;
+use policy_lawful::Offence;
 use policy_lawful::resolved::{Monitor, Subject};
-use policy_lawful::{Offence, Resolved};
+use policy_views::Linked;
 use std::alloc::Global;
 
 // Whether a subject may have this monitor of another one, which it may not have monitored before.
@@ -103,7 +104,7 @@ fn of_subjects(marks: &mut [bool], subjects: &[Subject]) -> Option<Offence>
 ///
 /// Answers `NoMemory` where memory was refused.
 #[tactic(auto, using(crate::proofs::MonitorsByIndex::monitors_by_index))]
-pub fn monitors(alloc: Global, policy: &Resolved) -> Result<Option<Offence>, NoMemory>
+pub fn monitors(alloc: Global, policy: &Linked) -> Result<Option<Offence>, NoMemory>
     ensures { IfOk result (λ o. o ≡ offence_24 (source_of policy.now)) }
 {
     let mut marks = no_marks(alloc, policy.subjects().len())?;

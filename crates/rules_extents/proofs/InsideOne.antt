@@ -14,10 +14,10 @@ use Rattle.muen_num.proofs.Lists.{list_any-map}
 use Rattle.policy_lawful.specs.Rules.{first_overlap}
 use Rattle.policy_lawful.specs.declared.offence.Extent.{Extent}
 use Rattle.rules_extents.specs.Inside.{holds, is_inside}
-use Rattle.rules_extents.specs.AddressRange.{range_of, IsBelow}
+use Rattle.rules_extents.specs.AddressRange.{IsApart, range_of, IsBelow}
 use Rattle.rules_extents.specs.declared.overlap.AddressRange.{AddressRange}
 use Rattle.rules_extents.proofs.Overlaps.{ranges_apart}
-use Rattle.rules_extents.proofs.Ranges.{EachTwo-permutation, IsApart, neighbours_from_apart}
+use Rattle.rules_extents.proofs.Ranges.{EachTwo-permutation, neighbours_from_apart}
 
 -- ---- a test that one element alone may pass
 

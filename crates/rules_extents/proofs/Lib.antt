@@ -1,3 +1,4 @@
+pub mod Beside
 pub mod InsideOne
 pub mod Overlaps
 pub mod OwnThenPairs

@@ -13,9 +13,9 @@ use Rattle.policy_lawful.specs.Rules.{are_apart, overlapping, first_overlap}
 use Rattle.policy_lawful.specs.declared.offence.Extent.{Extent}
 use Rattle.muen_num.proofs.SearchLaws.{unless_none}
 use Rattle.rules_extents.specs.declared.overlap.AddressRange.{AddressRange}
-use Rattle.rules_extents.specs.AddressRange.{range_of, IsBelow}
+use Rattle.rules_extents.specs.AddressRange.{IsApart, range_of, IsBelow}
 use Rattle.muen_num.proofs.FirstPair.{pairs_at, pairs_from, first_pair-last}
-use Rattle.rules_extents.proofs.Ranges.{IsApart, EachTwo, EachTwo-permutation, apart_from_neighbours, neighbours_from_apart}
+use Rattle.rules_extents.proofs.Ranges.{EachTwo, EachTwo-permutation, apart_from_neighbours, neighbours_from_apart}
 
 -- ---- two ranges
 
@@ -31,7 +31,7 @@ apart_from a b (inl h) = ap (λ t. unless (t || leb (b.address + b.size) a.addre
 apart_from a b (inr h) =
     ap (λ t. unless t (two a.name b.name)) (or_right (leb (a.address + a.size) b.address) (leb (b.address + b.size) a.address) (le-leb _ _ h))
 
-apart_back : (a b : AddressRange) → IsApart a b → IsApart b a
+pub apart_back : (a b : AddressRange) → IsApart a b → IsApart b a
 apart_back a b (inl h) = inr h
 apart_back a b (inr h) = inl h
 
@@ -58,7 +58,7 @@ ranges_apart xs e i j d li lj n =
     ]
     )
 
-overlap_none : (xs : List Extent) → EachTwo IsApart (map range_of xs) → first_overlap xs ≡ None
+pub overlap_none : (xs : List Extent) → EachTwo IsApart (map range_of xs) → first_overlap xs ≡ None
 unfolding first_overlap
 overlap_none xs h =
     pairs_from overlapping xs (λ i j d l m.

@@ -7,11 +7,7 @@ use Rattle.std.proofs.lemmas.Bool.{cases_eq, cases_order, leb-true, le-leb, fals
 use Rattle.std.proofs.lemmas.List.Edits.{Swapped, swapped_from_swap, length-swap}
 use Rattle.std.proofs.lemmas.List.Sorted.{IsPermutation-keeps}
 use Rattle.rules_extents.specs.declared.overlap.AddressRange.{AddressRange}
-use Rattle.rules_extents.specs.AddressRange.{IsBelow}
-
--- two ranges share no address
-abbrev pub IsApart : AddressRange → AddressRange → Type 0
-IsApart a b = IsBelow a b ⊎ IsBelow b a
+use Rattle.rules_extents.specs.AddressRange.{IsApart, IsBelow}
 
 -- each two elements are related, in both orders
 abbrev pub EachTwo : {X : Type 0} → (X → X → Type 0) → List X → Type 0

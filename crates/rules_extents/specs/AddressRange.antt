@@ -1,5 +1,5 @@
 -- Ranges of addresses without their names.
-use Rattle.std.specs.Prelude.{◌+◌, ◌≤◌}
+use Rattle.std.specs.Prelude.{◌+◌, ◌≤◌, ◌⊎◌}
 use Rattle.policy_lawful.specs.declared.offence.Extent.{Extent}
 use Rattle.rules_extents.specs.declared.overlap.AddressRange.{AddressRange}
 
@@ -10,3 +10,7 @@ range_of e = record { address = e.address; size = e.size }
 -- the first ends at or before the address of the second
 abbrev pub IsBelow : AddressRange → AddressRange → Type 0
 IsBelow a b = a.address + a.size ≤ b.address
+
+-- two ranges share no address
+abbrev pub IsApart : AddressRange → AddressRange → Type 0
+IsApart a b = IsBelow a b ⊎ IsBelow b a

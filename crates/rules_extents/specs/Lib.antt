@@ -1,2 +1,3 @@
 pub mod AddressRange
 pub mod Inside
+pub mod Shared

@@ -19,8 +19,8 @@ fn holds(range: AddressRange, extent: &Extent) -> bool
     range.address <= extent.address && end <= u128::from(range.address) + u128::from(range.size)
 }
 
-// How many of these ranges begin at an address or before it.
-fn count_before(ranges: &[AddressRange], address: u64) -> usize
+/// How many of these ranges begin at an address or before it.
+pub(crate) fn count_before(ranges: &[AddressRange], address: u64) -> usize
     requires { IsNonDecreasingBy (λ s. s.address) ranges.now }
     ensures bound { result ≤ length ranges.now }
     ensures before { AllWithin (λ s. s.address ≤ address) ranges.now 0 result }

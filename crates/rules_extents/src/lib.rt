@@ -4,6 +4,8 @@
 
 mod inside;
 mod overlap;
+mod shared;
 
 pub use inside::count_inside;
 pub use overlap::{first_fault, first_overlap};
+pub use shared::Apart;

@@ -20,8 +20,8 @@ pub(crate) struct AddressRange {
 }
 
 impl AddressRange {
-    // The range of an extent.
-    fn of(extent: &Extent) -> AddressRange
+    /// The range of an extent.
+    pub(crate) fn of(extent: &Extent) -> AddressRange
         ensures { result ≡ range_of extent.now }
     {
         AddressRange {
@@ -30,8 +30,8 @@ impl AddressRange {
         }
     }
 
-    // Whether it ends at or before the address of the other.
-    fn is_below(self, other: AddressRange) -> bool
+    /// Whether it ends at or before the address of the other.
+    pub(crate) fn is_below(self, other: AddressRange) -> bool
         ensures { result ≡ nat_le (self.address + self.size) other.address }
     {
         u128::from(self.address) + u128::from(self.size) <= u128::from(other.address)
@@ -63,16 +63,16 @@ pub(crate) fn rising(alloc: Global, extents: &[Extent]) -> Result<Vec<AddressRan
     Ok(rising)
 }
 
-// Whether each ends at or before the address of the next.
-fn are_below(ranges: &[AddressRange]) -> bool
+/// Whether each ends at or before the address of the next.
+pub(crate) fn are_below(ranges: &[AddressRange]) -> bool
     ensures { IsTrue result ↔ AllAdjacentBelow IsBelow ranges.now (length ranges.now) }
 {
     ranges.is_sorted_by(|a, b| a.is_below(*b))
 }
 
-// Whether any two share an address.
+/// Whether any two share an address. None is empty.
 #[tactic(auto, using(crate::proofs::Overlaps::overlap_is))]
-fn overlap(alloc: Global, extents: &[Extent]) -> Result<bool, NoMemory>
+pub(crate) fn overlap(alloc: Global, extents: &[Extent]) -> Result<bool, NoMemory>
     requires { All (λ e. 0 < e.size) extents.now }
     ensures { IfOk result (λ b. b ≡ is_some (first_overlap extents.now)) }
 {

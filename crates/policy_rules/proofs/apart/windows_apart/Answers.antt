@@ -1,11 +1,10 @@
-use Rattle.std.proofs.Common.{◌≡◌, ◌≤◌, refl, Some, None, length, map, sym, ap, subst, ◌∙◌, arith}
+use Rattle.std.proofs.Common.{◌≡◌, ◌≤◌, refl, Some, None, length, sym, ap, subst, ◌∙◌, arith}
 use Rattle.std.proofs.Math.ListN.{drop_of_length-le}
 use Rattle.muen_num.specs.Search.{first_in}
-use Rattle.policy_lawful.specs.Rules.{first_overlap}
-use Rattle.policy_lawful.specs.Views.{view_extent}
-use Rattle.policy_lawful.proofs.SeenAtIndex.{views_read}
+use Rattle.policy_views.proofs.SightsAtIndex.{behind_read, front_read}
 use Rattle.rules_events.proofs.SeenSearch.{found, further}
-use Rattle.policy_rules.specs.Windows.{outside, outside_in, overlap_in}
+use Rattle.policy_rules.specs.Parted.{AreProvided}
+use Rattle.policy_rules.specs.Windows.{outside_in, overlap_in}
 use Rattle.policy_rules.proofs.RangesByIndex.{none_outside, windows_apart}
 use Rattle.policy_rules.proofs.SubjectsInTurn.{none_in_turn}
 use Rattle.policy_rules.proofs.apart.windows_apart.Goals as goal
@@ -14,24 +13,30 @@ pub loop-index-init : goal.loop-index-init
 loop-index-init c = record {
   rest = refl;
   inside = none_outside c.args.policy.now c.subjects-subject-items.ensures.resolved c.requires;
+  provided = subst (AreProvided c.in_ok-provided.provided.items) c.components.ensures c.in_ok-provided.ensures;
 }
 
-pub of_subject-requires : goal.of_subject-requires
-of_subject-requires c =
+pub of_subject-requires-clause-front : goal.of_subject-requires-clause-front
+of_subject-requires-clause-front c =
+    c.front-front.ensures ∙ front_read c.args.policy.now _ c.loop-index.index c.subject-item.result c.subjects-subject-items.ensures.value c.loop-index-test.true c.subject-item.is
+
+pub of_subject-requires-clause-behind : goal.of_subject-requires-clause-behind
+of_subject-requires-clause-behind c =
+    c.behind-behind.ensures ∙ behind_read c.args.policy.now _ c.loop-index.index c.subject-item.result c.subjects-subject-items.ensures.value c.loop-index-test.true c.subject-item.is
+
+pub of_subject-requires-clause-inside : goal.of_subject-requires-clause-inside
+of_subject-requires-clause-inside c =
     let r = c.args.policy.now in
-    let s = c.subject-item.result in
-    let same = c.subjects-subject-items.ensures.value in
-    ap (first_in (outside s.name)) (c.views.ensures ∙ views_read r _ c.loop-index.index s same c.loop-index-test.true c.subject-item.is)
-    ∙ (none_in_turn r.subjects _ c.loop-index.index s same c.loop-index-test.true c.subject-item.is (outside_in r) c.loop-index.invariant.inside).0
+    (none_in_turn r.subjects _ c.loop-index.index c.subject-item.result c.subjects-subject-items.ensures.value c.loop-index-test.true c.subject-item.is (outside_in r) c.loop-index.invariant.inside).0
+
+pub of_subject-requires-clause-provided : goal.of_subject-requires-clause-provided
+of_subject-requires-clause-provided c = subst (λ kept. AreProvided kept c.args.policy.now.components) (sym c.deref.ensures.value) c.loop-index.invariant.provided
 
 pub returns-in-Some : goal.returns-in-Some
 returns-in-Some c =
     let r = c.args.policy.now in
-    let s = c.subject-item.result in
-    let same = c.subjects-subject-items.ensures.value in
-    let has = c.in_ok-offence.ensures ∙ ap (λ vs. first_overlap (map view_extent vs)) (c.views.ensures ∙ views_read r _ c.loop-index.index s same c.loop-index-test.true c.subject-item.is) in
-    found (overlap_in r) r.subjects _ c.loop-index.index s same c.loop-index-test.true c.subject-item.is c.in-Some.offence
-    (sym c.in-Some.is ∙ has) c.loop-index.invariant.rest
+    found (overlap_in r) r.subjects _ c.loop-index.index c.subject-item.result c.subjects-subject-items.ensures.value c.loop-index-test.true c.subject-item.is c.in-Some.offence
+    (sym c.in-Some.is ∙ c.in_ok-offence.ensures) c.loop-index.invariant.rest
     ∙ windows_apart r c.subjects-subject-items.ensures.resolved
 
 pub loop-index-preserved : goal.loop-index-preserved
@@ -39,10 +44,10 @@ loop-index-preserved c =
     let r = c.args.policy.now in
     let s = c.subject-item.result in
     let same = c.subjects-subject-items.ensures.value in
-    let has = c.in_ok-offence.ensures ∙ ap (λ vs. first_overlap (map view_extent vs)) (c.views.ensures ∙ views_read r _ c.loop-index.index s same c.loop-index-test.true c.subject-item.is) in
     record {
-      rest = further (overlap_in r) r.subjects _ c.loop-index.index s same c.loop-index-test.true c.subject-item.is (sym c.in_default.is ∙ has) c.loop-index.invariant.rest;
+      rest = further (overlap_in r) r.subjects _ c.loop-index.index s same c.loop-index-test.true c.subject-item.is (sym c.in_default.is ∙ c.in_ok-offence.ensures) c.loop-index.invariant.rest;
       inside = (none_in_turn r.subjects _ c.loop-index.index s same c.loop-index-test.true c.subject-item.is (outside_in r) c.loop-index.invariant.inside).1;
+      provided = c.loop-index.invariant.provided;
     }
 
 pub returns : goal.returns

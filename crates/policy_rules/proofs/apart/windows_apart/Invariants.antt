@@ -1,6 +1,7 @@
 -- No windows of the subjects so far share an address.
 use Rattle.std.proofs.Common.{◌≡◌, None, drop}
 use Rattle.muen_num.specs.Search.{first_in}
+use Rattle.policy_rules.specs.Parted.{AreProvided}
 use Rattle.policy_rules.specs.Windows.{outside_in, overlap_in}
 use Rattle.policy_rules.proofs.apart.windows_apart.Given as goal
 
@@ -8,4 +9,5 @@ abbrev pub invariant-loop-index : goal.invariant-loop-index
 invariant-loop-index l = record {
   rest : first_in (overlap_in l.policy) (drop l.index l.policy.subjects) ≡ first_in (overlap_in l.policy) l.policy.subjects;
   inside : first_in (outside_in l.policy) (drop l.index l.policy.subjects) ≡ None;
+  provided : AreProvided l.provided.items l.policy.components;
 }

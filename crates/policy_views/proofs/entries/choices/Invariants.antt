@@ -4,4 +4,4 @@ use Rattle.policy_views.specs.Entries.{HasChoices}
 use Rattle.policy_views.proofs.entries.choices.Given as goal
 
 abbrev pub invariant-loop-entry : goal.invariant-loop-entry
-invariant-loop-entry l = HasChoices l.kind l.choices.items l.many (take l.entry-index l.entries)
+invariant-loop-entry l = HasChoices l.kind l.choices (take l.entry-index l.entries)

@@ -1,0 +1,41 @@
+-- Two lists share an index in either order.
+use Rattle.std.proofs.Common.{◌≡◌, ℕ, Bool, true, false, List, [], ◌∷◌, refl, sym, ap, ◌∙◌, inl, inr, arith}
+use Rattle.std.specs.Prelude.{◌==◌, ◌||◌}
+use Rattle.std.specs.List.{list_any}
+use Rattle.std.proofs.lemmas.Bool.{cases_eq, eq-eqb, ne_eqb}
+use Rattle.rules_events.specs.Listings.{AreKnown, share, stands_in}
+use Rattle.rules_events.specs.declared.listings.Shared.{Shared}
+
+equal_turned : (a b : ℕ) → (a == b) ≡ (b == a)
+equal_turned a b =
+    elim (cases_eq a b) as (λ _. (a == b) ≡ (b == a)) [
+      | inl same ↦ eq-eqb a b same ∙ sym (eq-eqb b a (sym same))
+      | inr other ↦ ne_eqb a b other ∙ sym (ne_eqb b a (λ same. other (sym same)))
+    ]
+
+none_shared : (xs : List ℕ) → share xs [] ≡ false
+none_shared [] = refl
+none_shared (x ∷ xs) = none_shared xs
+
+or_past : (a b c d : Bool) → ((a || b) || (c || d)) ≡ ((a || c) || (b || d))
+or_past true b c d = refl
+or_past false true true d = refl
+or_past false true false d = refl
+or_past false false c d = refl
+
+-- one more in the second
+one_more : (y : ℕ) (xs ys : List ℕ) → share xs (y ∷ ys) ≡ (stands_in xs y || share xs ys)
+one_more y [] ys = refl
+one_more y (x ∷ xs) ys =
+    ap (λ b. ((y == x) || stands_in ys x) || b) (one_more y xs ys)
+    ∙ or_past (y == x) (stands_in ys x) (stands_in xs y) (share xs ys)
+    ∙ ap (λ b. (b || stands_in xs y) || (stands_in ys x || share xs ys)) (equal_turned y x)
+
+pub share_turned : (xs ys : List ℕ) → share ys xs ≡ share xs ys
+share_turned xs [] = sym (none_shared xs)
+share_turned xs (y ∷ ys) = ap (λ b. stands_in xs y || b) (share_turned xs ys) ∙ sym (one_more y xs ys)
+
+-- of no pairs anything is known
+pub none_known : (lists : List (List ℕ)) (known : List Shared) → known ≡ [] → AreKnown lists known
+none_known lists [] none k d l = absurd (omega arith)
+none_known lists (s ∷ known) none k d l = absurd (cc)
