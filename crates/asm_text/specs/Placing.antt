@@ -1,0 +1,19 @@
+-- What the calls that lay a source out keep, in the words of the definition.
+use Rattle.std.specs.Prelude.{Result, Ok, Err}
+use Rattle.asm_text.specs.Layout.{Standing, Layout as Lines}
+use Rattle.asm_text.specs.declared.fault.LineError.{LineError}
+use Rattle.asm_text.specs.declared.fault.SourceFault.{SourceFault}
+use Rattle.asm_text.specs.declared.layout.Layout.{Layout}
+use Rattle.asm_text.specs.declared.layout.Names.{Names}
+
+abbrev pub standing_of : Names → Standing
+standing_of n = record { here = n.here; names = n.names.entries }
+
+-- what a call leaves where it succeeds
+abbrev pub laid_out : Result (Unit {0}) LineError → Names → Result Standing LineError
+laid_out (Ok u) n = Ok (standing_of n)
+laid_out (Err e) n = Err e
+
+abbrev pub shown_layout : Result Layout SourceFault → Result Lines SourceFault
+shown_layout (Ok l) = Ok (record { lines = l.lines; names = l.names.entries })
+shown_layout (Err fault) = Err fault

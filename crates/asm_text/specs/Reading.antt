@@ -1,0 +1,331 @@
+-- What a line of a source says, or its first fault.
+use Rattle.std.specs.Prelude.{ℕ, ◌+◌, ◌==◌, ◌||◌, zero, suc, Bool, true, false, List, [], ◌∷◌, codes, Option, Some, None, Result, Ok, Err, option_map, slice_index, if◌then◌else◌}
+use Rattle.std.specs.Char.{is_ascii_digit}
+use Rattle.std.specs.Str.{bytes_eq}
+use Rattle.muen_num.specs.declared.access.AccessSize.{AccessSize}
+use Rattle.muen_num.specs.declared.access.AccessSize.TheVariants.{One, Two, Four, Eight}
+use Rattle.record_text.specs.Steps.{◌>>=◌, ◌>>◌}
+use Rattle.asm_text.specs.Mnemonics.{shape_of}
+use Rattle.asm_text.specs.Tokens.{Tokens, end_with, token}
+use Rattle.asm_text.specs.Words.{register_of, number_in, symbol_of, mnemonic_of, data_size_of, size_of, size_unit}
+use Rattle.asm_text.specs.declared.fault.LineError.{LineError}
+use Rattle.asm_text.specs.declared.fault.LineError.TheVariants.{Wanted}
+use Rattle.asm_text.specs.declared.fault.Want.{Want}
+use Rattle.asm_text.specs.declared.fault.Want.TheVariants.{Mnemonic as MnemonicWant, Register, Size, Comma, At, To, Port, Number, Term as TermWant, Name as NameWant, End}
+use Rattle.asm_text.specs.declared.mnemonic.Mnemonic.{Mnemonic}
+use Rattle.asm_text.specs.declared.mnemonic.Shape.{Shape}
+use Rattle.asm_text.specs.declared.mnemonic.Shape.TheVariants.{Alone, Immediate, Pair, Memory, PortRead, PortWrite, Destination, Source, Jump, JumpIf, JumpBelow}
+use Rattle.asm_text.specs.declared.statement.Atom.{Atom}
+use Rattle.asm_text.specs.declared.statement.Atom.TheVariants.{Number as NumberAtom, Name as NameAtom}
+use Rattle.asm_text.specs.declared.statement.Term.{Term}
+use Rattle.asm_text.specs.declared.statement.Value.{Value}
+use Rattle.asm_text.specs.declared.statement.Operands.{Operands}
+use Rattle.asm_text.specs.declared.statement.Operation.{Operation}
+use Rattle.asm_text.specs.declared.statement.Integer.{Integer}
+use Rattle.asm_text.specs.declared.statement.Label.{Label}
+use Rattle.asm_text.specs.declared.statement.Statement.{Statement}
+use Rattle.asm_text.specs.declared.statement.Statement.TheVariants.{Nothing, Definition, Offset, Data, Instruction}
+use Rattle.asm_text.specs.declared.statement.SourceLine.{SourceLine}
+
+abbrev pub left_of : Tokens → ℕ
+left_of (end_with left) = left
+left_of (token left word more) = left
+
+-- what is wanted isn't there
+abbrev pub wanted : {X : Type 0} → ℕ → Want → Result X LineError
+wanted left want = Err (Wanted left want)
+
+-- ---- tokens
+
+abbrev pub found : {X : Type 0} → ℕ → Want → Tokens → Option X → Result (X × Tokens) LineError
+found left want more None = wanted left want
+found left want more (Some x) = Ok (x, more)
+
+-- the next token, as a word is read
+abbrev pub next : {X : Type 0} → (List ℕ → Option X) → Want → Tokens → Result (X × Tokens) LineError
+next read want (end_with left) = wanted left want
+next read want (token left word more) = found left want more (read word)
+
+abbrev pub ok_or_wanted : {X : Type 0} → ℕ → Want → Option X → Result X LineError
+ok_or_wanted left want None = wanted left want
+ok_or_wanted left want (Some x) = Ok x
+
+abbrev pub is_word : List ℕ → List ℕ → Option (Unit {0})
+is_word text word = if bytes_eq word text then Some tt else None
+
+-- this word or mark
+unfoldable pub keyword : List ℕ → Want → Tokens → Result Tokens LineError
+keyword text want ts = do
+  (_, ts) ← next (is_word text) want ts
+  Ok ts
+
+unfoldable pub register : Tokens → Result (ℕ × Tokens) LineError
+register ts = next register_of Register ts
+
+-- the line ends
+unfoldable pub at_end : Tokens → Result (Unit {0}) LineError
+at_end (end_with left) = Ok tt
+at_end (token left word more) = wanted left End
+
+-- a number of bytes, with its unit
+unfoldable pub size : Tokens → Result (AccessSize × Tokens) LineError
+size ts = do
+  (n, ts) ← next size_of Size ts
+  ts ← keyword (size_unit n) Size ts
+  Ok (n, ts)
+
+-- ---- values
+
+-- whether a word is a sign, and then whether it is `-`
+abbrev pub sign_of : List ℕ → Option Bool
+sign_of word =
+    if bytes_eq word (codes "-") then Some true
+    else if bytes_eq word (codes "+") then Some false
+    else None
+
+-- a number, which begins with a digit, or a name
+abbrev pub atom_of : List ℕ → Option Atom
+atom_of word =
+    if is_ascii_digit (slice_index word 0) then option_map NumberAtom (number_in word) else option_map NameAtom (symbol_of word)
+
+-- a term with its sign, and then others
+abbrev pub with_term : ℕ → Bool → Option Atom → Result (List Term × Tokens) LineError → Result (List Term × Tokens) LineError
+with_term left minus None others = wanted left TermWant
+with_term left minus (Some atom) others = do
+  (terms, ts) ← others
+  Ok (record { left = left; minus = minus; atom = atom } ∷ terms, ts)
+
+-- .. where a sign stands there
+abbrev pub with_signed_term : Option Bool → Tokens → ℕ → Option Atom → Result (List Term × Tokens) LineError → Result (List Term × Tokens) LineError
+with_signed_term None here left atom others = Ok ([], here)
+with_signed_term (Some minus) here left atom others = with_term left minus atom others
+
+abbrev pub without_term : Option Bool → Tokens → ℕ → Result (List Term × Tokens) LineError
+without_term None here left = Ok ([], here)
+without_term (Some minus) here left = wanted left TermWant
+
+-- terms with a sign each, as many as there are
+unfoldable pub signed_terms : Tokens → Result (List Term × Tokens) LineError
+signed_terms (end_with left) = Ok ([], end_with left)
+signed_terms (token left word (end_with last)) = without_term (sign_of word) (token left word (end_with last)) last
+signed_terms (token left word (token at atom more)) =
+    with_signed_term (sign_of word) (token left word (token at atom more)) at (atom_of atom) (signed_terms more)
+
+-- a term that begins here, and those behind it
+abbrev pub terms_of : Bool → Tokens → Result (List Term × Tokens) LineError
+terms_of minus (end_with left) = wanted left TermWant
+terms_of minus (token left word more) = with_term left minus (atom_of word) (signed_terms more)
+
+-- the first may have a sign
+abbrev pub terms_behind : Option Bool → Tokens → Tokens → Result (List Term × Tokens) LineError
+terms_behind None here more = terms_of false here
+terms_behind (Some minus) here more = terms_of minus more
+
+abbrev pub terms : Tokens → Result (List Term × Tokens) LineError
+terms (end_with left) = wanted left TermWant
+terms (token left word more) = terms_behind (sign_of word) (token left word more) more
+
+-- a sum
+unfoldable pub value : Tokens → Result (Value × Tokens) LineError
+value ts = do
+  (sum, more) ← terms ts
+  Ok (record { left = left_of ts; terms = sum }, more)
+
+-- what is added to a register; nothing is 0
+unfoldable pub displacement : Tokens → Result (Value × Tokens) LineError
+displacement ts = do
+  (sum, more) ← signed_terms ts
+  Ok (record { left = left_of ts; terms = sum }, more)
+
+abbrev pub comma : Tokens → Result Tokens LineError
+comma ts = keyword (codes ",") Comma ts
+
+-- whether the line ends
+abbrev pub is_at_end : Tokens → Bool
+is_at_end (end_with left) = true
+is_at_end (token left word more) = false
+
+-- values up to the end of the line with commas between them, at most so many
+unfoldable pub values : ℕ → Tokens → Result (List Value) LineError
+values zero ts = wanted (left_of ts) TermWant
+values (suc n) ts = do
+  (first, ts) ← value ts
+  if is_at_end ts then Ok (first ∷ []) else do
+    ts ← comma ts
+    others ← values n ts
+    Ok (first ∷ others)
+
+-- ---- operands
+
+abbrev pub no_value : Value
+no_value = record { left = 0; terms = [] }
+
+abbrev pub operands : ℕ → ℕ → AccessSize → Value → Operands
+operands rd rs size value = record { rd = rd; rs = rs; size = size; value = value }
+
+-- rd, rs
+unfoldable pub pair : Tokens → Result (ℕ × ℕ × Tokens) LineError
+pair ts = do
+  (rd, ts) ← register ts
+  ts ← comma ts
+  (rs, ts) ← register ts
+  Ok (rd, rs, ts)
+
+-- rs + imm
+unfoldable pub place : Tokens → Result (ℕ × Value × Tokens) LineError
+place ts = do
+  (rs, ts) ← register ts
+  (offset, ts) ← displacement ts
+  Ok (rs, offset, ts)
+
+-- at most four bytes
+abbrev pub small : ℕ → AccessSize → Result (Unit {0}) LineError
+small left One = Ok tt
+small left Two = Ok tt
+small left Four = Ok tt
+small left Eight = wanted left Size
+
+-- rd, SIZE at rs + imm
+unfoldable pub memory : Tokens → Result (Operands × Tokens) LineError
+memory ts = do
+  (rd, ts) ← register ts
+  ts ← comma ts
+  (n, ts) ← size ts
+  ts ← keyword (codes "at") At ts
+  (rs, offset, ts) ← place ts
+  Ok (operands rd rs n offset, ts)
+
+-- rd, SIZE at port rs + imm; or with another word for `at`
+unfoldable pub port : List ℕ → Want → Tokens → Result (Operands × Tokens) LineError
+port text want ts = do
+  (rd, ts) ← register ts
+  at ← comma ts
+  (n, ts) ← size at
+  small (left_of at) n
+  ts ← keyword text want ts
+  ts ← keyword (codes "port") Port ts
+  (rs, offset, ts) ← place ts
+  Ok (operands rd rs n offset, ts)
+
+-- rd, imm
+unfoldable pub immediate : Tokens → Result (Operands × Tokens) LineError
+immediate ts = do
+  (rd, ts) ← register ts
+  ts ← comma ts
+  (imm, ts) ← value ts
+  Ok (operands rd 0 One imm, ts)
+
+-- rd, rs, imm
+unfoldable pub below_jump : Tokens → Result (Operands × Tokens) LineError
+below_jump ts = do
+  (rd, rs, ts) ← pair ts
+  ts ← comma ts
+  (imm, ts) ← value ts
+  Ok (operands rd rs One imm, ts)
+
+-- what stands behind a mnemonic of this shape
+unfoldable pub operands_of : Shape → Tokens → Result (Operands × Tokens) LineError
+operands_of Alone ts = Ok (operands 0 0 One no_value, ts)
+operands_of Immediate ts = immediate ts
+operands_of Pair ts = do
+  (rd, rs, ts) ← pair ts
+  Ok (operands rd rs One no_value, ts)
+operands_of Memory ts = memory ts
+operands_of PortRead ts = port (codes "at") At ts
+operands_of PortWrite ts = port (codes "to") To ts
+operands_of Destination ts = do
+  (rd, ts) ← register ts
+  Ok (operands rd 0 One no_value, ts)
+operands_of Source ts = do
+  (rs, ts) ← register ts
+  Ok (operands 0 rs One no_value, ts)
+operands_of Jump ts = do
+  (imm, ts) ← value ts
+  Ok (operands 0 0 One imm, ts)
+operands_of JumpIf ts = immediate ts
+operands_of JumpBelow ts = below_jump ts
+
+-- ---- statements
+
+-- an instruction up to the end of the line
+unfoldable pub instruction : ℕ → Mnemonic → Tokens → Result Statement LineError
+instruction left mnemonic ts = do
+  (with, ts) ← operands_of (shape_of mnemonic) ts
+  at_end ts
+  Ok (Instruction (record { left = left; mnemonic = mnemonic; operands = with }))
+
+-- data up to the end of the line
+unfoldable pub data_line : ℕ → AccessSize → Tokens → Result Statement LineError
+data_line left n ts = do
+  vs ← values (left_of ts + 1) ts
+  Ok (Data left n vs)
+
+unfoldable pub number : Tokens → Result (ℕ × Tokens) LineError
+number ts = next number_in Number ts
+
+-- `.at` with a number up to the end of the line
+unfoldable pub offset_line : ℕ → Tokens → Result Statement LineError
+offset_line left ts = do
+  (n, ts) ← number ts
+  at_end ts
+  Ok (Offset left n)
+
+abbrev pub integer_with : Bool → Tokens → Result (Integer × Tokens) LineError
+integer_with minus ts = do
+  (n, ts) ← number ts
+  Ok (record { minus = minus; magnitude = n }, ts)
+
+-- a number, maybe with `-`
+abbrev pub signed_number : Option Bool → Tokens → Tokens → Result (Integer × Tokens) LineError
+signed_number None here more = integer_with false here
+signed_number (Some false) here more = integer_with false here
+signed_number (Some true) here more = integer_with true more
+
+abbrev pub integer : Tokens → Result (Integer × Tokens) LineError
+integer (end_with left) = wanted left Number
+integer (token left word more) = signed_number (sign_of word) (token left word more) more
+
+abbrev pub name_at : ℕ → List ℕ → Result (List ℕ) LineError
+name_at left word = ok_or_wanted left NameWant (symbol_of word)
+
+-- NAME = NUMBER, where the name stands before these tokens
+unfoldable pub definition : ℕ → List ℕ → Tokens → Result Statement LineError
+definition left word ts = do
+  name ← name_at left word
+  (n, ts) ← integer ts
+  at_end ts
+  Ok (Definition left name n)
+
+-- the word of a statement, and what stands behind it
+abbrev pub directive : ℕ → List ℕ → Tokens → Option AccessSize → Option Mnemonic → Result Statement LineError
+directive left word ts (Some n) mnemonic = data_line left n ts
+directive left word ts None (Some mnemonic) = instruction left mnemonic ts
+directive left word ts None None = wanted left MnemonicWant
+
+abbrev pub worded : ℕ → List ℕ → Tokens → Result Statement LineError
+worded left word ts =
+    if bytes_eq word (codes ".at") then offset_line left ts else directive left word ts (data_size_of word) (mnemonic_of word)
+
+-- a statement, or nothing
+unfoldable pub statement : Tokens → Result Statement LineError
+statement (end_with left) = Ok Nothing
+statement (token left word (end_with last)) = worded left word (end_with last)
+statement (token left word (token at mark more)) =
+    if bytes_eq mark (codes "=") then definition left word more else worded left word (token at mark more)
+
+-- a label, where one stands there
+unfoldable pub label : Tokens → Result (Option Label × Tokens) LineError
+label (end_with left) = Ok (None, end_with left)
+label (token left word (end_with last)) = Ok (None, token left word (end_with last))
+label (token left word (token at mark more)) =
+    if bytes_eq mark (codes ":") then do
+      name ← name_at left word
+      Ok (Some (record { left = left; name = name }), more)
+    else Ok (None, token left word (token at mark more))
+
+-- what a line says
+unfoldable pub line_of : Tokens → Result SourceLine LineError
+line_of ts = do
+  (l, ts) ← label ts
+  s ← statement ts
+  Ok (record { label = l; statement = s })

@@ -1,0 +1,67 @@
+-- What a word spells.
+use Rattle.std.specs.Prelude.{ℕ, ◌^◌, ◌<◌, ◌==◌, ◌&&◌, ◌||◌, Bool, nat_lt, true, List, [], ◌∷◌, take, drop, length, codes, slice_index, Option, Some, None, option_and_then, if◌then◌else◌}
+use Rattle.std.specs.Char.{is_ascii_alphabetic, is_ascii_digit}
+use Rattle.std.specs.List.{find}
+use Rattle.std.specs.Str.{bytes_eq}
+use Rattle.muen_num.specs.Naming.{name_of}
+use Rattle.muen_num.specs.declared.access.AccessSize.{AccessSize}
+use Rattle.muen_num.specs.declared.access.AccessSize.TheVariants.{One, Two, Four, Eight}
+use Rattle.record_text.specs.Words.{number_of}
+use Rattle.policy_values.specs.Based.{based, groups_of, number_of_groups}
+use Rattle.asm_text.specs.Mnemonics.{mnemonic_text}
+use Rattle.asm_text.specs.declared.mnemonic.Mnemonic.{Mnemonic}
+use Rattle.asm_text.specs.declared.mnemonic.TheConstants.{MNEMONICS}
+
+-- what stands behind a beginning, where a word has it
+abbrev pub behind : List ℕ → List ℕ → Option (List ℕ)
+behind beginning word = if bytes_eq (take (length beginning) word) beginning then Some (drop (length beginning) word) else None
+
+abbrev pub below : ℕ → ℕ → Option ℕ
+below end n = if nat_lt n end then Some n else None
+
+-- `r0` to `r15`
+abbrev pub register_of : List ℕ → Option ℕ
+register_of word = option_and_then (below 16) (option_and_then number_of (behind (codes "r") word))
+
+-- the first that there is
+abbrev pub or_else : {X : Type 0} → Option X → Option X → Option X
+or_else (Some x) other = Some x
+or_else None other = other
+
+-- a number below 2^64: decimal without a leading zero, `0x3f_fef0` or `16#3f_fef0#`
+abbrev pub number_in : List ℕ → Option ℕ
+number_in word =
+    or_else (option_and_then (λ digits. number_of_groups (groups_of digits)) (behind (codes "0x") word))
+    (or_else (based word) (option_and_then (below (2 ^ 64)) (number_of word)))
+
+-- a letter or `_` at the head, and a name's bytes and length
+abbrev pub symbol_of : List ℕ → Option (List ℕ)
+symbol_of word =
+    if is_ascii_alphabetic (slice_index word 0) || (slice_index word 0 == 95) then name_of word else None
+
+-- the mnemonic that a word is
+abbrev pub mnemonic_of : List ℕ → Option Mnemonic
+mnemonic_of word = find (λ m. bytes_eq (mnemonic_text m) word) MNEMONICS
+
+-- data of 1, 2, 4 or 8 bytes
+abbrev pub data_size_of : List ℕ → Option AccessSize
+data_size_of word =
+    if bytes_eq word (codes ".byte") then Some One
+    else if bytes_eq word (codes ".u16") then Some Two
+    else if bytes_eq word (codes ".u32") then Some Four
+    else if bytes_eq word (codes ".u64") then Some Eight
+    else None
+
+-- the number before `byte` or `bytes`
+abbrev pub size_of : List ℕ → Option AccessSize
+size_of word =
+    if bytes_eq word (codes "1") then Some One
+    else if bytes_eq word (codes "2") then Some Two
+    else if bytes_eq word (codes "4") then Some Four
+    else if bytes_eq word (codes "8") then Some Eight
+    else None
+
+-- `byte` behind 1, else `bytes`
+abbrev pub size_unit : AccessSize → List ℕ
+size_unit One = codes "byte"
+size_unit size = codes "bytes"

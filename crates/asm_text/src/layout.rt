@@ -1,0 +1,175 @@
+//! Where what each line says begins, and what each name stands for.
+ghost use Rattle.std.specs.Prelude.{◌≡◌, IfOk};
+ghost use Rattle.muen_num.specs.Answers.{Answers};
+ghost use Rattle.asm_text.specs.Layout.{after_line, at_start, in_line, labelled, layout_from, moved, stated, with_name};
+ghost use Rattle.asm_text.specs.Placing.{laid_out, shown_layout, standing_of};
+ghost use Rattle.record_text.specs.Words.{lines_of};
+
+use crate::fault::{LineError, SourceFault, Want};
+use crate::reading::line_of;
+use crate::statement::{Label, Meaning, Placed, SourceLine, Statement};
+use muen_num::limits::COMPONENT_FILE_MOST;
+use muen_num::{Name, Seq};
+use std::alloc::Global;
+use std::collections::BTreeMap;
+use text_words::first_line;
+
+/// What each name stands for, and where the next line begins.
+#[derive(Drop)]
+pub(crate) struct Names {
+    pub here: u64,
+    pub names: BTreeMap<Name, Meaning>,
+}
+
+impl Names {
+    // A name that is new.
+    fn add(&mut self, left: usize, name: Name, meaning: Meaning) -> Result<(), LineError>
+        ensures { Answers LineError.NoMemory (with_name left name meaning (standing_of self.old)) (laid_out result self.new) }
+    {
+        if self.names.contains_key(&name) {
+            return Err(LineError::Wanted {
+                left,
+                want: Want::NewName,
+            });
+        }
+        match self.names.insert(name, meaning) {
+            Ok(_) => Ok(()),
+            Err(_) => Err(LineError::NoMemory),
+        }
+    }
+
+    // What follows begins there.
+    fn move_to(&mut self, left: usize, to: u64) -> Result<(), LineError>
+        ensures { laid_out result self.new ≡ moved left to (standing_of self.old) }
+    {
+        if to > COMPONENT_FILE_MOST as u64 {
+            return Err(LineError::Wanted {
+                left,
+                want: Want::Room,
+            });
+        }
+        self.here = to;
+        Ok(())
+    }
+
+    fn add_label(&mut self, label: Option<Label>) -> Result<(), LineError>
+        ensures { Answers LineError.NoMemory (labelled label (standing_of self.old)) (laid_out result self.new) }
+    {
+        match label {
+            None => Ok(()),
+            Some(Label { left, name }) => self.add(left, name, Meaning::Offset(self.here)),
+        }
+    }
+
+    fn add_statement(&mut self, statement: &Statement) -> Result<(), LineError>
+        ensures { Answers LineError.NoMemory (stated statement.now (standing_of self.old)) (laid_out result self.new) }
+    {
+        let here = self.here;
+        match statement {
+            Statement::Nothing => Ok(()),
+            Statement::Definition { left, name, number } => {
+                self.add(*left, *name, Meaning::Number(*number))
+            }
+            Statement::Offset { left, offset } => {
+                if *offset < here {
+                    return Err(LineError::Wanted {
+                        left: *left,
+                        want: Want::Ahead,
+                    });
+                }
+                self.move_to(*left, *offset)
+            }
+            Statement::Data { left, size, values } => {
+                let count = (values.len() as u64).saturating_mul(u64::from(size.bytes()));
+                self.move_to(*left, here.saturating_add(count))
+            }
+            Statement::Instruction(operation) => {
+                if here % 8 != 0 {
+                    return Err(LineError::Wanted {
+                        left: operation.left,
+                        want: Want::Aligned,
+                    });
+                }
+                self.move_to(operation.left, here.saturating_add(8))
+            }
+        }
+    }
+
+    // What a line leaves.
+    fn add_line(&mut self, line: &SourceLine) -> Result<(), LineError>
+        ensures { Answers LineError.NoMemory (after_line line.now (standing_of self.old)) (laid_out result self.new) }
+    {
+        self.add_label(line.label)?;
+        self.add_statement(&line.statement)
+    }
+}
+
+/// The lines of a source, with what its names stand for.
+#[derive(Drop)]
+pub(crate) struct Layout {
+    pub lines: Seq<Placed>,
+    pub names: BTreeMap<Name, Meaning>,
+}
+
+/// A fault in a line, in its source.
+pub(crate) fn in_line(number: u64, end: u64, error: LineError) -> SourceFault
+    ensures { Err result ≡ in_line number end (Err error) }
+{
+    match error {
+        LineError::Wanted { left, want } => SourceFault::At {
+            line: number,
+            column: end.saturating_sub(left as u64),
+            want,
+        },
+        LineError::NoMemory => SourceFault::NoMemory,
+    }
+}
+
+// A line more.
+fn add_text(
+    alloc: Global,
+    names: &mut Names,
+    lines: &mut Seq<Placed>,
+    number: u64,
+    text: &[u8],
+) -> Result<(), SourceFault> {
+    let here = names.here;
+    let end = text.len() as u64 + 1;
+    let line = match line_of(alloc, text) {
+        Ok(line) => line,
+        Err(error) => return Err(in_line(number, end, error)),
+    };
+    if let Err(error) = names.add_line(&line) {
+        return Err(in_line(number, end, error));
+    }
+    lines.push(Placed {
+        number,
+        end,
+        here,
+        statement: line.statement,
+    })?;
+    Ok(())
+}
+
+/// The lines of a text, or the first fault in them.
+pub(crate) fn layout_of(alloc: Global, text: &[u8]) -> Result<Layout, SourceFault>
+    ensures { Answers SourceFault.NoMemory (layout_from at_start 1 (lines_of text.now)) (shown_layout result) }
+{
+    let mut names = Names {
+        here: 0,
+        names: BTreeMap::new(alloc),
+    };
+    let mut lines = Seq::new(alloc);
+    let mut rest = text;
+    let mut number: u64 = 1;
+    while !rest.is_empty() {
+        let (line, behind) = first_line(rest);
+        add_text(alloc, &mut names, &mut lines, number, line)?;
+        rest = behind;
+        number += 1;
+    }
+    Ok(Layout {
+        lines,
+        names: names.names,
+    })
+}
