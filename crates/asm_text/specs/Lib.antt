@@ -1,7 +1,9 @@
+pub mod FaultTexts
 pub mod Layout
 pub mod Meaning
 pub mod Mnemonics
 pub mod Placing
+pub mod Ranges
 pub mod Reading
 pub mod Shown
 pub mod Tokens

@@ -1,5 +1,12 @@
 //! Why a text is no source.
-use muen_num::NoMemory;
+ghost use Rattle.std.specs.Prelude.{◌≡◌};
+ghost use Rattle.muen_num.specs.Pieces.{whole};
+ghost use Rattle.asm_text.specs.FaultTexts.{source_fault_text, want_text};
+
+use itoa::Buffer;
+use muen_num::{NoMemory, Pieces};
+use std::fmt;
+use thiserror::Error;
 
 /// What should have stood in a line, or should hold of it.
 #[derive(Clone, Copy, Debug, PartialEq, Eq)]
@@ -43,6 +50,36 @@ pub enum Want {
     Target,
 }
 
+impl Want {
+    /// What is wanted, or wrong, in words.
+    #[tactic(auto, unfolding(crate::specs::FaultTexts::want_text))]
+    pub fn as_str(self) -> &'static str
+        ensures { result.now ≡ want_text self }
+    {
+        match self {
+            Want::Mnemonic => "want an instruction, data, .at or a name",
+            Want::Register => "want a register",
+            Want::Size => "want a size of access",
+            Want::Comma => "want a comma",
+            Want::At => "want at",
+            Want::To => "want to",
+            Want::Port => "want port",
+            Want::Number => "want a number",
+            Want::Term => "want a number or a name",
+            Want::Name => "want a name",
+            Want::End => "want the end of the line",
+            Want::NewName => "the name stands before",
+            Want::Ahead => "the offset is behind",
+            Want::Room => "more than 64 MiB",
+            Want::Aligned => "an instruction off a multiple of 8",
+            Want::KnownName => "no such name",
+            Want::Range => "out of range",
+            Want::Near => "the jump is too far",
+            Want::Target => "want one label or a distance",
+        }
+    }
+}
+
 /// Why a line says nothing.
 #[derive(Clone, Copy, Debug, PartialEq, Eq)]
 pub enum LineError {
@@ -64,7 +101,7 @@ impl From<NoMemory> for LineError {
 }
 
 /// Why a text is no source. Lines and columns are counted from 1; a column is one of bytes.
-#[derive(Clone, Copy, Debug, PartialEq, Eq)]
+#[derive(Clone, Copy, Debug, PartialEq, Eq, Error)]
 pub enum SourceFault {
     At { line: u64, column: u64, want: Want },
     /// Memory was refused.
@@ -79,5 +116,35 @@ impl From<NoMemory> for SourceFault {
 
     fn from(_: NoMemory) -> Self {
         SourceFault::NoMemory
+    }
+}
+
+impl SourceFault {
+    /// The text in pieces. The digits of the line's number and of the column stand in the buffers.
+    pub fn pieces<'a>(self, one: &'a mut Buffer, two: &'a mut Buffer) -> Pieces<'a>
+        ensures { whole result ≡ source_fault_text self }
+    {
+        match self {
+            SourceFault::At { line, column, want } => {
+                let line = one.format(line);
+                let column = two.format(column);
+                ("line ", line, ", column ", column, ": ", want.as_str()).into()
+            }
+            SourceFault::NoMemory => "out of memory".into(),
+        }
+    }
+}
+
+/// The printed text: the line, the column, and what is wanted there.
+impl fmt::Display for SourceFault {
+    ghost use Rattle.std.specs.Prelude.{Some};
+    ghost use Rattle.asm_text.specs.FaultTexts.{source_fault_text};
+
+    ghost output = { λ fault. Some (source_fault_text fault) };
+
+    fn fmt<W: fmt::Write>(&self, f: &mut fmt::Formatter<W>) -> fmt::Result {
+        let mut one = Buffer::new();
+        let mut two = Buffer::new();
+        write!(f, "{}", self.pieces(&mut one, &mut two))
     }
 }

@@ -1,0 +1,45 @@
+-- The commands of the assembler (this project's own).
+use Rattle.std.specs.Prelude.{ℕ, List, [], ◌∷◌, Option, Some, None, option_and_then, option_map, codes, nat_lt, if◌then◌else◌}
+use Rattle.std.specs.Str.{bytes_eq}
+use Rattle.muen_num.specs.declared.limits.TheConstants.{COMPONENT_FILE_MOST, GUEST_END}
+use Rattle.asm_text.specs.Words.{number_in}
+use Rattle.asm_top.specs.declared.limits.TheConstants.{SOURCE_MOST}
+
+pub data Command : Type 0 where
+  -- a source, by the name of its file: its bytes are printed in hexadecimal digits
+  hex : List ℕ → Command
+  -- the same, as a listing with addresses from this one on
+  lines : List ℕ → ℕ → Command
+  -- a source, and a file under whose name its bytes are written
+  bin : List ℕ → List ℕ → Command
+  -- a file, of whose bytes a source is printed
+  text : List ℕ → Command
+
+-- an address below the end of guest addresses
+abbrev pub base_of : List ℕ → Option ℕ
+base_of word = option_and_then (λ n. if nat_lt n GUEST_END then Some n else None) (number_in word)
+
+-- the command that the words after the program's name ask for; none where they have no command's form
+abbrev pub command_of : List (List ℕ) → Option Command
+command_of [] = None
+command_of (word ∷ []) = None
+command_of (word ∷ a ∷ []) =
+    if bytes_eq word (codes "hex") then Some (hex a)
+    else (if bytes_eq word (codes "text") then Some (text a) else None)
+command_of (word ∷ a ∷ b ∷ []) =
+    if bytes_eq word (codes "lines") then option_map (lines a) (base_of b)
+    else (if bytes_eq word (codes "bin") then (if bytes_eq a b then None else Some (bin a b)) else None)
+command_of (word ∷ a ∷ b ∷ c ∷ rest) = None
+
+-- the file that a command reads, and how many bytes it may have
+abbrev pub file_of : Command → List ℕ
+file_of (hex source) = source
+file_of (lines source base) = source
+file_of (bin source file) = source
+file_of (text file) = file
+
+abbrev pub most_of : Command → ℕ
+most_of (hex source) = SOURCE_MOST
+most_of (lines source base) = SOURCE_MOST
+most_of (bin source file) = SOURCE_MOST
+most_of (text file) = COMPONENT_FILE_MOST

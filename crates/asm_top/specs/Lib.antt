@@ -1,0 +1,5 @@
+pub mod Answers
+pub mod Calls
+pub mod Commands
+pub mod Parsed
+pub mod Statuses
