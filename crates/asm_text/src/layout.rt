@@ -12,7 +12,7 @@ use muen_num::limits::COMPONENT_FILE_MOST;
 use muen_num::{Name, Seq};
 use std::alloc::Global;
 use std::collections::BTreeMap;
-use text_words::first_line;
+
 
 /// What each name stands for, and where the next line begins.
 #[derive(Drop)]

@@ -5,7 +5,7 @@ ghost use Rattle.asm_text.specs.Words.{data_size_of, number_in, register_of, siz
 
 use crate::statement::Atom;
 use muen_num::{AccessSize, Name};
-use text_words::{based, decimal, grouped};
+
 
 /// `r0` to `r15`.
 pub(crate) fn register_of(word: &[u8]) -> Option<u8>
