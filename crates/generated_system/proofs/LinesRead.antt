@@ -9,7 +9,8 @@ use Rattle.std.proofs.lemmas.List.Folds.{list_all-append}
 use Rattle.record_text.proofs.Parts.{lines_then}
 use Rattle.record_text.specs.Reading.{all_ascii}
 use Rattle.record_text.specs.declared.fault.RecordFault.TheVariants.{NotAscii}
-use Rattle.record_text.specs.Words.{lines_of, parts_of, words_of}
+use Rattle.record_text.specs.Parts.{lines_of, parts_of}
+use Rattle.record_text.specs.Words.{words_of}
 use Rattle.generated_system.specs.RecordText.{line_of, with_line_feed}
 
 -- ---- parts

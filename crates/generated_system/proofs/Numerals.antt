@@ -8,7 +8,8 @@ use Rattle.std.proofs.lemmas.Bool.{lt-ltb}
 use Rattle.std.proofs.lemmas.Bool.Decides.{nat_tests}
 use Rattle.std.proofs.lemmas.Fmt.{decimal_by_steps, decimal_nonempty, first_decimal}
 use Rattle.std.proofs.lemmas.List.Folds.{list_all-append}
-use Rattle.record_text.specs.Words.{digits_from, is_badly_begun, number_below, number_of}
+use Rattle.record_text.specs.Numbers.{digits_from, is_badly_begun, number_of}
+use Rattle.record_text.specs.Words.{number_below}
 
 -- digits that spell this number
 record Spells (m : ℕ) (ds : List ℕ) : Type 0 where

@@ -1,7 +1,7 @@
 -- The commands of the program (this project's own).
 use Rattle.std.specs.Prelude.{ℕ, ◌^◌, List, [], ◌∷◌, Option, Some, None, option_and_then, option_map, codes, nat_lt, if◌then◌else◌}
 use Rattle.std.specs.Str.{bytes_eq}
-use Rattle.record_text.specs.Words.{number_of}
+use Rattle.text_words.specs.Numbers.{number_of}
 
 pub data Command : Type 0 where
   -- a policy, an image, and tables for direct memory access, or none, by the names of their files: the policy's image is

@@ -1,9 +1,9 @@
 // What the words after the program's name ask for.
-ghost use Rattle.std.specs.Prelude.{◌≡◌, [], ◌∷◌, map, option_and_then, string_bytes};
-ghost use Rattle.record_text.specs.Words.{digits_from};
-ghost use Rattle.std.specs.Char.{is_ascii_digit};
-ghost use Rattle.muen_top.specs.Commands.{command_of, for_load, load_number};
+ghost use Rattle.std.specs.Prelude.{◌≡◌, [], ◌∷◌, map, string_bytes};
+ghost use Rattle.muen_top.specs.Commands.{command_of, load_number};
 ghost use Rattle.muen_top.specs.Parsed.{asked};
+
+use text_words::decimal;
 
 /// What is asked for, with the names that were given.
 #[derive(Clone, Copy, Debug, PartialEq, Eq)]
@@ -42,29 +42,12 @@ pub(crate) enum Command<'a> {
     Load(u16),
 }
 
-// The number below 2^16 that the digits spell.
-fn value(word: &[u8]) -> Option<u16>
-    ensures { result ≡ option_and_then for_load (digits_from 0 word.now) }
-{
-    let mut n: u16 = 0;
-    for c in word {
-        if !c.is_ascii_digit() {
-            return None;
-        }
-        n = n.checked_mul(10)?.checked_add(u16::from(*c - b'0'))?;
-    }
-    Some(n)
-}
-
 // The number below 2^16 that a word spells in decimal digits, without leading zeros.
+#[tactic(auto, using(crate::proofs::Numbers::loads))]
 fn load_number(word: &str) -> Option<u16>
     ensures { result ≡ load_number word.now }
 {
-    let word = word.as_bytes();
-    if word.is_empty() || word.len() > 1 && word[0] == b'0' {
-        return None;
-    }
-    value(word)
+    u16::try_from(decimal(word.as_bytes()).ok()?).ok()
 }
 
 impl<'a> Command<'a> {

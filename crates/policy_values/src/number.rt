@@ -1,38 +1,17 @@
 //! Numbers: of JSON, or as texts with digits of base 16.
 ghost use Rattle.std.specs.Prelude.{◌≡◌};
 ghost use Rattle.serde_json.specs.View.{view};
-ghost use Rattle.policy_values.specs.Based.{based, groups_of, number_of_groups};
+ghost use Rattle.policy_values.specs.Based.{based};
 ghost use Rattle.policy_values.specs.Kinds.{byte_of, number_of};
 
 use serde_json::Value;
-
-// The digits of a number, such as `00ff_ff00`.
-#[tactic(auto, using(crate::proofs::GroupsInTurn::read_on_groups))]
-fn read_groups(middle: &[u8]) -> Option<u64>
-    ensures { result ≡ number_of_groups (groups_of middle.now) }
-{
-    let mut n: u64 = 0;
-    let mut digit = false;
-    for c in middle {
-        if *c == b'_' {
-            if !digit {
-                return None;
-            }
-            digit = false;
-        } else {
-            let value = char::from(*c).to_digit(16)?;
-            n = n.checked_mul(16)?.checked_add(u64::from(value))?;
-            digit = true;
-        }
-    }
-    digit.then_some(n)
-}
+use text_words::grouped;
 
 // A number such as `16#00ff_ff00#`.
 fn read_based(text: &[u8]) -> Option<u64>
     ensures { result ≡ based text.now }
 {
-    read_groups(text.strip_prefix(b"16#")?.strip_suffix(b"#")?)
+    grouped(text.strip_prefix(b"16#")?.strip_suffix(b"#")?)
 }
 
 /// The number below 2^64 that a value is: a JSON number of digits alone, or a text such as

@@ -12,10 +12,11 @@ use Rattle.muen_num.specs.declared.limits.TheConstants.{GUEST_END, LAST_PORT, MO
 use Rattle.record_text.specs.Bench.{Bench, is_known}
 use Rattle.record_text.specs.DeviceRecord.{DeviceRecord, NamedInput, port_input, memory_input, irq_input, dma_input}
 use Rattle.record_text.specs.Law.{NamesEachOnce}
+use Rattle.record_text.specs.Parts.{lines_of}
 use Rattle.record_text.specs.Reading.{Standing, all_ascii, at_start, entry_at, in_line, names_known, not_after_end, not_back, nothing_until, order_fits, record_after, record_of, standing_after, with_entry}
 use Rattle.record_text.specs.Steps.{◌>>=◌}
 use Rattle.record_text.specs.Table.{Entry, input_entry, order_entry, end_entry, as_many, cpu_numbers, dma_line, end_line, entry_tick, first_word, five, four, irq_line, kind_of, mem_line, one, order_line, port_line, read_words, three}
-use Rattle.record_text.specs.Words.{hex_bytes, lines_of, number_below, or_hex, tick_of, words_of}
+use Rattle.record_text.specs.Words.{hex_bytes, number_below, or_hex, tick_of, words_of}
 use Rattle.record_text.specs.declared.fault.LineWant.{LineWant}
 use Rattle.record_text.specs.declared.fault.LineWant.TheVariants.{Hex}
 use Rattle.record_text.specs.declared.fault.RecordFault.TheVariants.{NoEnd}

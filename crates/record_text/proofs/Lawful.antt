@@ -17,7 +17,7 @@ use Rattle.record_text.specs.Resolving.{bytes_in, irq_of, is_in_span, memory_of,
 use Rattle.record_text.specs.Reading.{Standing, all_ascii, at_start, entry_at, nothing_until, record_after, record_of, standing_after, with_entry}
 use Rattle.record_text.specs.Steps.{◌>>=◌, mapped}
 use Rattle.record_text.specs.Table.{Entry, input_entry, order_entry, end_entry, entry_tick}
-use Rattle.record_text.specs.Words.{lines_of}
+use Rattle.text_words.specs.Parts.{lines_of}
 use Rattle.record_text.specs.declared.devices.RecordDevice.{RecordDevice}
 use Rattle.record_text.specs.declared.devices.Devices.{Devices}
 use Rattle.record_text.specs.declared.devices.RecordIrq.{RecordIrq}

@@ -1,9 +1,9 @@
-pub mod Digits
 pub mod Lawful
 pub mod LineErrors
 pub mod Lines
+pub mod Mapped
+pub mod Numbers
 pub mod Orders
-pub mod Parts
 pub mod Rules
 pub mod Ticks
-pub mod Mapped
+pub use Rattle.text_words.proofs.Parts

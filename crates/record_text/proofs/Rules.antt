@@ -14,7 +14,8 @@ use Rattle.record_text.specs.Made.{IsInOrder, made_with, standing_of}
 use Rattle.record_text.specs.Reading.{Standing, are_distinct, entry_at, in_line, names_known, not_after_end, not_back, order_fits}
 use Rattle.record_text.specs.Steps.{◌>>=◌, ◌>>◌, mapped}
 use Rattle.record_text.specs.Table.{Entry, input_entry, order_entry, end_entry, as_many, cpu_numbers, dma_line, end_line, entry_tick, first_word, five, four, irq_line, kind_of, line_of_kind, mem_line, one, order_line, port_line, read_words, three}
-use Rattle.record_text.specs.Words.{below, hex_bytes, number_below, number_of, or_hex, tick_of, words_of}
+use Rattle.text_words.specs.Numbers.{number_of}
+use Rattle.record_text.specs.Words.{below, hex_bytes, number_below, or_hex, tick_of, words_of}
 use Rattle.record_text.specs.declared.devices.Devices.{Devices}
 use Rattle.record_text.specs.declared.fault.LineWant.{LineWant}
 use Rattle.record_text.specs.declared.fault.LineWant.TheVariants.{Range, Hex, Count}

@@ -1,12 +1,14 @@
 pub mod Bench
-pub mod Cut
 pub mod DeviceRecord
 pub mod FaultTexts
 pub mod Law
 pub mod Made
 pub mod Reading
+pub mod Remaining
 pub mod Resolving
 pub mod Saying
 pub mod Steps
 pub mod Table
 pub mod Words
+pub use Rattle.text_words.specs.Numbers
+pub use Rattle.text_words.specs.Parts

@@ -5,7 +5,8 @@ use Rattle.record_text.specs.Bench.{Bench, is_known}
 use Rattle.record_text.specs.DeviceRecord.{DeviceRecord}
 use Rattle.record_text.specs.Steps.{◌>>=◌, ◌>>◌}
 use Rattle.record_text.specs.Table.{Entry, input_entry, order_entry, end_entry, entry_tick, read_words}
-use Rattle.record_text.specs.Words.{lines_of, words_of}
+use Rattle.text_words.specs.Parts.{lines_of}
+use Rattle.record_text.specs.Words.{words_of}
 use Rattle.record_text.specs.declared.fault.LineWant.{LineWant}
 use Rattle.record_text.specs.declared.fault.LineWant.TheVariants.{Order}
 use Rattle.record_text.specs.declared.fault.RecordFault.{RecordFault}

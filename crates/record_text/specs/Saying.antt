@@ -1,17 +1,22 @@
 -- What the reader of a line answers.
-use Rattle.std.specs.Prelude.{◌≡◌, ℕ, ◌^◌, nat_lt, Option, Some, None, Result, Ok, Err, if◌then◌else◌}
+use Rattle.std.specs.Prelude.{◌≡◌, Result, Ok, Err}
+use Rattle.text_words.specs.declared.number.NumberError.{NumberError}
+use Rattle.text_words.specs.declared.number.NumberError.TheVariants.{NoNumber, TooLarge}
 use Rattle.record_text.specs.Resolving.{resolved_input}
 use Rattle.record_text.specs.Steps.{mapped}
 use Rattle.record_text.specs.Table.{Entry, input_entry, order_entry, end_entry}
 use Rattle.record_text.specs.declared.devices.Devices.{Devices}
 use Rattle.record_text.specs.declared.fault.LineWant.{LineWant}
+use Rattle.record_text.specs.declared.fault.LineWant.TheVariants.{Number, Range}
 use Rattle.record_text.specs.declared.line.RecordLine.{RecordLine}
 use Rattle.record_text.specs.declared.line.Says.TheVariants.{Input, Order, End}
 use Rattle.record_text.specs.declared.number.LineError.{LineError}
 use Rattle.record_text.specs.declared.number.LineError.TheVariants.{Want, NoMemory}
 
-abbrev pub within_word : ℕ → Option ℕ
-within_word n = if nat_lt n (2 ^ 64) then Some n else None
+-- what a word should have been that spells no such number
+abbrev pub number_error : NumberError → LineError
+number_error NoNumber = Want Number
+number_error TooLarge = Want Range
 
 -- what is read, or the error by its first fault
 abbrev pub with_line_error : {X : Type 0} → Result X LineWant → Result X LineError

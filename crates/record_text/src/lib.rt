@@ -3,7 +3,6 @@
 //! its faults.
 #![tactic(auto)]
 
-mod cut;
 pub mod devices;
 pub mod fault;
 mod line;
@@ -12,6 +11,7 @@ mod number;
 mod reading;
 pub mod record;
 mod resolving;
+mod words;
 
 pub use devices::{Devices, RecordDevice, RecordIrq, RecordMemory};
 pub use fault::{LineWant, RecordFault};

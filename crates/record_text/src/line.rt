@@ -1,11 +1,11 @@
 //! The lines of a record: what the words of each kind of line say.
 ghost use Rattle.std.specs.Prelude.{◌≡◌, IfErr, IfOk, MatchResult};
-ghost use Rattle.record_text.specs.Cut.{IsMiscounted, words_remaining};
+ghost use Rattle.record_text.specs.Remaining.{IsMiscounted, words_remaining};
 ghost use Rattle.record_text.specs.Saying.{Gives, with_line_error, said};
 ghost use Rattle.record_text.specs.Table.{cpu_numbers, dma_line, end_line, first_word, five, four, irq_line, kind_of, line_of_kind, mem_line, no_word, one, order_line, port_line, read_words, three};
 ghost use Rattle.record_text.specs.Words.{words_of};
 
-use crate::cut::Words;
+use crate::words::Words;
 use crate::devices::Devices;
 use crate::fault::LineWant;
 use crate::number::{

@@ -1,9 +1,7 @@
 //! What a word spells: a number within a range, or bytes.
-ghost use Rattle.std.specs.Prelude.{◌≡◌, ◌+◌, ◌^◌, ◌<◌, false, true, Err, Ok, IfOk, option_and_then};
-ghost use Rattle.std.specs.List.{list_all};
-ghost use Rattle.std.specs.Char.{is_ascii_digit};
-ghost use Rattle.record_text.specs.Saying.{Gives, with_line_error, within_word};
-ghost use Rattle.record_text.specs.Words.{digits_from, hex_bytes, is_badly_begun, number_below, tick_of};
+ghost use Rattle.std.specs.Prelude.{◌≡◌, ◌+◌, ◌^◌, ◌<◌, Err, Ok, IfOk};
+ghost use Rattle.record_text.specs.Saying.{Gives, with_line_error};
+ghost use Rattle.record_text.specs.Words.{hex_bytes, number_below, tick_of};
 
 use crate::fault::LineWant;
 use crate::record::INPUT_MOST;
@@ -11,6 +9,7 @@ use hex::FromHexError;
 use muen_num::limits::{LAST_PORT, MOST_TICKS};
 use muen_num::{NoMemory, Seq};
 use std::alloc::Global;
+use text_words::{NumberError, decimal};
 
 /// Why a line says nothing.
 #[derive(Clone, Copy, Debug)]
@@ -32,55 +31,35 @@ impl From<NoMemory> for LineError {
     }
 }
 
-// Whether the word is empty, or has a leading zero.
-fn is_badly_begun(word: &[u8]) -> bool
-    ensures { result ≡ is_badly_begun word.now }
-{
-    word.is_empty() || (word.len() > 1 && word[0] == b'0')
-}
+impl From<NumberError> for LineError {
+    ghost use Rattle.std.specs.Prelude.{◌≡◌};
+    ghost use Rattle.record_text.specs.Saying.{number_error};
 
-// Whether the word has digits alone.
-fn has_digits_alone(word: &[u8]) -> bool
-    ensures { result ≡ list_all is_ascii_digit word.now }
-{
-    word.iter().all(|c| c.is_ascii_digit())
-}
+    ghost from_gives = { λ why error. error ≡ number_error why };
 
-// The number that the digits spell, where it is below 2^64.
-fn value(word: &[u8]) -> Option<u64>
-    ensures { result ≡ option_and_then within_word (digits_from 0 word.now) }
-{
-    let mut n: u64 = 0;
-    for c in word {
-        if !c.is_ascii_digit() {
-            return None;
+    fn from(why: NumberError) -> Self {
+        match why {
+            NumberError::NoNumber => LineError::Want(LineWant::Number),
+            NumberError::TooLarge => LineError::Want(LineWant::Range),
         }
-        n = n.checked_mul(10)?.checked_add(u64::from(*c - b'0'))?;
     }
-    Some(n)
 }
 
 /// The number below 2^64 that a word spells: decimal, without leading zeros.
-#[tactic(auto, unfolding(crate::specs::Words::number_below), using(crate::proofs::Digits::numbers))]
+#[tactic(auto, using(crate::proofs::Numbers::numbers))]
 pub(crate) fn number(word: &[u8]) -> Result<u64, LineError>
     ensures { result ≡ with_line_error (number_below (2 ^ 64) word.now) }
 {
-    if is_badly_begun(word) || !has_digits_alone(word) {
-        return Err(LineError::Want(LineWant::Number));
-    }
-    match value(word) {
-        Some(n) => Ok(n),
-        None => Err(LineError::Want(LineWant::Range)),
-    }
+    Ok(decimal(word)?)
 }
 
 /// The number below `end` that a word spells.
-#[tactic(auto, using(crate::proofs::Digits::narrowed))]
+#[tactic(auto, using(crate::proofs::Numbers::numbers))]
 pub(crate) fn number_below(word: &[u8], end: u64) -> Result<u64, LineError>
     ensures value { result ≡ with_line_error (number_below end word.now) }
     ensures within { IfOk result (λ n. n < end) }
 {
-    let n = number(word)?;
+    let n = decimal(word)?;
     if n < end {
         Ok(n)
     } else {

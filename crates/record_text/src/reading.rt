@@ -8,9 +8,8 @@ ghost use Rattle.record_text.specs.Made.{IsInOrder, made_with, standing_of};
 ghost use Rattle.record_text.specs.Resolving.{resolved};
 ghost use Rattle.record_text.specs.Reading.{all_ascii, at_start, entry_at, record_after, record_of};
 ghost use Rattle.record_text.specs.Steps.{mapped};
-ghost use Rattle.record_text.specs.Words.{lines_of};
+ghost use Rattle.text_words.specs.Parts.{lines_of};
 
-use crate::cut::first_line;
 use crate::devices::Devices;
 use crate::fault::RecordFault;
 use crate::line::read_line;
@@ -18,6 +17,7 @@ use crate::made::{Made, nothing, with_line};
 use crate::number::LineError;
 use crate::record::{Input, Record};
 use std::alloc::Global;
+use text_words::first_line;
 
 // Whether the line has a byte above 127.
 fn has_high_byte(line: &[u8]) -> bool
@@ -27,7 +27,7 @@ fn has_high_byte(line: &[u8]) -> bool
 }
 
 // The first line with a byte above 127 is a fault.
-#[tactic(auto, using(crate::proofs::Parts::no_lines))]
+#[tactic(auto, using(text_words::proofs::Parts::no_lines))]
 fn check_ascii(bytes: &[u8]) -> Result<(), RecordFault>
     ensures { result ≡ all_ascii 1 (lines_of bytes.now) }
 {

@@ -1,5 +1,5 @@
 use Rattle.std.proofs.Common.{◌≡◌, length}
-use Rattle.record_text.specs.Cut.{words_remaining}
+use Rattle.record_text.specs.Remaining.{words_remaining}
 use Rattle.record_text.specs.Table.{cpu_numbers}
 use Rattle.record_text.proofs.Orders.{with_front}
 use Rattle.record_text.proofs.line.cpu_numbers.Given as goal

@@ -1,6 +1,6 @@
 use Rattle.std.proofs.Common.{◌≡◌, ◌+◌, ◌≤◌, length}
 use Rattle.record_text.specs.Reading.{all_ascii}
-use Rattle.record_text.specs.Words.{lines_of}
+use Rattle.text_words.specs.Parts.{lines_of}
 use Rattle.record_text.proofs.reading.check_ascii.Given as goal
 
 abbrev pub invariant-loop-rest : goal.invariant-loop-rest

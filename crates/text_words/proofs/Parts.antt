@@ -5,7 +5,7 @@ use Rattle.std.specs.List.{position_or_len}
 use Rattle.std.proofs.lemmas.Bool.Decides.{nat_tests}
 use Rattle.std.proofs.lemmas.List.Splits.{slice_split_first, slice_split_none, length-slice_split}
 use Rattle.std.proofs.lemmas.List.Sums.{fails_before_first, length-filter}
-use Rattle.record_text.specs.Words.{lines_of, parts_of, without_empty_end}
+use Rattle.text_words.specs.Parts.{lines_of, parts_of, without_empty_end}
 
 -- ---- cut at the first such byte
 

@@ -1,6 +1,6 @@
 use Rattle.std.proofs.Common.{◌≡◌, ◌^◌, ◌<◌, drop}
-use Rattle.record_text.specs.Words.{digits_from}
-use Rattle.record_text.proofs.number.value.Given as goal
+use Rattle.text_words.specs.Numbers.{digits_from}
+use Rattle.text_words.proofs.number.value.Given as goal
 
 abbrev pub invariant-loop-c : goal.invariant-loop-c
 invariant-loop-c l = record {

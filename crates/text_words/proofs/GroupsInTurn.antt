@@ -5,7 +5,7 @@ use Rattle.std.specs.List.{concat, list_all, onto_first}
 use Rattle.std.proofs.lemmas.Bool.Decides.{nat_tests}
 use Rattle.std.proofs.lemmas.List.Splits.{length-slice_split}
 use Rattle.std.specs.Char.{is_digit, digit_value}
-use Rattle.policy_values.specs.Based.{underscore, groups_of, is_group, with_digit, value_of, number_of_groups}
+use Rattle.text_words.specs.Groups.{underscore, groups_of, is_group, with_digit, value_of, number_of_groups}
 
 -- the number once these characters are read too, where the digits before them are worth n,
 -- and `begun` says whether the group that goes on here has a digit

@@ -1,17 +1,12 @@
--- What remains of a text that is cut into parts.
+-- The words of a line that remain.
 use Rattle.std.specs.Prelude.{◌≡◌, ℕ, List, [], ◌∷◌, Option, Some, None, Result, Err}
 use Rattle.std.specs.Borrow.{Bor}
-use Rattle.record_text.specs.Words.{parts_of}
-use Rattle.record_text.specs.declared.cut.Words.{Words}
+use Rattle.text_words.specs.Parts.{parts_remaining}
+use Rattle.record_text.specs.declared.words.Words.{Words}
 use Rattle.record_text.specs.declared.fault.LineWant.{LineWant}
 use Rattle.record_text.specs.declared.fault.LineWant.TheVariants.{Count}
 use Rattle.record_text.specs.declared.number.LineError.{LineError}
 use Rattle.record_text.specs.declared.number.LineError.TheVariants.{Want}
-
--- the parts that remain: none, or at least one
-abbrev pub parts_remaining : ℕ → Option (Bor (List ℕ)) → List (List ℕ)
-parts_remaining byte None = []
-parts_remaining byte (Some rest) = parts_of byte rest.now
 
 -- the words of a line that remain
 abbrev pub words_remaining : Words → List (List ℕ)

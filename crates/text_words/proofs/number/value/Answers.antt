@@ -1,6 +1,6 @@
 use Rattle.std.proofs.Common.{sym, arith}
-use Rattle.muen_top.proofs.Numbers.{beyond_next}
-use Rattle.muen_top.proofs.command.value.Goals as goal
+use Rattle.text_words.proofs.Digits.{beyond_next}
+use Rattle.text_words.proofs.number.value.Goals as goal
 
 pub returns-in_err-checked_mul : goal.returns-in_err-checked_mul
 returns-in_err-checked_mul c =
