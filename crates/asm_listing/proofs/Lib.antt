@@ -1,0 +1,6 @@
+pub mod Digits
+pub mod Words
+pub mod Values
+pub mod Shapes
+pub mod Instructions
+pub mod DataLines
