@@ -4,3 +4,4 @@ pub mod Values
 pub mod Shapes
 pub mod Instructions
 pub mod DataLines
+pub mod Chunks
