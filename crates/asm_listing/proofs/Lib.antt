@@ -5,3 +5,5 @@ pub mod Shapes
 pub mod Instructions
 pub mod DataLines
 pub mod Chunks
+pub mod Seen
+pub mod Sources

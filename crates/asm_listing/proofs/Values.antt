@@ -103,10 +103,10 @@ after_minus rest =
     never true = refl
     never false = refl
 
-small : (z : ℤ) → FitsSigned w32 z → (n : ℕ) → z ≡ pos n → n < 2 ^ 64
+pub small : (z : ℤ) → FitsSigned w32 z → (n : ℕ) → z ≡ pos n → n < 2 ^ 64
 small z h n e = omega (arith, ints, h, e)
 
-below_zero : (z : ℤ) → FitsSigned w32 z → (n : ℕ) → z ≡ negsuc n → suc n < 2 ^ 64
+pub below_zero : (z : ℤ) → FitsSigned w32 z → (n : ℕ) → z ≡ negsuc n → suc n < 2 ^ 64
 below_zero z h n e = omega (arith, ints, h, e)
 
 pub signed_read : (z : ℤ) → FitsSigned w32 z → ValueRead (tokens_of (signed_decimal z)) z

@@ -26,7 +26,7 @@ a ⧺ b = a ++ b
 
 -- ---- all bytes of a text
 
-all_from : (p q : ℕ → Bool) → ((c : ℕ) → p c ≡ true → q c ≡ true) → (xs : List ℕ) → list_all p xs ≡ true → list_all q xs ≡ true
+pub all_from : (p q : ℕ → Bool) → ((c : ℕ) → p c ≡ true → q c ≡ true) → (xs : List ℕ) → list_all p xs ≡ true → list_all q xs ≡ true
 all_from p q each [] h = refl
 all_from p q each (x ∷ xs) h =
     let a = and_parts (p x) (list_all p xs) h in
