@@ -57,7 +57,7 @@ none_fits : FitsSigned w32 (pos 0)
 none_fits = record { sfits = omega arith }
 
 -- a number of 32 bits, read as a signed one
-signed_fits : (n : ℕ) → n < 2 ^ 32 → FitsSigned w32 (cast_signed w32 n)
+pub signed_fits : (n : ℕ) → n < 2 ^ 32 → FitsSigned w32 (cast_signed w32 n)
 signed_fits n h = record { sfits = by (ltb n (2 ^ 31)) refl }
   where
     by : (t : Bool) → ltb n (2 ^ 31) ≡ t → mag (sel t (pos n) (negsuc (2 ^ 32 - suc n))) < 2 ^ 31

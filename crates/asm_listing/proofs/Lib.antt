@@ -7,3 +7,4 @@ pub mod DataLines
 pub mod Chunks
 pub mod Seen
 pub mod Sources
+pub mod Accepted
