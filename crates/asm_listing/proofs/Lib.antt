@@ -8,3 +8,5 @@ pub mod Chunks
 pub mod Seen
 pub mod Sources
 pub mod Accepted
+pub mod Placed
+pub mod Again

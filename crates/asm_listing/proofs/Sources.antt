@@ -134,7 +134,7 @@ no_lines = refl
 abbrev line_text : List ℕ → List ℕ
 line_text chunk = chunk_text chunk ++ codes "\n"
 
-front_low : (a b : List ℕ) → All IsLow (a ++ b) → All IsLow a
+pub front_low : (a b : List ℕ) → All IsLow (a ++ b) → All IsLow a
 front_low [] b all = All-nil IsLow
 front_low (x ∷ a) b all = All-cons IsLow x a (All-head IsLow x (a ++ b) all) (front_low a b (All-tail IsLow x (a ++ b) all))
 
@@ -218,7 +218,7 @@ source_says bytes h =
     ∙ ap (λ (r : Result Layout SourceFault). r >>= λ layout. items_of layout.names layout.lines) laid.laid
     ∙ laid.items laid.layout.names
 
-bytes_back : (bytes : List ℕ) → All IsLow bytes → bytes_of_items (map chunk_item (chunks_of bytes)) ≡ bytes
+pub bytes_back : (bytes : List ℕ) → All IsLow bytes → bytes_of_items (map chunk_item (chunks_of bytes)) ≡ bytes
 bytes_back = chunks_by (λ bytes. All IsLow bytes → bytes_of_items (map chunk_item (chunks_of bytes)) ≡ bytes) none fewer full
   where
     none : All IsLow [] → bytes_of_items (map chunk_item (chunks_of [])) ≡ []

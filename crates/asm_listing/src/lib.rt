@@ -4,4 +4,4 @@
 mod laws;
 mod parts;
 
-pub use laws::sources_assemble;
+pub use laws::{sources_assemble, sources_say_again};
