@@ -10,3 +10,4 @@ pub mod Sources
 pub mod Accepted
 pub mod Placed
 pub mod Again
+pub mod Printing
