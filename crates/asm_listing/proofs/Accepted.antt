@@ -1,6 +1,6 @@
 -- The instruction of a line that is read is one of the table.
-use Rattle.std.proofs.Common.{◌≡◌, ℕ, zero, suc, ◌+◌, ◌-◌, ◌*◌, ◌^◌, ◌<◌, ◌≤◌, Bool, true, false, cond, ℤ, pos, negsuc, List, [], ◌∷◌, length, Option, Some, None, Result, Ok, Err, refl, ap, sym, ◌∙◌, w32, arith}
-use Rattle.std.specs.Prelude.{◌==◌, ◌&&◌, if◌then◌else◌, codes, nat_lt, option_and_then}
+use Rattle.std.proofs.Common.{◌≡◌, ℕ, ◌-◌, ◌^◌, ◌<◌, ◌≤◌, Bool, true, false, ℤ, pos, negsuc, List, Option, Some, None, Result, Ok, Err, refl, w32, arith}
+use Rattle.std.specs.Prelude.{if◌then◌else◌, codes, nat_lt, option_and_then}
 use Rattle.std.specs.Int.{cast_signed}
 use Rattle.std.specs.Int.RustNames.{FitsSigned}
 use Rattle.std.specs.Str.{bytes_eq}
@@ -14,9 +14,9 @@ use Rattle.text_words.specs.Steps.{◌>>=◌, ◌>>◌}
 use Rattle.asm_text.specs.Layout.{Names}
 use Rattle.asm_text.specs.Meaning.{fits, fits_signed, if_fits, immediate_by, immediate_of, residue, sum_of, distance_by}
 use Rattle.asm_text.specs.Mnemonics.{instruction_with, shape_of}
-use Rattle.asm_text.specs.Reading.{at_end, below_jump, comma, data_line, definition, directive, displacement, found, immediate as immediate_operands, instruction, integer, keyword, label, line_of, memory, name_at, named, no_value, number, offset_line, operands_of, pair, place, port, register, size, small, statement, value, values, wanted, worded}
+use Rattle.asm_text.specs.Reading.{at_end, below_jump, comma, data_line, definition, directive, displacement, found, immediate as immediate_operands, instruction, integer, keyword, label, line_of, memory, name_at, number, offset_line, operands_of, pair, place, port, register, size, small, statement, value, values, worded}
 use Rattle.asm_text.specs.Tokens.{Tokens, end_with, token}
-use Rattle.asm_text.specs.Words.{behind, below, data_size_of, mnemonic_of, register_of}
+use Rattle.asm_text.specs.Words.{behind, below, data_size_of, mnemonic_of}
 use Rattle.asm_text.specs.declared.fault.LineError.{LineError}
 use Rattle.asm_text.specs.declared.fault.Want.{Want}
 use Rattle.asm_text.specs.declared.fault.Want.TheVariants.{Register, At, To, Near, Range}
@@ -29,7 +29,7 @@ use Rattle.asm_text.specs.declared.statement.Operands.{Operands}
 use Rattle.asm_text.specs.declared.statement.Operation.{Operation}
 use Rattle.asm_text.specs.declared.statement.SourceLine.{SourceLine}
 use Rattle.asm_text.specs.declared.statement.Statement.{Statement}
-use Rattle.asm_text.specs.declared.statement.Statement.TheVariants.{Nothing, Definition, Offset, Data, Instruction}
+use Rattle.asm_text.specs.declared.statement.Statement.TheVariants.{Instruction}
 use Rattle.asm_text.specs.declared.statement.Value.{Value}
 use Rattle.asm_listing.proofs.Chunks.{signed_fits}
 use Rattle.asm_listing.proofs.Instructions.{immediate}

@@ -1,18 +1,17 @@
 -- What is printed of the bytes of a source says the instructions that the source says.
-use Rattle.std.proofs.Common.{◌≡◌, ℕ, zero, suc, ◌+◌, ◌-◌, ◌*◌, ◌/◌, ◌%◌, ◌<◌, ◌≤◌, Bool, true, false, List, [], ◌∷◌, ◌++◌, length, map, Option, Some, None, Result, Ok, Err, refl, ap, ap₂, sym, subst, ◌∙◌, append_assoc, length-append, arith}
-use Rattle.std.specs.Prelude.{◌==◌, if◌then◌else◌}
-use Rattle.std.specs.List.{All, Contains, flat_map}
+use Rattle.std.proofs.Common.{◌≡◌, ℕ, ◌+◌, ◌%◌, ◌<◌, ◌≤◌, List, [], ◌∷◌, ◌++◌, length, map, None, refl, ap, sym, subst, ◌∙◌, append_assoc, length-append, arith}
+use Rattle.std.specs.Prelude.{if◌then◌else◌}
+use Rattle.std.specs.List.{All, Contains}
 use Rattle.std.proofs.lemmas.Bool.{eq-eqb}
 use Rattle.std.proofs.lemmas.List.{map-append}
-use Rattle.std.proofs.lemmas.List.Concat.{flat_map-append}
 use Rattle.std.proofs.lemmas.List.Elements.{All-append, All-cons, All-nil, Contains-append_left, Contains-append_right}
 use native.Mathlib.Nat.{zero-add}
 use Rattle.muen_num.specs.declared.limits.TheConstants.{COMPONENT_FILE_MOST}
 use Rattle.guest_isa.specs.GuestIsa.{decode_of, encoding_of}
 use Rattle.guest_isa.specs.declared.instr.Instr.{Instr}
 use Rattle.asm_text.specs.Meaning.{Item, instruction, data_of, zeros, bytes_of_item, bytes_of_items, said}
-use Rattle.asm_listing.specs.Laws.{AreBytes, SaysAgain, SourcesSayAgain, instruction_at, instructions_from, instructions_of}
-use Rattle.asm_listing.specs.Source.{chunks_of, instruction_in}
+use Rattle.asm_listing.specs.Laws.{AreBytes, SourcesSayAgain, instruction_at, instructions_from, instructions_of}
+use Rattle.asm_listing.specs.Source.{chunks_of}
 use Rattle.asm_listing.proofs.Accepted.{IsSound, holds_at}
 use Rattle.asm_listing.proofs.Chunks.{chunks_by, encoding_decodes, first_chunk, no_chunk}
 use Rattle.asm_listing.proofs.Placed.{AreStanding, IsSeat, encoding_long, said_standing}
@@ -50,10 +49,12 @@ each_instruction P here (item ∷ items) h each =
     at_start i behind e aligned sound =
         let same : here + 0 ≡ here = omega arith in
         subst (λ n. P (n, i)) same (each [] i behind e (ap (λ n. n % 8) same ∙ aligned) sound)
+
     first : (x : Item) → IsSeat here x → HoldsFirst P here x (bytes_of_items items) → All P (instruction_at here x)
     first (instruction i) s f = All-cons P (here, i) [] (f i (bytes_of_items items) refl s.0 s.1) (All-nil P)
     first (data_of size ns) s f = All-nil P
     first (zeros n) s f = All-nil P
+
     later : HoldsEach P (here + length (bytes_of_item item)) items
     later before i behind e aligned sound =
         let front = bytes_of_item item in
@@ -72,8 +73,10 @@ cut rest = chunks_by (Parts rest) none fewer full
   where
     none : Parts rest []
     none h = ap (λ (cs : List (List ℕ)). cs ++ chunks_of rest) (sym no_chunk)
+
     fewer : (chunk : List ℕ) → 0 < length chunk → length chunk < 8 → Parts rest chunk
     fewer chunk some few h = absurd (omega arith)
+
     full : (chunk more : List ℕ) → length chunk ≡ 8 → Parts rest more → Parts rest (chunk ++ more)
     full chunk more l h aligned =
         let long = length-append chunk more in

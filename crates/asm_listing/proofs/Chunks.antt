@@ -1,5 +1,5 @@
 -- Bytes in pieces of eight, and what such a piece spells.
-use Rattle.std.proofs.Common.{◌≡◌, ℕ, zero, suc, ◌+◌, ◌-◌, ◌*◌, ◌/◌, ◌%◌, ◌^◌, ◌<◌, ◌≤◌, Bool, true, false, cond, ltb, ℤ, pos, negsuc, List, [], ◌∷◌, ◌++◌, length, get_or, Option, Some, None, refl, ap, sym, ◌∙◌, w32, to_z-of_z, arith}
+use Rattle.std.proofs.Common.{◌≡◌, ℕ, zero, suc, ◌+◌, ◌-◌, ◌*◌, ◌/◌, ◌%◌, ◌^◌, ◌<◌, Bool, true, false, ltb, ℤ, pos, negsuc, List, [], ◌∷◌, ◌++◌, length, get_or, Option, Some, None, refl, ap, sym, ◌∙◌, w32, to_z-of_z, arith}
 use Rattle.std.specs.Prelude.{◌==◌, ◌&&◌, ◌||◌, if◌then◌else◌, option_and_then}
 use Rattle.std.specs.Int.{cast_signed, cast_unsigned, from_le_bytes, to_le_bytes}
 use Rattle.std.specs.Int.RustNames.{FitsSigned}
@@ -14,7 +14,7 @@ use Rattle.muen_num.specs.declared.access.AccessSize.TheVariants.{One, Two, Four
 use Rattle.guest_isa.specs.declared.instr.Instr.{Instr}
 use Rattle.guest_isa.specs.declared.instr.Instr.TheVariants.{Nop, Li, Lih, Mov, Add, Sub, And, Or, Xor, Shl, Shr, Load, Store, Jmp, Jz, Jnz, Jb, In, Out, Rdmsr, Wrmsr, Rdtsc, Vmcall, Hlt, Sti, Cli, Setv, Reti}
 use Rattle.guest_isa.specs.GuestIsa.{IsSmall, IsValid, access, are_unset, code_of, decode_of, encoding_of, fields, fields_for, fields_of, imm_of, instruction_of, names, port_row, row, sized_row, spelled, system_instruction_of}
-use Rattle.asm_listing.specs.Source.{chunks_of, parts_of}
+use Rattle.asm_listing.specs.Source.{chunks_of}
 use Rattle.asm_listing.proofs.Instructions.{immediate}
 
 -- ---- pieces
@@ -142,8 +142,8 @@ module _ (b : List ℕ) (l : length b ≡ 8) (all : All (λ x. x < 256) b) where
       let one = and_parts (nrd || (f.rd == 0)) (nrs || (f.rs == 0)) two.0 in
       ap spelled same
       ∙ eight b opcode (keep nrd f.rd) (keep nrs f.rs) code 0 (to_le_bytes w32 (cast_unsigned w32 (keep_signed nimm (imm_of f)))) l
-          (sym (eqb-true f.opcode opcode o)) (kept nrd f.rd one.0) (kept nrs f.rs one.1) (sym (s unset)) (sym (eqb-true f.zero 0 four.1))
-          (ap (to_le_bytes w32) (kept_signed nimm f.imm imm_low three.1) ∙ imm_bytes)
+      (sym (eqb-true f.opcode opcode o)) (kept nrd f.rd one.0) (kept nrs f.rs one.1) (sym (s unset)) (sym (eqb-true f.zero 0 four.1))
+      (ap (to_le_bytes w32) (kept_signed nimm f.imm imm_low three.1) ∙ imm_bytes)
 
   size_unset : (nrd nrs nimm : Bool) → are_unset (fields_of b) (names nrd nrs false nimm) ≡ true → (fields_of b).size ≡ 0
   size_unset nrd nrs nimm unset =

@@ -1,26 +1,24 @@
 -- A line of data says its bytes.
-use Rattle.std.proofs.Common.{◌≡◌, ℕ, zero, suc, ◌+◌, ◌-◌, ◌*◌, ◌^◌, ◌<◌, ◌≤◌, Bool, true, false, cond, ℤ, pos, List, [], ◌∷◌, ◌++◌, length, Option, Some, None, Result, Ok, Err, refl, ap, sym, subst, ◌∙◌, append-nil, length-append, arith}
-use Rattle.std.specs.Prelude.{◌==◌, ◌&&◌, ◌||◌, if◌then◌else◌, codes}
+use Rattle.std.proofs.Common.{◌≡◌, ℕ, zero, suc, ◌+◌, ◌<◌, ◌≤◌, false, List, [], ◌∷◌, ◌++◌, length, Result, Ok, refl, ap, sym, subst, ◌∙◌, length-append, arith}
+use Rattle.std.specs.Prelude.{codes}
 use Rattle.std.specs.List.{All, flat_map}
 use Rattle.std.proofs.lemmas.Bool.{lt-ltb}
 use Rattle.std.proofs.lemmas.List.Elements.{All-head, All-tail}
-use Rattle.muen_num.specs.declared.access.AccessSize.{AccessSize}
 use Rattle.muen_num.specs.declared.access.AccessSize.TheVariants.{One}
 use Rattle.text_words.specs.Steps.{◌>>=◌}
 use Rattle.asm_text.specs.Layout.{Names}
-use Rattle.asm_text.specs.Meaning.{bits_of, fits, if_fits, number_of, numbers_of, residue, sum_of}
-use Rattle.asm_text.specs.Reading.{data_line, keyword, left_of, line_of, value, values, with_others, worded}
-use Rattle.asm_text.specs.Tokens.{Tokens, end_with, token, goes_on, tokens_of, with_byte}
+use Rattle.asm_text.specs.Meaning.{bits_of, fits, if_fits, number_of, numbers_of, residue}
+use Rattle.asm_text.specs.Reading.{data_line, keyword, left_of, line_of, values, with_others, worded}
+use Rattle.asm_text.specs.Tokens.{Tokens, end_with, token, goes_on, tokens_of}
 use Rattle.asm_text.specs.declared.fault.LineError.{LineError}
 use Rattle.asm_text.specs.declared.fault.Want.TheVariants.{Range}
 use Rattle.asm_text.specs.declared.meaning.Sum.{Sum}
-use Rattle.asm_text.specs.declared.statement.Statement.{Statement}
 use Rattle.asm_text.specs.declared.statement.Statement.TheVariants.{Data}
 use Rattle.asm_text.specs.declared.statement.Value.{Value}
 use Rattle.asm_listing.specs.Source.{byte_text, data_text}
 use Rattle.asm_listing.proofs.Instructions.{as_line, line_by}
-use Rattle.asm_listing.proofs.Values.{IsLast, IsUnmarked, comma_ends, ended, number_term, number_value, one_value, plus_sum, unmarked_word}
-use Rattle.asm_listing.proofs.Words.{IsWord, byte_atom, byte_word, last_word, word_parted}
+use Rattle.asm_listing.proofs.Values.{comma_ends, ended, number_term, number_value, one_value, plus_sum, unmarked_word}
+use Rattle.asm_listing.proofs.Words.{byte_atom, byte_word, word_parted}
 
 abbrev others_text : List ℕ → List ℕ
 others_text bs = flat_map (λ b. codes ", " ++ byte_text b) bs

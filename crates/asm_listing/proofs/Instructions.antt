@@ -1,6 +1,6 @@
 -- The line of an instruction says it.
-use Rattle.std.proofs.Common.{◌≡◌, ℕ, zero, suc, ◌+◌, ◌-◌, ◌*◌, ◌^◌, ◌<◌, ◌≤◌, Bool, true, false, cond, ℤ, pos, negsuc, neg_ℤ, List, [], ◌∷◌, ◌++◌, length, Option, Some, None, Result, Ok, Err, refl, ap, sym, subst, ◌∙◌, append_assoc, w32, to_z-of_z, add-one, arith}
-use Rattle.std.specs.Prelude.{◌==◌, ◌&&◌, ◌||◌, if◌then◌else◌, codes}
+use Rattle.std.proofs.Common.{◌≡◌, ℕ, ◌-◌, ◌^◌, true, false, ℤ, pos, negsuc, List, [], ◌∷◌, ◌++◌, length, Option, Some, None, Result, Ok, refl, ap, ◌∙◌, append_assoc, w32, to_z-of_z, add-one, arith}
+use Rattle.std.specs.Prelude.{◌&&◌, if◌then◌else◌, codes}
 use Rattle.std.specs.Fmt.{signed_decimal}
 use Rattle.std.specs.Int.{cast_signed, cast_unsigned}
 use Rattle.std.specs.Int.RustNames.{FitsSigned}
@@ -8,24 +8,22 @@ use Rattle.std.specs.List.{list_all}
 use Rattle.std.specs.Str.{bytes_eq}
 use Rattle.std.proofs.lemmas.Bool.{lt-ltb, le-leb}
 use Rattle.muen_num.specs.declared.access.AccessSize.{AccessSize}
-use Rattle.muen_num.specs.declared.access.AccessSize.TheVariants.{One, Two, Four, Eight}
+use Rattle.muen_num.specs.declared.access.AccessSize.TheVariants.{One}
 use Rattle.guest_isa.specs.GuestIsa.{IsValid}
 use Rattle.guest_isa.specs.declared.instr.Instr.{Instr}
 use Rattle.guest_isa.specs.declared.instr.Instr.TheVariants.{Nop as INop, Li as ILi, Lih as ILih, Mov as IMov, Add as IAdd, Sub as ISub, And as IAnd, Or as IOr, Xor as IXor, Shl as IShl, Shr as IShr, Load as ILoad, Store as IStore, Jmp as IJmp, Jz as IJz, Jnz as IJnz, Jb as IJb, In as IIn, Out as IOut, Rdmsr as IRdmsr, Wrmsr as IWrmsr, Rdtsc as IRdtsc, Vmcall as IVmcall, Hlt as IHlt, Sti as ISti, Cli as ICli, Setv as ISetv, Reti as IReti}
 use Rattle.text_words.specs.Steps.{◌>>=◌, ◌>>◌}
 use Rattle.asm_text.specs.Layout.{Names}
-use Rattle.asm_text.specs.Meaning.{Item, instruction as instruction_item, distance_by, fits, fits_signed, if_fits, immediate_by, immediate_of, instruction_of, is_jump, item_of, residue, sum_of}
+use Rattle.asm_text.specs.Meaning.{instruction as instruction_item, fits, fits_signed, if_fits, immediate_by, immediate_of, instruction_of, item_of, residue}
 use Rattle.asm_text.specs.Mnemonics.{instruction_with, mnemonic_text, shape_of}
 use Rattle.asm_text.specs.Reading.{at_end, definition, directive, instruction, label, line_of, named, offset_line, operands, operands_of, statement, worded}
 use Rattle.asm_text.specs.Tokens.{Tokens, end_with, token, goes_on, is_word_byte, tokens_of}
 use Rattle.asm_text.specs.Words.{data_size_of, mnemonic_of}
 use Rattle.asm_text.specs.declared.fault.LineError.{LineError}
-use Rattle.asm_text.specs.declared.fault.Want.{Want}
 use Rattle.asm_text.specs.declared.fault.Want.TheVariants.{Near, Range}
 use Rattle.asm_text.specs.declared.meaning.Sum.{Sum}
 use Rattle.asm_text.specs.declared.mnemonic.Mnemonic.{Mnemonic}
 use Rattle.asm_text.specs.declared.mnemonic.Mnemonic.TheVariants.{Nop, Li, Lih, Mov, Add, Sub, And, Or, Xor, Shl, Shr, Load, Store, Jmp, Jz, Jnz, Jb, In, Out, Rdmsr, Wrmsr, Rdtsc, Vmcall, Hlt, Sti, Cli, Setv, Reti}
-use Rattle.asm_text.specs.declared.mnemonic.Shape.{Shape}
 use Rattle.asm_text.specs.declared.mnemonic.Shape.TheVariants.{Immediate, Pair, Memory, PortRead, PortWrite, JumpIf, JumpBelow}
 use Rattle.asm_text.specs.declared.statement.Label.{Label}
 use Rattle.asm_text.specs.declared.statement.Operands.{Operands}
@@ -34,7 +32,6 @@ use Rattle.asm_text.specs.declared.statement.SourceLine.{SourceLine}
 use Rattle.asm_text.specs.declared.statement.Statement.{Statement}
 use Rattle.asm_text.specs.declared.statement.Statement.TheVariants.{Instruction}
 use Rattle.asm_listing.specs.Source.{displacement_text, instruction_text, operands_text, parts, parts_of, register_text, size_text}
-use Rattle.asm_listing.specs.declared.parts.Parts.{Parts}
 use Rattle.asm_listing.proofs.Shapes.{OperandsRead, alone_read, destination_read, immediate_read, jump_below_read, jump_if_read, jump_read, memory_read, pair_read, port_read_read, port_write_read, source_read}
 use Rattle.asm_listing.proofs.Values.{IsUnmarked}
 use Rattle.asm_listing.proofs.Words.{◌⧺◌, IsWord, word_parted}

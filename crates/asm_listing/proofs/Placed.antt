@@ -1,6 +1,6 @@
 -- Where the items of a source that is read stand, and what their bytes are.
-use Rattle.std.proofs.Common.{◌≡◌, ℕ, zero, suc, ◌+◌, ◌-◌, ◌*◌, ◌/◌, ◌%◌, ◌^◌, ◌<◌, ◌≤◌, Bool, true, false, cond, ltb, ℤ, pos, List, [], ◌∷◌, ◌++◌, length, replicate, Option, Some, None, Result, Ok, Err, refl, ap, sym, ◌∙◌, ap₂, subst, length-append, suc-mul, w32, arith}
-use Rattle.std.specs.Prelude.{◌==◌, ◌&&◌, if◌then◌else◌, nat_lt, is_some}
+use Rattle.std.proofs.Common.{◌≡◌, ℕ, zero, suc, ◌+◌, ◌-◌, ◌*◌, ◌%◌, ◌<◌, ◌≤◌, Bool, true, false, ℤ, pos, List, [], ◌∷◌, length, replicate, Option, Some, None, Result, Ok, Err, refl, ap, sym, ◌∙◌, ap₂, subst, length-append, suc-mul, w32, arith}
+use Rattle.std.specs.Prelude.{◌==◌, if◌then◌else◌, nat_lt, is_some}
 use Rattle.std.specs.Int.{bytes_low_first, byte_at, cast_unsigned, to_le_bytes}
 use Rattle.std.specs.Int.RustNames.{FitsSigned}
 use Rattle.std.specs.List.{All, flat_map}
@@ -11,19 +11,17 @@ use Rattle.muen_num.specs.AccessSize.{bytes_of}
 use Rattle.muen_num.specs.declared.access.AccessSize.{AccessSize}
 use Rattle.muen_num.specs.declared.access.AccessSize.TheVariants.{One, Two, Four, Eight}
 use Rattle.muen_num.specs.declared.limits.TheConstants.{COMPONENT_FILE_MOST}
-use Rattle.guest_isa.specs.GuestIsa.{IsValid, code_of, encoding_of, fields, fields_for, spelled}
+use Rattle.guest_isa.specs.GuestIsa.{IsValid, code_of, encoding_of, fields, spelled}
 use Rattle.guest_isa.specs.declared.instr.Instr.{Instr}
 use Rattle.guest_isa.specs.declared.instr.Instr.TheVariants.{Nop, Li, Lih, Mov, Add, Sub, And, Or, Xor, Shl, Shr, Load, Store, Jmp, Jz, Jnz, Jb, In, Out, Rdmsr, Wrmsr, Rdtsc, Vmcall, Hlt, Sti, Cli, Setv, Reti}
 use native.Mathlib.Nat.{add_comm}
 use Rattle.text_words.specs.Parts.{lines_of}
-use Rattle.text_words.specs.Steps.{◌>>=◌}
-use Rattle.asm_text.specs.Layout.{Layout, Names, Standing, after_line, at_start, in_line, labelled, layout_from, meaning_of, moved, named, stated, with_line, with_name}
-use Rattle.asm_text.specs.Meaning.{Item, instruction, data_of, zeros, bytes_of_item, bytes_of_items, immediate_of, instruction_of, item_of, items_of, little_endian, number_of, numbers_of, said}
+use Rattle.asm_text.specs.Layout.{Layout, Names, Standing, after_line, at_start, in_line, labelled, layout_from, meaning_of, moved, named, stated, with_name}
+use Rattle.asm_text.specs.Meaning.{Item, instruction, data_of, zeros, bytes_of_item, immediate_of, instruction_of, item_of, items_of, little_endian, number_of, numbers_of, said}
 use Rattle.asm_text.specs.Reading.{line_of, wanted}
 use Rattle.asm_text.specs.Tokens.{tokens_of}
 use Rattle.asm_text.specs.declared.fault.LineError.{LineError}
 use Rattle.asm_text.specs.declared.fault.LineError.TheVariants.{Wanted, NoMemory as LineMemory}
-use Rattle.asm_text.specs.declared.fault.SourceFault.{SourceFault}
 use Rattle.asm_text.specs.declared.fault.Want.TheVariants.{Ahead, Aligned, NewName, Room}
 use Rattle.asm_text.specs.declared.statement.Label.{Label}
 use Rattle.asm_text.specs.declared.statement.Meaning.{Meaning}
@@ -32,8 +30,7 @@ use Rattle.asm_text.specs.declared.statement.SourceLine.{SourceLine}
 use Rattle.asm_text.specs.declared.statement.Statement.{Statement}
 use Rattle.asm_text.specs.declared.statement.Statement.TheVariants.{Nothing, Definition, Offset, Data, Instruction}
 use Rattle.asm_text.specs.declared.statement.Value.{Value}
-use Rattle.asm_listing.proofs.Accepted.{Any, Holds, IsFit, IsFitLine, IsSound, after, holds_then, immediate_fits, line_fit, sound_with}
-use Rattle.asm_listing.proofs.Instructions.{immediate}
+use Rattle.asm_listing.proofs.Accepted.{Holds, IsFit, IsFitLine, IsSound, after, holds_then, immediate_fits, line_fit, sound_with}
 use Rattle.asm_listing.proofs.Sources.{IsLow}
 
 -- ---- lines

@@ -1,6 +1,6 @@
 -- A printed line has no line feed within, nor another control byte.
-use Rattle.std.proofs.Common.{◌≡◌, ℕ, zero, suc, ◌+◌, ◌*◌, ◌^◌, ◌<◌, ◌≤◌, Bool, true, false, cond, ℤ, pos, negsuc, List, [], ◌∷◌, ◌++◌, length, refl, ap, sym, ◌∙◌, w32, arith}
-use Rattle.std.specs.Prelude.{◌==◌, ◌&&◌, codes, decimal}
+use Rattle.std.proofs.Common.{◌≡◌, ℕ, zero, suc, ◌^◌, ◌<◌, true, ℤ, pos, negsuc, List, [], ◌∷◌, ◌++◌, refl, ◌∙◌, w32, arith}
+use Rattle.std.specs.Prelude.{codes, decimal}
 use Rattle.std.specs.Char.{is_ascii_digit}
 use Rattle.std.specs.Fmt.{signed_decimal}
 use Rattle.std.specs.Int.RustNames.{FitsSigned}

@@ -1,6 +1,6 @@
 -- What stands behind a mnemonic reads as it was printed, for each shape.
-use Rattle.std.proofs.Common.{◌≡◌, ℕ, ◌+◌, ◌<◌, Bool, true, false, cond, ℤ, pos, List, [], ◌∷◌, length, Option, Some, None, Result, Ok, Err, refl, ap, sym, subst, ◌∙◌, w32, arith}
-use Rattle.std.specs.Prelude.{◌==◌, ◌&&◌, ◌||◌, if◌then◌else◌, codes}
+use Rattle.std.proofs.Common.{◌≡◌, ℕ, ◌<◌, ℤ, pos, List, [], ◌∷◌, length, Result, Ok, refl, ap, sym, subst, ◌∙◌, w32}
+use Rattle.std.specs.Prelude.{codes}
 use Rattle.std.specs.Fmt.{signed_decimal}
 use Rattle.std.specs.Int.RustNames.{FitsSigned}
 use Rattle.muen_num.specs.declared.access.AccessSize.{AccessSize}
@@ -10,8 +10,7 @@ use Rattle.text_words.specs.Steps.{◌>>=◌, ◌>>◌}
 use Rattle.asm_text.specs.Layout.{Names}
 use Rattle.asm_text.specs.Meaning.{sum_of}
 use Rattle.asm_text.specs.Reading.{below_jump, comma, immediate, keyword, left_of, memory, no_value, operands, operands_of, pair, place, port, register, size, small, value}
-use Rattle.asm_text.specs.Tokens.{Tokens, end_with, token, goes_on, tokens_of, with_byte}
-use Rattle.asm_text.specs.Words.{size_of, size_unit}
+use Rattle.asm_text.specs.Tokens.{Tokens, end_with, token, tokens_of}
 use Rattle.asm_text.specs.declared.fault.LineError.{LineError}
 use Rattle.asm_text.specs.declared.fault.Want.{Want}
 use Rattle.asm_text.specs.declared.fault.Want.TheVariants.{At, To, Port as PortWant}
@@ -19,8 +18,8 @@ use Rattle.asm_text.specs.declared.mnemonic.Shape.{Shape}
 use Rattle.asm_text.specs.declared.mnemonic.Shape.TheVariants.{Alone, Immediate, Pair, Memory, PortRead, PortWrite, Destination, Source, Jump, JumpIf, JumpBelow}
 use Rattle.asm_text.specs.declared.statement.Operands.{Operands}
 use Rattle.asm_text.specs.declared.statement.Value.{Value}
-use Rattle.asm_listing.specs.Source.{displacement_text, operands_text, register_text, size_text}
-use Rattle.asm_listing.proofs.Values.{IsUnmarked, PlaceRead, ValueRead, place_read, register_parted, register_read, signed_read, unmarked_word}
+use Rattle.asm_listing.specs.Source.{displacement_text, register_text, size_text}
+use Rattle.asm_listing.proofs.Values.{IsUnmarked, place_read, register_parted, register_read, signed_read, unmarked_word}
 use Rattle.asm_listing.proofs.Words.{◌⧺◌, last_word, register_word}
 
 -- the operands of a shape up to the end of the line, and what their value comes to

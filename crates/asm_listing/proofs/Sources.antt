@@ -1,10 +1,10 @@
 -- What is printed of bytes says them.
-use Rattle.std.proofs.Common.{◌≡◌, ℕ, zero, suc, ◌+◌, ◌-◌, ◌*◌, ◌/◌, ◌%◌, ◌^◌, ◌<◌, ◌≤◌, Bool, true, false, cond, List, [], ◌∷◌, ◌++◌, length, map, Option, Some, None, Result, Ok, Err, refl, ap, ap₂, sym, subst, ◌∙◌, append_assoc, append-nil, length-append, arith}
-use Rattle.std.specs.Prelude.{◌==◌, ◌&&◌, ◌||◌, if◌then◌else◌, codes, nat_lt}
+use Rattle.std.proofs.Common.{◌≡◌, ℕ, ◌+◌, ◌*◌, ◌%◌, ◌<◌, ◌≤◌, Bool, true, false, List, [], ◌∷◌, ◌++◌, length, map, Option, Some, None, Result, Ok, refl, ap, ap₂, sym, subst, ◌∙◌, append_assoc, append-nil, length-append, arith}
+use Rattle.std.specs.Prelude.{◌==◌, if◌then◌else◌, codes}
 use Rattle.std.specs.List.{All, flat_map, slice_split}
 use Rattle.std.proofs.lemmas.Bool.{and_parts, eq-eqb, eqb-true, le-ltb}
 use Rattle.std.proofs.lemmas.Bool.Decides.{nat_tests}
-use Rattle.std.proofs.lemmas.List.Elements.{All-cons, All-drop, All-head, All-nil, All-tail}
+use Rattle.std.proofs.lemmas.List.Elements.{All-cons, All-head, All-nil, All-tail}
 use Rattle.std.proofs.lemmas.List.Splits.{length-slice_split, slice_split_at}
 use Rattle.muen_num.specs.declared.access.AccessSize.TheVariants.{One}
 use Rattle.muen_num.specs.declared.limits.TheConstants.{COMPONENT_FILE_MOST}
@@ -13,7 +13,7 @@ use Rattle.guest_isa.specs.declared.instr.Instr.{Instr}
 use Rattle.text_words.specs.Parts.{lines_of, parts_of, without_empty_end}
 use Rattle.text_words.specs.Steps.{◌>>=◌}
 use Rattle.asm_text.specs.Layout.{Layout, Names, Standing, after_line, in_line, layout_from, moved, stated, with_line}
-use Rattle.asm_text.specs.Meaning.{Item, instruction, data_of, assembled, bytes_of_item, bytes_of_items, item_of, items_of, little_endian, said}
+use Rattle.asm_text.specs.Meaning.{Item, instruction, data_of, bytes_of_item, bytes_of_items, item_of, items_of, little_endian, said}
 use Rattle.asm_text.specs.Reading.{line_of, wanted}
 use Rattle.asm_text.specs.Tokens.{tokens_of}
 use Rattle.asm_text.specs.declared.fault.LineError.{LineError}
@@ -147,10 +147,12 @@ lines_printed = chunks_by (λ bytes. All IsLow bytes → lines_of (flat_map line
   where
     none : All IsLow [] → lines_of (flat_map line_text (chunks_of [])) ≡ map chunk_text (chunks_of [])
     none all = rw no_chunk no_lines
+
     fewer : (chunk : List ℕ) → 0 < length chunk → length chunk < 8 → All IsLow chunk → lines_of (flat_map line_text (chunks_of chunk)) ≡ map chunk_text (chunks_of chunk)
     fewer chunk some few all =
         subst (λ (cs : List (List ℕ)). lines_of (flat_map line_text cs) ≡ map chunk_text cs) (sym (one_chunk chunk some few))
         (first_line (chunk_text chunk) [] (chunk_is chunk some all).seen ∙ ap (λ (ls : List (List ℕ)). chunk_text chunk ∷ ls) no_lines)
+
     full : (chunk more : List ℕ) → length chunk ≡ 8 → (All IsLow more → lines_of (flat_map line_text (chunks_of more)) ≡ map chunk_text (chunks_of more))
         → All IsLow (chunk ++ more) → lines_of (flat_map line_text (chunks_of (chunk ++ more))) ≡ map chunk_text (chunks_of (chunk ++ more))
     full chunk more l h all =
@@ -194,10 +196,12 @@ all_laid = chunks_by WillBeLaid none fewer full
   where
     none : WillBeLaid []
     none here n aligned room all = rw no_chunk (none_laid here n)
+
     fewer : (chunk : List ℕ) → 0 < length chunk → length chunk < 8 → WillBeLaid chunk
     fewer chunk some few here n aligned room all =
         subst (AreLaid here n) (sym (one_chunk chunk some few))
         (more_laid here n chunk [] (chunk_is chunk some all) aligned room (none_laid (here + length chunk) (n + 1)))
+
     full : (chunk more : List ℕ) → length chunk ≡ 8 → WillBeLaid more → WillBeLaid (chunk ++ more)
     full chunk more l h here n aligned room all =
         let parts = length-append chunk more in
@@ -223,10 +227,12 @@ bytes_back = chunks_by (λ bytes. All IsLow bytes → bytes_of_items (map chunk_
   where
     none : All IsLow [] → bytes_of_items (map chunk_item (chunks_of [])) ≡ []
     none all = rw no_chunk refl
+
     fewer : (chunk : List ℕ) → 0 < length chunk → length chunk < 8 → All IsLow chunk → bytes_of_items (map chunk_item (chunks_of chunk)) ≡ chunk
     fewer chunk some few all =
         ap (λ cs. bytes_of_items (map chunk_item cs)) (one_chunk chunk some few)
         ∙ ap (λ (bs : List ℕ). bs ++ []) (chunk_is chunk some all).bytes ∙ append-nil chunk
+
     full : (chunk more : List ℕ) → length chunk ≡ 8 → (All IsLow more → bytes_of_items (map chunk_item (chunks_of more)) ≡ more)
         → All IsLow (chunk ++ more) → bytes_of_items (map chunk_item (chunks_of (chunk ++ more))) ≡ chunk ++ more
     full chunk more l h all =

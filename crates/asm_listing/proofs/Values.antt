@@ -1,19 +1,17 @@
 -- What numbers in a printed line read as: immediates, and what is added to a register.
-use Rattle.std.proofs.Common.{◌≡◌, ℕ, zero, suc, ◌+◌, ◌-◌, ◌*◌, ◌^◌, ◌<◌, ◌≤◌, Bool, true, false, not, cond, ℤ, pos, negsuc, ◌+ℤ◌, neg_ℤ, List, [], ◌∷◌, ◌++◌, length, Option, Some, None, Result, Ok, Err, refl, ap, sym, subst, ◌∙◌, append-nil, add-zero, w32, arith}
-use Rattle.std.specs.Prelude.{◌==◌, ◌&&◌, ◌||◌, if◌then◌else◌, codes, decimal}
+use Rattle.std.proofs.Common.{◌≡◌, ℕ, zero, suc, ◌^◌, ◌<◌, Bool, true, false, ℤ, pos, negsuc, ◌+ℤ◌, List, [], ◌∷◌, ◌++◌, length, Option, Some, Result, Ok, refl, ap, sym, subst, ◌∙◌, add-zero, w32, arith}
+use Rattle.std.specs.Prelude.{◌&&◌, if◌then◌else◌, codes, decimal}
 use Rattle.std.specs.Fmt.{signed_decimal}
 use Rattle.std.specs.Int.RustNames.{FitsSigned}
 use Rattle.std.specs.Str.{bytes_eq}
 use Rattle.std.proofs.lemmas.Int.{ints}
 use Rattle.text_words.specs.Steps.{◌>>=◌}
 use Rattle.asm_text.specs.Layout.{Names}
-use Rattle.asm_text.specs.Meaning.{added, sum_of}
-use Rattle.asm_text.specs.Reading.{atom_of, displacement, found, place, register, sign_of, signed_terms, terms, terms_behind, terms_of, value, with_signed_term, with_term}
+use Rattle.asm_text.specs.Meaning.{sum_of}
+use Rattle.asm_text.specs.Reading.{atom_of, displacement, found, place, register, sign_of, signed_terms, terms, terms_behind, value, with_signed_term, with_term}
 use Rattle.asm_text.specs.Tokens.{Tokens, end_with, token, begins_comment, goes_on, is_blank, is_mark, tokens_of, with_byte}
 use Rattle.asm_text.specs.declared.fault.LineError.{LineError}
 use Rattle.asm_text.specs.declared.fault.Want.TheVariants.{Register}
-use Rattle.asm_text.specs.declared.meaning.Sum.{Sum}
-use Rattle.asm_text.specs.declared.statement.Atom.{Atom}
 use Rattle.asm_text.specs.declared.statement.Atom.TheVariants.{Number as NumberAtom}
 use Rattle.asm_text.specs.declared.statement.Term.{Term}
 use Rattle.asm_text.specs.declared.statement.Value.{Value}
@@ -153,9 +151,9 @@ sign_behind_blank : (c : ℕ) (rest : List ℕ) → is_mark c ≡ true → is_bl
 unfolding tokens_of
 sign_behind_blank c rest mark blank comment =
     λ i.
-      if comment i then end_with (length (c ∷ 32 ∷ rest))
-      else if blank i then tokens_of rest
-      else token (length (c ∷ 32 ∷ rest)) (c ∷ []) (tokens_of rest)
+    if comment i then end_with (length (c ∷ 32 ∷ rest))
+    else if blank i then tokens_of rest
+    else token (length (c ∷ 32 ∷ rest)) (c ∷ []) (tokens_of rest)
 
 pub displacement_read : (z : ℤ) → FitsSigned w32 z → DisplacementRead (tokens_of (displacement_text z)) z
 unfolding tokens_of

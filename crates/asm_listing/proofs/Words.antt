@@ -1,20 +1,18 @@
 -- The words of a printed line: how they part, and what each spells.
-use Rattle.std.proofs.Common.{◌≡◌, ℕ, zero, suc, ◌+◌, ◌-◌, ◌*◌, ◌^◌, ◌<◌, ◌≤◌, Bool, true, false, not, cond, List, [], ◌∷◌, ◌++◌, length, take, drop, Option, Some, None, refl, ap, sym, ◌∙◌, append-nil, arith}
-use Rattle.std.specs.Prelude.{◌==◌, ◌&&◌, ◌||◌, if◌then◌else◌, nat_le, codes, decimal, option_map, option_and_then, slice_index}
+use Rattle.std.proofs.Common.{◌≡◌, ℕ, zero, suc, ◌^◌, ◌<◌, Bool, true, false, not, List, [], ◌∷◌, ◌++◌, length, take, drop, Option, Some, None, refl, ap, sym, ◌∙◌, append-nil, arith}
+use Rattle.std.specs.Prelude.{◌==◌, ◌&&◌, ◌||◌, if◌then◌else◌, nat_le, codes, decimal, option_map, option_and_then}
 use Rattle.std.specs.Char.{is_ascii_digit}
 use Rattle.std.specs.Cmp.Lexicographic.{bytes_decides}
 use Rattle.std.specs.List.{list_all}
 use Rattle.std.specs.Str.{bytes_eq}
-use Rattle.std.proofs.lemmas.Bool.{agree_below, agree_below_at, and_from, and_parts, both_ways, eqb-true, false_from_ne_true, false≢true, lt-ltb}
+use Rattle.std.proofs.lemmas.Bool.{agree_below_at, and_from, and_parts, both_ways, eqb-true, false_from_ne_true, false≢true, lt-ltb}
 use Rattle.std.proofs.lemmas.Bool.Decides.{nat_tests}
 use Rattle.std.proofs.lemmas.Fmt.{decimal_nonempty}
 use Rattle.hex.specs.Hex.{encode_lower, encode_with}
-use Rattle.text_words.specs.Numbers.{number_of}
-use Rattle.text_words.specs.Groups.{based, before_mark, behind_mark, groups_of, number_of_groups}
+use Rattle.text_words.specs.Groups.{before_mark, behind_mark, groups_of, number_of_groups}
 use Rattle.asm_text.specs.Reading.{atom_of, sign_of}
-use Rattle.asm_text.specs.Tokens.{Tokens, end_with, token, begins_comment, goes_on, is_blank, is_mark, is_word_byte, tokens_of, with_byte}
+use Rattle.asm_text.specs.Tokens.{end_with, token, begins_comment, goes_on, is_blank, is_mark, is_word_byte, tokens_of, with_byte}
 use Rattle.asm_text.specs.Words.{behind, below, number_in, or_else, register_of, symbol_of}
-use Rattle.asm_text.specs.declared.statement.Atom.{Atom}
 use Rattle.asm_text.specs.declared.statement.Atom.TheVariants.{Number as NumberAtom, Name as NameAtom}
 use Rattle.asm_listing.specs.Source.{byte_text, register_text}
 use Rattle.asm_listing.proofs.Digits.{digits_alone, first_digit, number_read}
@@ -57,10 +55,10 @@ unfolding tokens_of
 last_byte c rest word ends =
     let p = parted (is_blank c) (is_mark c) (begins_comment c) word in
     λ i.
-      if p.2 i then end_with (length (c ∷ rest))
-      else if p.0 i then tokens_of rest
-      else if ends i && not (p.1 i) then with_byte (length (c ∷ rest)) c (tokens_of rest)
-      else token (length (c ∷ rest)) (c ∷ []) (tokens_of rest)
+    if p.2 i then end_with (length (c ∷ rest))
+    else if p.0 i then tokens_of rest
+    else if ends i && not (p.1 i) then with_byte (length (c ∷ rest)) c (tokens_of rest)
+    else token (length (c ∷ rest)) (c ∷ []) (tokens_of rest)
 
 next_byte : (c d : ℕ) (rest : List ℕ) → is_word_byte c ≡ true → is_word_byte d ≡ true
     → tokens_of (c ∷ d ∷ rest) ≡ with_byte (length (c ∷ d ∷ rest)) c (tokens_of (d ∷ rest))
@@ -68,10 +66,10 @@ unfolding tokens_of
 next_byte c d rest word goes =
     let p = parted (is_blank c) (is_mark c) (begins_comment c) word in
     λ i.
-      if p.2 i then end_with (length (c ∷ d ∷ rest))
-      else if p.0 i then tokens_of (d ∷ rest)
-      else if goes i && not (p.1 i) then with_byte (length (c ∷ d ∷ rest)) c (tokens_of (d ∷ rest))
-      else token (length (c ∷ d ∷ rest)) (c ∷ []) (tokens_of (d ∷ rest))
+    if p.2 i then end_with (length (c ∷ d ∷ rest))
+    else if p.0 i then tokens_of (d ∷ rest)
+    else if goes i && not (p.1 i) then with_byte (length (c ∷ d ∷ rest)) c (tokens_of (d ∷ rest))
+    else token (length (c ∷ d ∷ rest)) (c ∷ []) (tokens_of (d ∷ rest))
 
 -- a word has a byte, and all its bytes are those of words
 pub record IsWord (word : List ℕ) : Type 0 where
@@ -125,8 +123,8 @@ module _ (n : ℕ) (h : n < 2 ^ 64) where
   number_reads : number_in (decimal n) ≡ Some n
   number_reads =
       (λ i.
-        or_else (option_and_then (λ digits. number_of_groups (groups_of digits)) (no_prefix i))
-        (or_else (option_and_then (λ middle. number_of_groups (groups_of middle)) (option_and_then before_mark (no_base i))) (option_and_then (below (2 ^ 64)) (number_read n h i))))
+      or_else (option_and_then (λ digits. number_of_groups (groups_of digits)) (no_prefix i))
+      (or_else (option_and_then (λ middle. number_of_groups (groups_of middle)) (option_and_then before_mark (no_base i))) (option_and_then (below (2 ^ 64)) (number_read n h i))))
       ∙ ap (λ b. if b then Some n else None) (lt-ltb n (2 ^ 64) h)
 
   pub decimal_atom : atom_of (decimal n) ≡ Some (NumberAtom n)

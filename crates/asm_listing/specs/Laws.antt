@@ -1,5 +1,5 @@
 -- What a source of bytes says: the bytes, and of the bytes of another source that one's instructions.
-use Rattle.std.specs.Prelude.{◌≡◌, ℕ, ◌+◌, ◌<◌, ◌≤◌, List, [], ◌∷◌, ◌++◌, length, Result, Ok}
+use Rattle.std.specs.Prelude.{◌≡◌, ℕ, ◌+◌, ◌<◌, ◌≤◌, List, [], ◌∷◌, ◌++◌, length, Ok}
 use Rattle.std.specs.List.{All, Contains}
 use Rattle.guest_isa.specs.declared.instr.Instr.{Instr}
 use Rattle.muen_num.specs.declared.limits.TheConstants.{COMPONENT_FILE_MOST}

@@ -40,11 +40,7 @@ fn put_lines<S: Sink>(bytes: &[u8], out: &mut BufferedSink<'_, S>) -> Result<(),
 /// as data; so with the last, which may be fewer. The text goes through the buffer, in which nothing
 /// may wait before, and takes no memory. Where the sink fails it has a front of the text.
 #[tactic(auto, using(muen_outside::proofs::Buffered::gives))]
-pub fn put_source<S: Sink>(
-    bytes: &[u8],
-    buffer: &mut Buffer,
-    out: &mut S,
-) -> Result<(), SinkFault>
+pub fn put_source<S: Sink>(bytes: &[u8], buffer: &mut Buffer, out: &mut S) -> Result<(), SinkFault>
     requires { buffer.old ≡ [] }
     ensures { Puts (source_of bytes.now) (S.state out.old) (S.state out.new) result }
 {

@@ -1,4 +1,4 @@
-use Rattle.std.proofs.Common.{◌≡◌, ◌*◌, ◌++◌, List, ℕ, length, drop, replicate, ap, ◌∙◌, length-take-le, rules, arith}
+use Rattle.std.proofs.Common.{◌≡◌, ◌*◌, ◌++◌, List, ℕ, length, drop, replicate, ap, ◌∙◌, length-take-le, arith}
 use Rattle.std.proofs.lemmas.List.{drop-replicate}
 use Rattle.hex.specs.Hex.{encode_lower}
 use Rattle.asm_listing.proofs.Printing.{if_done}
