@@ -1,1 +1,2 @@
+mod TermLaws
 mod TokenLaws

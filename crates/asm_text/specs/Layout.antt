@@ -6,7 +6,7 @@ use Rattle.std.specs.Map.{lookup}
 use Rattle.std.specs.Ordering.{nat_cmp}
 use Rattle.muen_num.specs.AccessSize.{bytes_of}
 use Rattle.muen_num.specs.declared.limits.TheConstants.{COMPONENT_FILE_MOST}
-use Rattle.record_text.specs.Steps.{◌>>=◌, ◌>>◌}
+use Rattle.text_words.specs.Steps.{◌>>=◌, ◌>>◌}
 use Rattle.asm_text.specs.Reading.{wanted, line_of}
 use Rattle.asm_text.specs.Tokens.{tokens_of}
 use Rattle.asm_text.specs.declared.fault.LineError.{LineError}
@@ -71,10 +71,13 @@ after_line line s = do
 -- ---- whole sources
 
 -- in line n, behind which this column comes: a column tells how many bytes of the line are left there
+abbrev pub fault_in : ℕ → ℕ → LineError → SourceFault
+fault_in n end (Wanted left want) = At n (end - left) want
+fault_in n end LineMemory = NoMemory
+
 abbrev pub in_line : {X : Type 0} → ℕ → ℕ → Result X LineError → Result X SourceFault
 in_line n end (Ok x) = Ok x
-in_line n end (Err (Wanted left want)) = Err (At n (end - left) want)
-in_line n end (Err LineMemory) = Err NoMemory
+in_line n end (Err e) = Err (fault_in n end e)
 
 pub record Layout : Type 0 where
   pub lines : List Placed

@@ -1,9 +1,9 @@
 //! Where what each line says begins, and what each name stands for.
 ghost use Rattle.std.specs.Prelude.{◌≡◌, IfOk};
 ghost use Rattle.muen_num.specs.Answers.{Answers};
-ghost use Rattle.asm_text.specs.Layout.{after_line, at_start, in_line, labelled, layout_from, moved, stated, with_name};
+ghost use Rattle.asm_text.specs.Layout.{after_line, at_start, fault_in, labelled, layout_from, moved, stated, with_name};
 ghost use Rattle.asm_text.specs.Placing.{laid_out, shown_layout, standing_of};
-ghost use Rattle.record_text.specs.Words.{lines_of};
+ghost use Rattle.text_words.specs.Parts.{lines_of};
 
 use crate::fault::{LineError, SourceFault, Want};
 use crate::reading::line_of;
@@ -12,6 +12,7 @@ use muen_num::limits::COMPONENT_FILE_MOST;
 use muen_num::{Name, Seq};
 use std::alloc::Global;
 use std::collections::BTreeMap;
+use text_words::first_line;
 
 
 /// What each name stands for, and where the next line begins.
@@ -113,7 +114,7 @@ pub(crate) struct Layout {
 
 /// A fault in a line, in its source.
 pub(crate) fn in_line(number: u64, end: u64, error: LineError) -> SourceFault
-    ensures { Err result ≡ in_line number end (Err error) }
+    ensures { result ≡ fault_in number end error }
 {
     match error {
         LineError::Wanted { left, want } => SourceFault::At {

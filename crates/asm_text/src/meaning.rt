@@ -1,7 +1,7 @@
 //! What a statement comes to, where each name is known.
-ghost use Rattle.std.specs.Prelude.{◌≡◌, ◌≤◌, ◌<◌, ℤ, pos, true};
-ghost use Rattle.asm_text.specs.Meaning.{added, bits_of, distance_by, fits, fits_signed, immediate_by, immediate_of, integer_of, is_jump, number_of, residue, signed, sum_of, sum_of_atom, sum_of_meaning};
-ghost use Rattle.asm_text.specs.Ranges.{IsMagnitude, IsSmallSum, IsSum};
+ghost use Rattle.std.specs.Prelude.{◌≡◌, ◌≤◌, ◌<◌, ◌^◌, IfSome, pos, true};
+ghost use Rattle.asm_text.specs.Meaning.{bits_of, distance_by, fits, fits_signed, immediate_by, if_fits, immediate_of, integer_of, is_jump, is_wide, number_of, residue, signed, sum_of, sum_of_atom, sum_of_meaning};
+ghost use Rattle.asm_text.specs.Ranges.{IsMagnitude, IsSmallSum};
 
 use crate::fault::{LineError, Want};
 use crate::mnemonic::Mnemonic;
@@ -135,6 +135,12 @@ fn is_jump(mnemonic: Mnemonic) -> bool
     )
 }
 
+fn is_wide(mnemonic: Mnemonic) -> bool
+    ensures { result ≡ is_wide mnemonic }
+{
+    matches!(mnemonic, Mnemonic::Lih)
+}
+
 // From an instruction to a label where one remains, as it is said where none does.
 fn distance(sum: Sum, here: u64, left: usize) -> Result<i128, LineError>
     ensures { result ≡ distance_by sum.labels here left sum.number }
@@ -164,7 +170,7 @@ fn in_32_bits(n: i128, left: usize, want: Want) -> Result<i32, LineError>
 fn immediate_by(mnemonic: Mnemonic, here: u64, left: usize, sum: Sum) -> Result<i32, LineError>
     ensures { result ≡ immediate_by mnemonic here left sum }
 {
-    if mnemonic == Mnemonic::Lih {
+    if is_wide(mnemonic) {
         if !fits(32, sum.number) {
             return Err(LineError::Wanted {
                 left,

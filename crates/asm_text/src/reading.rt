@@ -1,14 +1,15 @@
 //! What a line says.
-ghost use Rattle.std.specs.Prelude.{◌≡◌, ◌+◌, ◌<◌, IfOk, length};
+ghost use Rattle.std.specs.Prelude.{◌≡◌, ◌++◌, ◌<◌, IfOk, IfSome, length, option_map};
 ghost use Rattle.muen_num.specs.Answers.{Answers};
-ghost use Rattle.asm_text.specs.Reading.{at_end, comma, definition, data_line, displacement, immediate, instruction, integer, is_at_end, keyword, label, line_of, memory, below_jump, number, offset_line, operands_of, pair, place, port, register, signed_terms, size, small, statement, terms, terms_of, value, values, worded};
-ghost use Rattle.asm_text.specs.Shown.{told, told_rest, told_two};
+ghost use Rattle.asm_text.specs.Reading.{at_end, comma, count_of, definition, data_line, displacement, immediate, instruction, integer, keyword, label, line_of, memory, below_jump, number, offset_line, operands_of, pair, place, port, register, signed_terms, size, statement, terms, value, values, worded};
+ghost use Rattle.asm_text.specs.Shown.{mark_at, sign_at, term_of, told, told_rest, told_two};
+ghost use Rattle.text_words.specs.Steps.{mapped};
 ghost use Rattle.asm_text.specs.Tokens.{tokens_of};
 
 use crate::fault::{LineError, Want};
 use crate::mnemonic::{Mnemonic, Shape};
 use crate::statement::{Integer, Label, Operands, Operation, SourceLine, Statement, Term, Value};
-use crate::tokens::{Token, next};
+use crate::tokens::{Token, first_token};
 use crate::words::{
     atom_of, data_size_of, number_in, register_of, sign_of, size_of, size_unit, symbol_of,
 };
@@ -30,7 +31,7 @@ fn keyword<'a>(text: &str, want: Want, line: &'a [u8]) -> Result<&'a [u8], LineE
     ensures rest { told_rest result ≡ keyword text.now want (tokens_of line.now) }
     ensures shorter { IfOk result (λ rest. length rest.now < length line.now) }
 {
-    let next = next(line);
+    let next = first_token(line);
     match next.token {
         Some(Token { word, rest }) if word == text.as_bytes() => Ok(rest),
         _ => Err(LineError::Wanted {
@@ -44,7 +45,7 @@ fn keyword<'a>(text: &str, want: Want, line: &'a [u8]) -> Result<&'a [u8], LineE
 fn register(line: &[u8]) -> Result<(u8, &[u8]), LineError>
     ensures { told result ≡ register (tokens_of line.now) }
 {
-    let next = next(line);
+    let next = first_token(line);
     if let Some(Token { word, rest }) = next.token {
         if let Some(register) = register_of(word) {
             return Ok((register, rest));
@@ -60,7 +61,7 @@ fn register(line: &[u8]) -> Result<(u8, &[u8]), LineError>
 fn number(line: &[u8]) -> Result<(u64, &[u8]), LineError>
     ensures { told result ≡ number (tokens_of line.now) }
 {
-    let next = next(line);
+    let next = first_token(line);
     if let Some(Token { word, rest }) = next.token {
         if let Some(number) = number_in(word) {
             return Ok((number, rest));
@@ -77,7 +78,7 @@ fn number(line: &[u8]) -> Result<(u64, &[u8]), LineError>
 fn at_end(line: &[u8]) -> Result<(), LineError>
     ensures { result ≡ at_end (tokens_of line.now) }
 {
-    let next = next(line);
+    let next = first_token(line);
     match next.token {
         None => Ok(()),
         Some(_) => Err(LineError::Wanted {
@@ -99,7 +100,7 @@ fn comma(line: &[u8]) -> Result<&[u8], LineError>
 fn size(line: &[u8]) -> Result<(AccessSize, &[u8]), LineError>
     ensures { told result ≡ size (tokens_of line.now) }
 {
-    let next = next(line);
+    let next = first_token(line);
     if let Some(Token { word, rest }) = next.token {
         if let Some(size) = size_of(word) {
             let rest = keyword(size_unit(size), Want::Size, rest)?;
@@ -115,8 +116,11 @@ fn size(line: &[u8]) -> Result<(AccessSize, &[u8]), LineError>
 // ---- values
 
 // A number or a name behind its sign.
-fn term(minus: bool, line: &[u8]) -> Result<(Term, &[u8]), LineError> {
-    let next = next(line);
+fn term(minus: bool, line: &[u8]) -> Result<(Term, &[u8]), LineError>
+    ensures term { told result ≡ term_of minus (tokens_of line.now) }
+    ensures shorter { IfOk result (λ r. length r.1.now < length line.now) }
+{
+    let next = first_token(line);
     if let Some(Token { word, rest }) = next.token {
         if let Some(atom) = atom_of(word) {
             let left = next.left;
@@ -130,21 +134,31 @@ fn term(minus: bool, line: &[u8]) -> Result<(Term, &[u8]), LineError> {
 }
 
 // The sign at the head, if there is one.
-fn sign(line: &[u8]) -> Option<(bool, &[u8])> {
-    let Token { word, rest } = next(line).token?;
+fn sign(line: &[u8]) -> Option<(bool, &[u8])>
+    ensures sign { option_map (λ r. (r.0, tokens_of r.1.now)) result ≡ sign_at (tokens_of line.now) }
+    ensures shorter { IfSome result (λ r. length r.1.now < length line.now) }
+{
+    let Token { word, rest } = first_token(line).token?;
     Some((sign_of(word)?, rest))
 }
 
 // These terms, and then terms with a sign each, as many as there are.
 fn signed_terms<'a>(
-    mut terms: Seq<Term>,
+    front: Seq<Term>,
     line: &'a [u8],
-) -> Result<(Seq<Term>, &'a [u8]), LineError> {
+) -> Result<(Seq<Term>, &'a [u8]), LineError>
+    ensures { Answers LineError.NoMemory (mapped (λ r. (front ++ r.0, r.1)) (signed_terms (tokens_of line.now))) (told result) }
+{
+    let mut terms = front;
     let mut rest = line;
     while let Some((minus, behind)) = sign(rest) {
-        let (term, more) = term(minus, behind)?;
-        terms.push(term)?;
-        rest = more;
+        match term(minus, behind) {
+            Ok((term, more)) => {
+                terms.push(term)?;
+                rest = more;
+            }
+            Err(error) => return Err(error),
+        }
     }
     Ok((terms, rest))
 }
@@ -153,13 +167,15 @@ fn signed_terms<'a>(
 fn terms(alloc: Global, line: &[u8]) -> Result<(Seq<Term>, &[u8]), LineError>
     ensures { Answers LineError.NoMemory (terms (tokens_of line.now)) (told result) }
 {
-    let (first, rest) = match sign(line) {
-        Some((minus, rest)) => term(minus, rest)?,
-        None => term(false, line)?,
-    };
-    let mut terms = Seq::new(alloc);
-    terms.push(first)?;
-    signed_terms(terms, rest)
+    let (minus, behind) = sign(line).unwrap_or((false, line));
+    match term(minus, behind) {
+        Ok((first, rest)) => {
+            let mut terms = Seq::new(alloc);
+            terms.push(first)?;
+            signed_terms(terms, rest)
+        }
+        Err(error) => Err(error),
+    }
 }
 
 // A sum.
@@ -167,7 +183,7 @@ fn terms(alloc: Global, line: &[u8]) -> Result<(Seq<Term>, &[u8]), LineError>
 fn value(alloc: Global, line: &[u8]) -> Result<(Value, &[u8]), LineError>
     ensures value { Answers LineError.NoMemory (value (tokens_of line.now)) (told result) }
 {
-    let left = next(line).left;
+    let left = first_token(line).left;
     let (terms, rest) = terms(alloc, line)?;
     Ok((Value { left, terms }, rest))
 }
@@ -177,21 +193,21 @@ fn value(alloc: Global, line: &[u8]) -> Result<(Value, &[u8]), LineError>
 fn displacement(alloc: Global, line: &[u8]) -> Result<(Value, &[u8]), LineError>
     ensures { Answers LineError.NoMemory (displacement (tokens_of line.now)) (told result) }
 {
-    let left = next(line).left;
+    let left = first_token(line).left;
     let (terms, rest) = signed_terms(Seq::new(alloc), line)?;
     Ok((Value { left, terms }, rest))
 }
 
 // Values up to the end of the line, with commas between them.
 fn values(alloc: Global, line: &[u8]) -> Result<Seq<Value>, LineError>
-    ensures { Answers LineError.NoMemory (values (Rattle.asm_text.specs.Reading.left_of (tokens_of line.now) + 1) (tokens_of line.now)) result }
+    ensures { Answers LineError.NoMemory (values (count_of (tokens_of line.now)) (tokens_of line.now)) result }
 {
     let mut values = Seq::new(alloc);
     let mut rest = line;
     loop {
         let (value, behind) = value(alloc, rest)?;
         values.push(value)?;
-        if next(behind).token.is_none() {
+        if first_token(behind).token.is_none() {
             return Ok(values);
         }
         rest = comma(behind)?;
@@ -266,7 +282,7 @@ fn port<'a>(
     let (size, rest) = size(at)?;
     if size == AccessSize::Eight {
         return Err(LineError::Wanted {
-            left: next(at).left,
+            left: first_token(at).left,
             want: Want::Size,
         });
     }
@@ -466,8 +482,10 @@ fn worded(
 }
 
 // What stands behind this mark, if it comes next.
-fn behind_mark<'a>(mark: &str, line: &'a [u8]) -> Option<&'a [u8]> {
-    let Token { word, rest } = next(line).token?;
+fn behind_mark<'a>(mark: &str, line: &'a [u8]) -> Option<&'a [u8]>
+    ensures { option_map (λ r. tokens_of r.now) result ≡ mark_at mark.now (tokens_of line.now) }
+{
+    let Token { word, rest } = first_token(line).token?;
     if word == mark.as_bytes() {
         Some(rest)
     } else {
@@ -480,7 +498,7 @@ fn behind_mark<'a>(mark: &str, line: &'a [u8]) -> Option<&'a [u8]> {
 fn statement(alloc: Global, line: &[u8]) -> Result<Statement, LineError>
     ensures { Answers LineError.NoMemory (statement (tokens_of line.now)) result }
 {
-    let next = next(line);
+    let next = first_token(line);
     let Some(Token { word, rest }) = next.token else {
         return Ok(Statement::Nothing);
     };
@@ -495,7 +513,7 @@ fn statement(alloc: Global, line: &[u8]) -> Result<Statement, LineError>
 fn label(line: &[u8]) -> Result<(Option<Label>, &[u8]), LineError>
     ensures { told result ≡ label (tokens_of line.now) }
 {
-    let next = next(line);
+    let next = first_token(line);
     if let Some(Token { word, rest }) = next.token {
         if let Some(behind) = behind_mark(":", rest) {
             let left = next.left;
@@ -511,7 +529,11 @@ fn label(line: &[u8]) -> Result<(Option<Label>, &[u8]), LineError>
 pub(crate) fn line_of(alloc: Global, line: &[u8]) -> Result<SourceLine, LineError>
     ensures { Answers LineError.NoMemory (line_of (tokens_of line.now)) result }
 {
-    let (label, rest) = label(line)?;
-    let statement = statement(alloc, rest)?;
-    Ok(SourceLine { label, statement })
+    match label(line) {
+        Ok((label, rest)) => {
+            let statement = statement(alloc, rest)?;
+            Ok(SourceLine { label, statement })
+        }
+        Err(error) => Err(error),
+    }
 }
