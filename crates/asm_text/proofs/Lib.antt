@@ -1,2 +1,6 @@
+mod LayoutLaws
+mod RangeLaws
+mod SignLaws
 mod TermLaws
 mod TokenLaws
+mod ValueLaws

@@ -1,7 +1,7 @@
 -- Terms one after another.
 use Rattle.std.proofs.Common.{◌≡◌, ℕ, ◌+◌, ◌<◌, ◌≤◌, Bool, true, false, List, [], ◌∷◌, ◌++◌, Option, Some, None, Result, Ok, Err, option_map, refl, ap, ◌∙◌, sym, append_assoc, append-nil, arith}
 use Rattle.text_words.specs.Steps.{◌>>=◌, mapped}
-use Rattle.asm_text.specs.Reading.{atom_of, count_of, displacement, sign_of, signed_terms, terms, terms_behind, terms_of, value, wanted, with_signed_term, with_term, without_term}
+use Rattle.asm_text.specs.Reading.{atom_of, sign_of, signed_terms, terms_of, wanted, with_signed_term, with_term, without_term}
 use Rattle.asm_text.specs.Shown.{as_term, sign_at, term_of}
 use Rattle.asm_text.specs.Tokens.{Tokens, end_with, token}
 use Rattle.asm_text.specs.declared.fault.LineError.{LineError}
@@ -75,16 +75,9 @@ first_term : (minus : Bool) (ts : Tokens) → terms_of minus ts ≡ (term_of min
 first_term minus (end_with left) = refl
 first_term minus (token left word more) = with_term_is left minus (atom_of word) more
 
-abbrev or_here : Tokens → Option (Bool × Tokens) → Bool × Tokens
-or_here ts None = (false, ts)
-or_here ts (Some s) = s
+-- a term, and then others behind it
+pub term_then : (minus : Bool) (ts rest : Tokens) (t : Term) → term_of minus ts ≡ Ok (t, rest) → before (t ∷ []) (signed_terms rest) ≡ terms_of minus ts
+term_then minus ts rest t h = sym (first_term minus ts ∙ ap (λ r. r >>= and_others) h)
 
-by_first_sign : (sign : Option Bool) (here more : Tokens) → terms_behind sign here more
-    ≡ (term_of (or_here here (option_map (λ minus. (minus, more)) sign)).0 (or_here here (option_map (λ minus. (minus, more)) sign)).1 >>= and_others)
-by_first_sign None here more = first_term false here
-by_first_sign (Some minus) here more = first_term minus more
-
--- the first term with its sign, if it has one, and then others
-pub terms_are : (ts : Tokens) → terms ts ≡ (term_of (or_here ts (sign_at ts)).0 (or_here ts (sign_at ts)).1 >>= and_others)
-terms_are (end_with left) = refl
-terms_are (token left word more) = by_first_sign (sign_of word) (token left word more) more
+pub term_fails : (minus : Bool) (ts : Tokens) (e : LineError) → term_of minus ts ≡ Err e → terms_of minus ts ≡ Err e
+term_fails minus ts e h = first_term minus ts ∙ ap (λ r. r >>= and_others) h

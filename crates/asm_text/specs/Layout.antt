@@ -86,11 +86,17 @@ pub record Layout : Type 0 where
 abbrev pub with_line : Placed → Layout → Layout
 with_line line layout = record { lines = line ∷ layout.lines; names = layout.names }
 
+-- what line n says, where it begins, and what it leaves for the next
+unfoldable pub line_at : Standing → ℕ → List ℕ → Result (Placed × Standing) SourceFault
+line_at s n text = do
+  line ← in_line n (length text + 1) (line_of (tokens_of text))
+  next ← in_line n (length text + 1) (after_line line s)
+  Ok (record { number = n; end = length text + 1; here = s.here; statement = line.statement }, next)
+
 -- the lines from line n on
 unfoldable pub layout_from : Standing → ℕ → List (List ℕ) → Result Layout SourceFault
 layout_from s n [] = Ok (record { lines = []; names = s.names })
 layout_from s n (text ∷ texts) = do
-  line ← in_line n (length text + 1) (line_of (tokens_of text))
-  next ← in_line n (length text + 1) (after_line line s)
+  (line, next) ← line_at s n text
   more ← layout_from next (n + 1) texts
-  Ok (with_line (record { number = n; end = length text + 1; here = s.here; statement = line.statement }) more)
+  Ok (with_line line more)

@@ -1,5 +1,5 @@
 -- What a call answers, in the words of the definition: what is left of a line is its tokens.
-use Rattle.std.specs.Prelude.{ℕ, Bool, List, Option, Some, None, option_map, Result, Ok, Err, if◌then◌else◌}
+use Rattle.std.specs.Prelude.{ℕ, Bool, true, false, List, Option, Some, None, option_map, Result, Ok, Err, if◌then◌else◌}
 use Rattle.std.specs.Borrow.{Bor}
 use Rattle.std.specs.Str.{bytes_eq}
 use Rattle.asm_text.specs.Reading.{atom_of, sign_of, wanted}
@@ -53,3 +53,8 @@ term_of minus (token left word more) = as_term left minus more (atom_of word)
 abbrev pub mark_at : List ℕ → Tokens → Option Tokens
 mark_at mark (end_with left) = None
 mark_at mark (token left word more) = if bytes_eq word mark then Some more else None
+
+-- nothing
+abbrev pub is_over : Tokens → Bool
+is_over (end_with left) = true
+is_over (token left word more) = false

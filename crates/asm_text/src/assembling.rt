@@ -8,7 +8,7 @@ ghost use Rattle.text_words.specs.Steps.{mapped};
 ghost use Rattle.asm_text.specs.Meaning.{assembled, item_of, little_endian, numbers_of};
 
 use crate::fault::{LineError, SourceFault};
-use crate::layout::{in_line, layout_of};
+use crate::layout::{fault_in, layout_of};
 use crate::meaning::{immediate_of, number_of};
 use crate::mnemonic::instruction_with;
 use crate::statement::{Meaning, Operation, Placed, Statement, Value};
@@ -95,7 +95,7 @@ pub fn assemble(alloc: Global, text: &[u8]) -> Result<Vec<u8>, SourceFault>
     let mut out = Vec::new(alloc);
     for line in layout.lines.items() {
         if let Err(error) = put_line(&mut out, &layout.names, line) {
-            return Err(in_line(line.number, line.end, error));
+            return Err(fault_in(line.number, line.end, error));
         }
     }
     Ok(out)

@@ -1,8 +1,8 @@
 //! What a line says.
-ghost use Rattle.std.specs.Prelude.{◌≡◌, ◌++◌, ◌<◌, IfOk, IfSome, length, option_map};
+ghost use Rattle.std.specs.Prelude.{◌≡◌, ◌++◌, ◌<◌, ◌≤◌, IfOk, IfSome, length, option_map};
 ghost use Rattle.muen_num.specs.Answers.{Answers};
-ghost use Rattle.asm_text.specs.Reading.{at_end, comma, count_of, definition, data_line, displacement, immediate, instruction, integer, keyword, label, line_of, memory, below_jump, number, offset_line, operands_of, pair, place, port, register, signed_terms, size, statement, terms, value, values, worded};
-ghost use Rattle.asm_text.specs.Shown.{mark_at, sign_at, term_of, told, told_rest, told_two};
+ghost use Rattle.asm_text.specs.Reading.{at_end, comma, count_of, definition, data_line, displacement, immediate, instruction, integer, integer_with, keyword, label, line_of, memory, below_jump, number, offset_line, operands_of, pair, place, port, register, signed_terms, size, statement, terms, terms_of, value, values, worded};
+ghost use Rattle.asm_text.specs.Shown.{is_over, mark_at, sign_at, term_of, told, told_rest, told_two};
 ghost use Rattle.text_words.specs.Steps.{mapped};
 ghost use Rattle.asm_text.specs.Tokens.{tokens_of};
 
@@ -147,7 +147,8 @@ fn signed_terms<'a>(
     front: Seq<Term>,
     line: &'a [u8],
 ) -> Result<(Seq<Term>, &'a [u8]), LineError>
-    ensures { Answers LineError.NoMemory (mapped (λ r. (front ++ r.0, r.1)) (signed_terms (tokens_of line.now))) (told result) }
+    ensures terms { Answers LineError.NoMemory (mapped (λ r. (front ++ r.0, r.1)) (signed_terms (tokens_of line.now))) (told result) }
+    ensures within { IfOk result (λ r. length r.1.now ≤ length line.now) }
 {
     let mut terms = front;
     let mut rest = line;
@@ -163,12 +164,16 @@ fn signed_terms<'a>(
     Ok((terms, rest))
 }
 
-// The terms of a sum, of which the first may have a sign.
-fn terms(alloc: Global, line: &[u8]) -> Result<(Seq<Term>, &[u8]), LineError>
-    ensures { Answers LineError.NoMemory (terms (tokens_of line.now)) (told result) }
+// A term that begins here, and those behind it.
+fn terms_of(
+    alloc: Global,
+    minus: bool,
+    line: &[u8],
+) -> Result<(Seq<Term>, &[u8]), LineError>
+    ensures terms { Answers LineError.NoMemory (terms_of minus (tokens_of line.now)) (told result) }
+    ensures within { IfOk result (λ r. length r.1.now ≤ length line.now) }
 {
-    let (minus, behind) = sign(line).unwrap_or((false, line));
-    match term(minus, behind) {
+    match term(minus, line) {
         Ok((first, rest)) => {
             let mut terms = Seq::new(alloc);
             terms.push(first)?;
@@ -178,10 +183,23 @@ fn terms(alloc: Global, line: &[u8]) -> Result<(Seq<Term>, &[u8]), LineError>
     }
 }
 
+// The terms of a sum, of which the first may have a sign.
+#[tactic(auto, using(crate::proofs::SignLaws::first_signs))]
+fn terms(alloc: Global, line: &[u8]) -> Result<(Seq<Term>, &[u8]), LineError>
+    ensures terms { Answers LineError.NoMemory (terms (tokens_of line.now)) (told result) }
+    ensures within { IfOk result (λ r. length r.1.now ≤ length line.now) }
+{
+    match sign(line) {
+        Some((minus, behind)) => terms_of(alloc, minus, behind),
+        None => terms_of(alloc, false, line),
+    }
+}
+
 // A sum.
 #[tactic(auto, unfolding(crate::specs::Reading::value))]
 fn value(alloc: Global, line: &[u8]) -> Result<(Value, &[u8]), LineError>
     ensures value { Answers LineError.NoMemory (value (tokens_of line.now)) (told result) }
+    ensures within { IfOk result (λ r. length r.1.now ≤ length line.now) }
 {
     let left = first_token(line).left;
     let (terms, rest) = terms(alloc, line)?;
@@ -198,6 +216,13 @@ fn displacement(alloc: Global, line: &[u8]) -> Result<(Value, &[u8]), LineError>
     Ok((Value { left, terms }, rest))
 }
 
+// Whether the line ends.
+fn is_over(line: &[u8]) -> bool
+    ensures { result ≡ is_over (tokens_of line.now) }
+{
+    first_token(line).token.is_none()
+}
+
 // Values up to the end of the line, with commas between them.
 fn values(alloc: Global, line: &[u8]) -> Result<Seq<Value>, LineError>
     ensures { Answers LineError.NoMemory (values (count_of (tokens_of line.now)) (tokens_of line.now)) result }
@@ -205,12 +230,19 @@ fn values(alloc: Global, line: &[u8]) -> Result<Seq<Value>, LineError>
     let mut values = Seq::new(alloc);
     let mut rest = line;
     loop {
-        let (value, behind) = value(alloc, rest)?;
-        values.push(value)?;
-        if first_token(behind).token.is_none() {
-            return Ok(values);
+        match value(alloc, rest) {
+            Ok((value, behind)) => {
+                values.push(value)?;
+                if is_over(behind) {
+                    return Ok(values);
+                }
+                match comma(behind) {
+                    Ok(more) => rest = more,
+                    Err(error) => return Err(error),
+                }
+            }
+            Err(error) => return Err(error),
         }
-        rest = comma(behind)?;
     }
 }
 
@@ -410,6 +442,20 @@ fn instruction(
     }))
 }
 
+// Data, up to the end of the line.
+#[tactic(auto, unfolding(crate::specs::Reading::data_line))]
+fn data_line(
+    alloc: Global,
+    left: usize,
+    size: AccessSize,
+    line: &[u8],
+) -> Result<Statement, LineError>
+    ensures { Answers LineError.NoMemory (data_line left size (tokens_of line.now)) result }
+{
+    let values = values(alloc, line)?;
+    Ok(Statement::Data { left, size, values })
+}
+
 // `.at` with a number, up to the end of the line.
 #[tactic(auto, unfolding(crate::specs::Reading::offset_line))]
 fn offset_line(left: usize, line: &[u8]) -> Result<Statement, LineError>
@@ -420,16 +466,24 @@ fn offset_line(left: usize, line: &[u8]) -> Result<Statement, LineError>
     Ok(Statement::Offset { left, offset })
 }
 
+// A number with this sign.
+fn integer_with(minus: bool, line: &[u8]) -> Result<(Integer, &[u8]), LineError>
+    ensures { told result ≡ integer_with minus (tokens_of line.now) }
+{
+    let (magnitude, rest) = number(line)?;
+    Ok((Integer { minus, magnitude }, rest))
+}
+
 // A number, maybe with `-`.
+#[tactic(auto, using(crate::proofs::SignLaws::integers))]
 fn integer(line: &[u8]) -> Result<(Integer, &[u8]), LineError>
     ensures { told result ≡ integer (tokens_of line.now) }
 {
-    let (minus, digits) = match sign(line) {
-        Some((true, behind)) => (true, behind),
-        _ => (false, line),
-    };
-    let (magnitude, rest) = number(digits)?;
-    Ok((Integer { minus, magnitude }, rest))
+    match sign(line) {
+        Some((true, behind)) => integer_with(true, behind),
+        Some((false, _)) => integer_with(false, line),
+        None => integer_with(false, line),
+    }
 }
 
 // The name that a word is.
@@ -468,16 +522,15 @@ fn worded(
     if word == b".at".as_slice() {
         return offset_line(left, line);
     }
-    if let Some(size) = data_size_of(word) {
-        let values = values(alloc, line)?;
-        return Ok(Statement::Data { left, size, values });
-    }
-    match Mnemonic::of(word) {
-        Some(mnemonic) => instruction(alloc, left, mnemonic, line),
-        None => Err(LineError::Wanted {
-            left,
-            want: Want::Mnemonic,
-        }),
+    match data_size_of(word) {
+        Some(size) => data_line(alloc, left, size, line),
+        None => match Mnemonic::of(word) {
+            Some(mnemonic) => instruction(alloc, left, mnemonic, line),
+            None => Err(LineError::Wanted {
+                left,
+                want: Want::Mnemonic,
+            }),
+        },
     }
 }
 
