@@ -1,1 +1,6 @@
+mod LayoutLaws
+mod RangeLaws
+mod SignLaws
+mod TermLaws
 mod TokenLaws
+mod ValueLaws

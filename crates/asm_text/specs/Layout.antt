@@ -6,7 +6,7 @@ use Rattle.std.specs.Map.{lookup}
 use Rattle.std.specs.Ordering.{nat_cmp}
 use Rattle.muen_num.specs.AccessSize.{bytes_of}
 use Rattle.muen_num.specs.declared.limits.TheConstants.{COMPONENT_FILE_MOST}
-use Rattle.record_text.specs.Steps.{◌>>=◌, ◌>>◌}
+use Rattle.text_words.specs.Steps.{◌>>=◌, ◌>>◌}
 use Rattle.asm_text.specs.Reading.{wanted, line_of}
 use Rattle.asm_text.specs.Tokens.{tokens_of}
 use Rattle.asm_text.specs.declared.fault.LineError.{LineError}
@@ -71,10 +71,13 @@ after_line line s = do
 -- ---- whole sources
 
 -- in line n, behind which this column comes: a column tells how many bytes of the line are left there
+abbrev pub fault_in : ℕ → ℕ → LineError → SourceFault
+fault_in n end (Wanted left want) = At n (end - left) want
+fault_in n end LineMemory = NoMemory
+
 abbrev pub in_line : {X : Type 0} → ℕ → ℕ → Result X LineError → Result X SourceFault
 in_line n end (Ok x) = Ok x
-in_line n end (Err (Wanted left want)) = Err (At n (end - left) want)
-in_line n end (Err LineMemory) = Err NoMemory
+in_line n end (Err e) = Err (fault_in n end e)
 
 pub record Layout : Type 0 where
   pub lines : List Placed
@@ -83,11 +86,17 @@ pub record Layout : Type 0 where
 abbrev pub with_line : Placed → Layout → Layout
 with_line line layout = record { lines = line ∷ layout.lines; names = layout.names }
 
+-- what line n says, where it begins, and what it leaves for the next
+unfoldable pub line_at : Standing → ℕ → List ℕ → Result (Placed × Standing) SourceFault
+line_at s n text = do
+  line ← in_line n (length text + 1) (line_of (tokens_of text))
+  next ← in_line n (length text + 1) (after_line line s)
+  Ok (record { number = n; end = length text + 1; here = s.here; statement = line.statement }, next)
+
 -- the lines from line n on
 unfoldable pub layout_from : Standing → ℕ → List (List ℕ) → Result Layout SourceFault
 layout_from s n [] = Ok (record { lines = []; names = s.names })
 layout_from s n (text ∷ texts) = do
-  line ← in_line n (length text + 1) (line_of (tokens_of text))
-  next ← in_line n (length text + 1) (after_line line s)
+  (line, next) ← line_at s n text
   more ← layout_from next (n + 1) texts
-  Ok (with_line (record { number = n; end = length text + 1; here = s.here; statement = line.statement }) more)
+  Ok (with_line line more)

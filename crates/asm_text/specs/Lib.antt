@@ -1,3 +1,4 @@
+pub mod Appended
 pub mod FaultTexts
 pub mod Layout
 pub mod Meaning

@@ -7,8 +7,8 @@ use Rattle.muen_num.specs.declared.access.AccessSize.{AccessSize}
 use Rattle.muen_num.specs.declared.access.AccessSize.TheVariants.{One, Two, Four, Eight}
 use Rattle.guest_isa.specs.GuestIsa.{encoding_of}
 use Rattle.guest_isa.specs.declared.instr.Instr.{Instr}
-use Rattle.record_text.specs.Steps.{◌>>=◌, ◌>>◌}
-use Rattle.record_text.specs.Words.{lines_of}
+use Rattle.text_words.specs.Steps.{◌>>=◌, ◌>>◌}
+use Rattle.text_words.specs.Parts.{lines_of}
 use Rattle.asm_text.specs.Layout.{Names, meaning_of, Layout, layout_from, at_start, in_line}
 use Rattle.asm_text.specs.Mnemonics.{instruction_with}
 use Rattle.asm_text.specs.Reading.{ok_or_wanted, wanted}
@@ -93,15 +93,25 @@ distance_by (pos (suc zero)) here left n = Ok (n -ℤ pos here)
 distance_by (pos (suc (suc labels))) here left n = wanted left Target
 distance_by (negsuc labels) here left n = wanted left Target
 
+-- the 32 bits of an immediate, signed or unsigned
+abbrev pub is_wide : Mnemonic → Bool
+is_wide Lih = true
+is_wide _ = false
+
 abbrev pub if_fits : {X : Type 0} → Bool → ℕ → Want → X → Result X LineError
 if_fits true left want x = Ok x
 if_fits false left want x = wanted left want
 
 -- the immediate of an instruction that begins here
+abbrev pub jump_by : ℕ → ℕ → Sum → Result ℤ LineError
+jump_by here left s = do
+  d ← distance_by s.labels here left s.number
+  if_fits (fits_signed 32 d) left Near d
+
 abbrev pub immediate_by : Mnemonic → ℕ → ℕ → Sum → Result ℤ LineError
-immediate_by Lih here left s = if_fits (fits 32 s.number) left Range (cast_signed w32 (residue 32 s.number))
 immediate_by m here left s =
-    if is_jump m then distance_by s.labels here left s.number >>= λ d. if_fits (fits_signed 32 d) left Near d
+    if is_wide m then if_fits (fits 32 s.number) left Range (cast_signed w32 (residue 32 s.number))
+    else if is_jump m then jump_by here left s
     else if_fits (fits_signed 32 s.number) left Range s.number
 
 unfoldable pub immediate_of : Names → ℕ → Operation → Result ℤ LineError

@@ -1,10 +1,11 @@
 -- What the calls that lay a source out keep, in the words of the definition.
-use Rattle.std.specs.Prelude.{Result, Ok, Err}
+use Rattle.std.specs.Prelude.{List, Result, Ok, Err}
 use Rattle.asm_text.specs.Layout.{Standing, Layout as Lines}
 use Rattle.asm_text.specs.declared.fault.LineError.{LineError}
 use Rattle.asm_text.specs.declared.fault.SourceFault.{SourceFault}
 use Rattle.asm_text.specs.declared.layout.Layout.{Layout}
 use Rattle.asm_text.specs.declared.layout.Names.{Names}
+use Rattle.asm_text.specs.declared.statement.Placed.{Placed}
 
 abbrev pub standing_of : Names → Standing
 standing_of n = record { here = n.here; names = n.names.entries }
@@ -17,3 +18,8 @@ laid_out (Err e) n = Err e
 abbrev pub shown_layout : Result Layout SourceFault → Result Lines SourceFault
 shown_layout (Ok l) = Ok (record { lines = l.lines; names = l.names.entries })
 shown_layout (Err fault) = Err fault
+
+-- a line, and what it leaves
+abbrev pub placed_told : Result Placed SourceFault → Names → Result (Placed × Standing) SourceFault
+placed_told (Ok line) n = Ok (line, standing_of n)
+placed_told (Err fault) n = Err fault

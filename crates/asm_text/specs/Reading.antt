@@ -4,7 +4,7 @@ use Rattle.std.specs.Char.{is_ascii_digit}
 use Rattle.std.specs.Str.{bytes_eq}
 use Rattle.muen_num.specs.declared.access.AccessSize.{AccessSize}
 use Rattle.muen_num.specs.declared.access.AccessSize.TheVariants.{One, Two, Four, Eight}
-use Rattle.record_text.specs.Steps.{◌>>=◌, ◌>>◌}
+use Rattle.text_words.specs.Steps.{◌>>=◌, ◌>>◌}
 use Rattle.asm_text.specs.Mnemonics.{shape_of}
 use Rattle.asm_text.specs.Tokens.{Tokens, end_with, token}
 use Rattle.asm_text.specs.Words.{register_of, number_in, symbol_of, mnemonic_of, data_size_of, size_of, size_unit}
@@ -140,20 +140,24 @@ displacement ts = do
 abbrev pub comma : Tokens → Result Tokens LineError
 comma ts = keyword (codes ",") Comma ts
 
--- whether the line ends
-abbrev pub is_at_end : Tokens → Bool
-is_at_end (end_with left) = true
-is_at_end (token left word more) = false
+abbrev pub count_of : Tokens → ℕ
+count_of (end_with left) = 0
+count_of (token left word more) = 1 + count_of more
+
+-- a value, and behind a comma such others
+abbrev pub with_others : Value → Tokens → (Tokens → Result (List Value) LineError) → Result (List Value) LineError
+with_others first (end_with left) others = Ok (first ∷ [])
+with_others first (token left word more) others = do
+  ts ← comma (token left word more)
+  vs ← others ts
+  Ok (first ∷ vs)
 
 -- values up to the end of the line with commas between them, at most so many
 unfoldable pub values : ℕ → Tokens → Result (List Value) LineError
 values zero ts = wanted (left_of ts) TermWant
 values (suc n) ts = do
   (first, ts) ← value ts
-  if is_at_end ts then Ok (first ∷ []) else do
-    ts ← comma ts
-    others ← values n ts
-    Ok (first ∷ others)
+  with_others first ts (values n)
 
 -- ---- operands
 
@@ -254,10 +258,10 @@ instruction left mnemonic ts = do
   at_end ts
   Ok (Instruction (record { left = left; mnemonic = mnemonic; operands = with }))
 
--- data up to the end of the line
+-- data up to the end of the line: no more values than tokens
 unfoldable pub data_line : ℕ → AccessSize → Tokens → Result Statement LineError
 data_line left n ts = do
-  vs ← values (left_of ts + 1) ts
+  vs ← values (count_of ts) ts
   Ok (Data left n vs)
 
 unfoldable pub number : Tokens → Result (ℕ × Tokens) LineError
@@ -313,15 +317,17 @@ statement (token left word (end_with last)) = worded left word (end_with last)
 statement (token left word (token at mark more)) =
     if bytes_eq mark (codes "=") then definition left word more else worded left word (token at mark more)
 
+abbrev pub named : ℕ → List ℕ → Tokens → Result (Option Label × Tokens) LineError
+named left word ts = do
+  name ← name_at left word
+  Ok (Some (record { left = left; name = name }), ts)
+
 -- a label, where one stands there
 unfoldable pub label : Tokens → Result (Option Label × Tokens) LineError
 label (end_with left) = Ok (None, end_with left)
 label (token left word (end_with last)) = Ok (None, token left word (end_with last))
 label (token left word (token at mark more)) =
-    if bytes_eq mark (codes ":") then do
-      name ← name_at left word
-      Ok (Some (record { left = left; name = name }), more)
-    else Ok (None, token left word (token at mark more))
+    if bytes_eq mark (codes ":") then named left word more else Ok (None, token left word (token at mark more))
 
 -- what a line says
 unfoldable pub line_of : Tokens → Result SourceLine LineError

@@ -1,8 +1,13 @@
 -- What a call answers, in the words of the definition: what is left of a line is its tokens.
-use Rattle.std.specs.Prelude.{ℕ, List, Option, Some, None, Result, Ok, Err}
+use Rattle.std.specs.Prelude.{ℕ, Bool, true, false, List, Option, Some, None, option_map, Result, Ok, Err, if◌then◌else◌}
 use Rattle.std.specs.Borrow.{Bor}
+use Rattle.std.specs.Str.{bytes_eq}
+use Rattle.asm_text.specs.Reading.{atom_of, sign_of, wanted}
 use Rattle.asm_text.specs.Tokens.{Tokens, end_with, token, tokens_of}
 use Rattle.asm_text.specs.declared.fault.LineError.{LineError}
+use Rattle.asm_text.specs.declared.fault.Want.TheVariants.{Term as TermWant}
+use Rattle.asm_text.specs.declared.statement.Atom.{Atom}
+use Rattle.asm_text.specs.declared.statement.Term.{Term}
 use Rattle.asm_text.specs.declared.tokens.Next.{Next}
 use Rattle.asm_text.specs.declared.tokens.Token.{Token}
 
@@ -27,3 +32,29 @@ told_rest (Err e) = Err e
 abbrev pub told_two : {X Y : Type 0} → Result (X × Y × Bor (List ℕ)) LineError → Result (X × Y × Tokens) LineError
 told_two (Ok r) = Ok (r.0, r.1, tokens_of r.2.now)
 told_two (Err e) = Err e
+
+-- ---- what comes next
+
+-- a sign, and what is behind it
+abbrev pub sign_at : Tokens → Option (Bool × Tokens)
+sign_at (end_with left) = None
+sign_at (token left word more) = option_map (λ minus. (minus, more)) (sign_of word)
+
+abbrev pub as_term : ℕ → Bool → Tokens → Option Atom → Result (Term × Tokens) LineError
+as_term left minus more None = wanted left TermWant
+as_term left minus more (Some atom) = Ok (record { left = left; minus = minus; atom = atom }, more)
+
+-- a number or a name behind its sign
+abbrev pub term_of : Bool → Tokens → Result (Term × Tokens) LineError
+term_of minus (end_with left) = wanted left TermWant
+term_of minus (token left word more) = as_term left minus more (atom_of word)
+
+-- what is behind this mark
+abbrev pub mark_at : List ℕ → Tokens → Option Tokens
+mark_at mark (end_with left) = None
+mark_at mark (token left word more) = if bytes_eq word mark then Some more else None
+
+-- nothing
+abbrev pub is_over : Tokens → Bool
+is_over (end_with left) = true
+is_over (token left word more) = false

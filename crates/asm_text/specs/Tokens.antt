@@ -1,5 +1,5 @@
 -- The tokens of a line: words, and marks that stand for themselves.
-use Rattle.std.specs.Prelude.{ℕ, ◌==◌, ◌&&◌, ◌||◌, Bool, false, not, List, [], ◌∷◌, length, if◌then◌else◌}
+use Rattle.std.specs.Prelude.{◌≡◌, ℕ, suc, ◌==◌, ◌&&◌, ◌||◌, Bool, false, not, List, [], ◌∷◌, length, if◌then◌else◌}
 
 -- the tokens of a line that remain; each with how many bytes of the line are left where it begins, and at the end
 -- how many are left there
@@ -40,3 +40,13 @@ tokens_of (c ∷ cs) =
     else if is_blank c then tokens_of cs
     else if goes_on cs && not (is_mark c) then with_byte (length (c ∷ cs)) c (tokens_of cs)
     else token (length (c ∷ cs)) (c ∷ []) (tokens_of cs)
+
+-- how many bytes of a word stand at the head
+abbrev pub word_size : List ℕ → ℕ
+word_size [] = 0
+word_size (c ∷ cs) = if is_word_byte c then suc (word_size cs) else 0
+
+-- no blank stands at the head
+abbrev pub IsPastBlanks : List ℕ → Type 0
+IsPastBlanks [] = Unit {0}
+IsPastBlanks (c ∷ cs) = is_blank c ≡ false

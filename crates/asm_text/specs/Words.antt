@@ -1,13 +1,13 @@
 -- What a word spells.
-use Rattle.std.specs.Prelude.{ℕ, ◌^◌, ◌<◌, ◌==◌, ◌&&◌, ◌||◌, Bool, nat_lt, true, List, [], ◌∷◌, take, drop, length, codes, slice_index, Option, Some, None, option_and_then, if◌then◌else◌}
+use Rattle.std.specs.Prelude.{ℕ, ◌^◌, ◌<◌, ◌==◌, ◌&&◌, ◌||◌, Bool, nat_lt, true, List, [], ◌∷◌, take, drop, length, codes, slice_index, Option, Some, None, option_and_then, Result, Ok, Err, if◌then◌else◌}
 use Rattle.std.specs.Char.{is_ascii_alphabetic, is_ascii_digit}
 use Rattle.std.specs.List.{find}
 use Rattle.std.specs.Str.{bytes_eq}
 use Rattle.muen_num.specs.Naming.{name_of}
 use Rattle.muen_num.specs.declared.access.AccessSize.{AccessSize}
 use Rattle.muen_num.specs.declared.access.AccessSize.TheVariants.{One, Two, Four, Eight}
-use Rattle.record_text.specs.Words.{number_of}
-use Rattle.policy_values.specs.Based.{based, groups_of, number_of_groups}
+use Rattle.text_words.specs.Numbers.{decimal}
+use Rattle.text_words.specs.Groups.{based, groups_of, number_of_groups}
 use Rattle.asm_text.specs.Mnemonics.{mnemonic_text}
 use Rattle.asm_text.specs.declared.mnemonic.Mnemonic.{Mnemonic}
 use Rattle.asm_text.specs.declared.mnemonic.TheConstants.{MNEMONICS}
@@ -19,20 +19,26 @@ behind beginning word = if bytes_eq (take (length beginning) word) beginning the
 abbrev pub below : ℕ → ℕ → Option ℕ
 below end n = if nat_lt n end then Some n else None
 
+abbrev pub result_ok : {X E : Type 0} → Result X E → Option X
+result_ok (Ok x) = Some x
+result_ok (Err e) = None
+
 -- `r0` to `r15`
 abbrev pub register_of : List ℕ → Option ℕ
-register_of word = option_and_then (below 16) (option_and_then number_of (behind (codes "r") word))
+register_of word = option_and_then (λ digits. option_and_then (below 16) (result_ok (decimal digits))) (behind (codes "r") word)
 
 -- the first that there is
 abbrev pub or_else : {X : Type 0} → Option X → Option X → Option X
 or_else (Some x) other = Some x
 or_else None other = other
 
+abbrev pub by_mark : Option (List ℕ) → Option ℕ → Option ℕ
+by_mark (Some digits) other = number_of_groups (groups_of digits)
+by_mark None other = other
+
 -- a number below 2^64: decimal without a leading zero, `0x3f_fef0` or `16#3f_fef0#`
 abbrev pub number_in : List ℕ → Option ℕ
-number_in word =
-    or_else (option_and_then (λ digits. number_of_groups (groups_of digits)) (behind (codes "0x") word))
-    (or_else (based word) (option_and_then (below (2 ^ 64)) (number_of word)))
+number_in word = by_mark (behind (codes "0x") word) (or_else (based word) (result_ok (decimal word)))
 
 -- a letter or `_` at the head, and a name's bytes and length
 abbrev pub symbol_of : List ℕ → Option (List ℕ)

@@ -5,6 +5,7 @@ ghost use Rattle.asm_text.specs.FaultTexts.{source_fault_text, want_text};
 
 use itoa::Buffer;
 use muen_num::{NoMemory, Pieces};
+use std::alloc::AllocError;
 use std::fmt;
 use thiserror::Error;
 
@@ -96,6 +97,17 @@ impl From<NoMemory> for LineError {
     ghost from_gives = { λ _ error. error ≡ RanOut };
 
     fn from(_: NoMemory) -> Self {
+        LineError::NoMemory
+    }
+}
+
+impl From<AllocError> for LineError {
+    ghost use Rattle.std.specs.Prelude.{◌≡◌};
+    ghost use Rattle.asm_text.specs.declared.fault.LineError.TheVariants.{NoMemory as RanOut};
+
+    ghost from_gives = { λ _ error. error ≡ RanOut };
+
+    fn from(_: AllocError) -> Self {
         LineError::NoMemory
     }
 }

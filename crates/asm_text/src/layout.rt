@@ -1,9 +1,9 @@
 //! Where what each line says begins, and what each name stands for.
 ghost use Rattle.std.specs.Prelude.{◌≡◌, IfOk};
 ghost use Rattle.muen_num.specs.Answers.{Answers};
-ghost use Rattle.asm_text.specs.Layout.{after_line, at_start, in_line, labelled, layout_from, moved, stated, with_name};
-ghost use Rattle.asm_text.specs.Placing.{laid_out, shown_layout, standing_of};
-ghost use Rattle.record_text.specs.Words.{lines_of};
+ghost use Rattle.asm_text.specs.Layout.{after_line, at_start, fault_in, labelled, layout_from, line_at, moved, stated, with_name};
+ghost use Rattle.asm_text.specs.Placing.{laid_out, placed_told, shown_layout, standing_of};
+ghost use Rattle.text_words.specs.Parts.{lines_of};
 
 use crate::fault::{LineError, SourceFault, Want};
 use crate::reading::line_of;
@@ -12,6 +12,7 @@ use muen_num::limits::COMPONENT_FILE_MOST;
 use muen_num::{Name, Seq};
 use std::alloc::Global;
 use std::collections::BTreeMap;
+use text_words::first_line;
 
 
 /// What each name stands for, and where the next line begins.
@@ -57,7 +58,7 @@ impl Names {
     {
         match label {
             None => Ok(()),
-            Some(Label { left, name }) => self.add(left, name, Meaning::Offset(self.here)),
+            Some(label) => self.add(label.left, label.name, Meaning::Offset(self.here)),
         }
     }
 
@@ -112,8 +113,8 @@ pub(crate) struct Layout {
 }
 
 /// A fault in a line, in its source.
-pub(crate) fn in_line(number: u64, end: u64, error: LineError) -> SourceFault
-    ensures { Err result ≡ in_line number end (Err error) }
+pub(crate) fn fault_in(number: u64, end: u64, error: LineError) -> SourceFault
+    ensures { result ≡ fault_in number end error }
 {
     match error {
         LineError::Wanted { left, want } => SourceFault::At {
@@ -125,30 +126,30 @@ pub(crate) fn in_line(number: u64, end: u64, error: LineError) -> SourceFault
     }
 }
 
-// A line more.
-fn add_text(
+// What a line says, and where it begins. What it leaves is kept.
+#[tactic(auto, unfolding(crate::specs::Layout::line_at))]
+fn place_line(
     alloc: Global,
     names: &mut Names,
-    lines: &mut Seq<Placed>,
     number: u64,
     text: &[u8],
-) -> Result<(), SourceFault> {
+) -> Result<Placed, SourceFault>
+    ensures { Answers SourceFault.NoMemory (line_at (standing_of names.old) number text.now) (placed_told result names.new) }
+{
     let here = names.here;
     let end = text.len() as u64 + 1;
-    let line = match line_of(alloc, text) {
-        Ok(line) => line,
-        Err(error) => return Err(in_line(number, end, error)),
-    };
-    if let Err(error) = names.add_line(&line) {
-        return Err(in_line(number, end, error));
+    match line_of(alloc, text) {
+        Ok(line) => match names.add_line(&line) {
+            Ok(()) => Ok(Placed {
+                number,
+                end,
+                here,
+                statement: line.statement,
+            }),
+            Err(error) => Err(fault_in(number, end, error)),
+        },
+        Err(error) => Err(fault_in(number, end, error)),
     }
-    lines.push(Placed {
-        number,
-        end,
-        here,
-        statement: line.statement,
-    })?;
-    Ok(())
 }
 
 /// The lines of a text, or the first fault in them.
@@ -164,7 +165,10 @@ pub(crate) fn layout_of(alloc: Global, text: &[u8]) -> Result<Layout, SourceFaul
     let mut number: u64 = 1;
     while !rest.is_empty() {
         let (line, behind) = first_line(rest);
-        add_text(alloc, &mut names, &mut lines, number, line)?;
+        match place_line(alloc, &mut names, number, line) {
+            Ok(line) => lines.push(line)?,
+            Err(fault) => return Err(fault),
+        }
         rest = behind;
         number += 1;
     }

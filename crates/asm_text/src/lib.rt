@@ -1,7 +1,7 @@
 //! Guests in assembly: the bytes that a source says, and a source of bytes.
 #![tactic(auto)]
 
-mod assemble;
+mod assembling;
 mod fault;
 mod layout;
 mod meaning;
@@ -11,5 +11,5 @@ mod statement;
 mod tokens;
 mod words;
 
-pub use assemble::assemble;
+pub use assembling::assemble;
 pub use fault::{SourceFault, Want};

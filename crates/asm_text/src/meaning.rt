@@ -1,6 +1,6 @@
 //! What a statement comes to, where each name is known.
-ghost use Rattle.std.specs.Prelude.{◌≡◌, ◌≤◌, ◌<◌, ℤ, pos, true};
-ghost use Rattle.asm_text.specs.Meaning.{added, bits_of, distance_by, fits, fits_signed, immediate_by, immediate_of, integer_of, is_jump, number_of, residue, signed, sum_of, sum_of_atom, sum_of_meaning};
+ghost use Rattle.std.specs.Prelude.{◌≡◌, ◌≤◌, ◌<◌, ◌^◌, IfOk, IfSome, pos, true};
+ghost use Rattle.asm_text.specs.Meaning.{bits_of, distance_by, fits, fits_signed, immediate_by, if_fits, immediate_of, integer_of, is_jump, is_wide, number_of, residue, signed, sum_of, sum_of_atom, sum_of_meaning};
 ghost use Rattle.asm_text.specs.Ranges.{IsMagnitude, IsSmallSum, IsSum};
 
 use crate::fault::{LineError, Want};
@@ -18,7 +18,8 @@ pub struct Sum {
 
 fn signed(minus: bool, n: i128) -> i128
     requires { IsMagnitude n }
-    ensures { result ≡ signed minus n }
+    ensures value { result ≡ signed minus n }
+    ensures small { IsMagnitude result }
 {
     if minus { -n } else { n }
 }
@@ -64,7 +65,8 @@ fn sum_of_atom(names: &BTreeMap<Name, Meaning>, atom: Atom) -> Option<Sum>
 
 // The sum of the terms, where each name is known.
 fn sum_of(names: &BTreeMap<Name, Meaning>, terms: &[Term]) -> Result<Sum, LineError>
-    ensures { result ≡ sum_of names.now.entries terms.now }
+    ensures sum { result ≡ sum_of names.now.entries terms.now }
+    ensures within { IfOk result IsSum }
 {
     let mut sum = Sum {
         number: 0,
@@ -135,8 +137,15 @@ fn is_jump(mnemonic: Mnemonic) -> bool
     )
 }
 
+fn is_wide(mnemonic: Mnemonic) -> bool
+    ensures { result ≡ is_wide mnemonic }
+{
+    matches!(mnemonic, Mnemonic::Lih)
+}
+
 // From an instruction to a label where one remains, as it is said where none does.
 fn distance(sum: Sum, here: u64, left: usize) -> Result<i128, LineError>
+    requires { IsSum sum }
     ensures { result ≡ distance_by sum.labels here left sum.number }
 {
     match sum.labels {
@@ -162,9 +171,10 @@ fn in_32_bits(n: i128, left: usize, want: Want) -> Result<i32, LineError>
 
 // The immediate that a sum is.
 fn immediate_by(mnemonic: Mnemonic, here: u64, left: usize, sum: Sum) -> Result<i32, LineError>
+    requires { IsSum sum }
     ensures { result ≡ immediate_by mnemonic here left sum }
 {
-    if mnemonic == Mnemonic::Lih {
+    if is_wide(mnemonic) {
         if !fits(32, sum.number) {
             return Err(LineError::Wanted {
                 left,

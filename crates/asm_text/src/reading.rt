@@ -1,14 +1,15 @@
 //! What a line says.
-ghost use Rattle.std.specs.Prelude.{◌≡◌, ◌+◌, ◌<◌, IfOk, length};
+ghost use Rattle.std.specs.Prelude.{◌≡◌, ◌++◌, ◌<◌, ◌≤◌, IfOk, IfSome, length, option_map};
 ghost use Rattle.muen_num.specs.Answers.{Answers};
-ghost use Rattle.asm_text.specs.Reading.{at_end, comma, definition, data_line, displacement, immediate, instruction, integer, is_at_end, keyword, label, line_of, memory, below_jump, number, offset_line, operands_of, pair, place, port, register, signed_terms, size, small, statement, terms, terms_of, value, values, worded};
-ghost use Rattle.asm_text.specs.Shown.{told, told_rest, told_two};
+ghost use Rattle.asm_text.specs.Reading.{at_end, comma, count_of, definition, data_line, displacement, immediate, instruction, integer, integer_with, keyword, label, line_of, memory, below_jump, number, offset_line, operands_of, pair, place, port, register, signed_terms, size, statement, terms, terms_of, value, values, worded};
+ghost use Rattle.asm_text.specs.Shown.{is_over, mark_at, sign_at, term_of, told, told_rest, told_two};
+ghost use Rattle.text_words.specs.Steps.{mapped};
 ghost use Rattle.asm_text.specs.Tokens.{tokens_of};
 
 use crate::fault::{LineError, Want};
 use crate::mnemonic::{Mnemonic, Shape};
 use crate::statement::{Integer, Label, Operands, Operation, SourceLine, Statement, Term, Value};
-use crate::tokens::{Token, next};
+use crate::tokens::{Token, first_token};
 use crate::words::{
     atom_of, data_size_of, number_in, register_of, sign_of, size_of, size_unit, symbol_of,
 };
@@ -30,7 +31,7 @@ fn keyword<'a>(text: &str, want: Want, line: &'a [u8]) -> Result<&'a [u8], LineE
     ensures rest { told_rest result ≡ keyword text.now want (tokens_of line.now) }
     ensures shorter { IfOk result (λ rest. length rest.now < length line.now) }
 {
-    let next = next(line);
+    let next = first_token(line);
     match next.token {
         Some(Token { word, rest }) if word == text.as_bytes() => Ok(rest),
         _ => Err(LineError::Wanted {
@@ -44,7 +45,7 @@ fn keyword<'a>(text: &str, want: Want, line: &'a [u8]) -> Result<&'a [u8], LineE
 fn register(line: &[u8]) -> Result<(u8, &[u8]), LineError>
     ensures { told result ≡ register (tokens_of line.now) }
 {
-    let next = next(line);
+    let next = first_token(line);
     if let Some(Token { word, rest }) = next.token {
         if let Some(register) = register_of(word) {
             return Ok((register, rest));
@@ -60,7 +61,7 @@ fn register(line: &[u8]) -> Result<(u8, &[u8]), LineError>
 fn number(line: &[u8]) -> Result<(u64, &[u8]), LineError>
     ensures { told result ≡ number (tokens_of line.now) }
 {
-    let next = next(line);
+    let next = first_token(line);
     if let Some(Token { word, rest }) = next.token {
         if let Some(number) = number_in(word) {
             return Ok((number, rest));
@@ -77,7 +78,7 @@ fn number(line: &[u8]) -> Result<(u64, &[u8]), LineError>
 fn at_end(line: &[u8]) -> Result<(), LineError>
     ensures { result ≡ at_end (tokens_of line.now) }
 {
-    let next = next(line);
+    let next = first_token(line);
     match next.token {
         None => Ok(()),
         Some(_) => Err(LineError::Wanted {
@@ -99,7 +100,7 @@ fn comma(line: &[u8]) -> Result<&[u8], LineError>
 fn size(line: &[u8]) -> Result<(AccessSize, &[u8]), LineError>
     ensures { told result ≡ size (tokens_of line.now) }
 {
-    let next = next(line);
+    let next = first_token(line);
     if let Some(Token { word, rest }) = next.token {
         if let Some(size) = size_of(word) {
             let rest = keyword(size_unit(size), Want::Size, rest)?;
@@ -115,8 +116,11 @@ fn size(line: &[u8]) -> Result<(AccessSize, &[u8]), LineError>
 // ---- values
 
 // A number or a name behind its sign.
-fn term(minus: bool, line: &[u8]) -> Result<(Term, &[u8]), LineError> {
-    let next = next(line);
+fn term(minus: bool, line: &[u8]) -> Result<(Term, &[u8]), LineError>
+    ensures term { told result ≡ term_of minus (tokens_of line.now) }
+    ensures shorter { IfOk result (λ r. length r.1.now < length line.now) }
+{
+    let next = first_token(line);
     if let Some(Token { word, rest }) = next.token {
         if let Some(atom) = atom_of(word) {
             let left = next.left;
@@ -130,44 +134,74 @@ fn term(minus: bool, line: &[u8]) -> Result<(Term, &[u8]), LineError> {
 }
 
 // The sign at the head, if there is one.
-fn sign(line: &[u8]) -> Option<(bool, &[u8])> {
-    let Token { word, rest } = next(line).token?;
+fn sign(line: &[u8]) -> Option<(bool, &[u8])>
+    ensures sign { option_map (λ r. (r.0, tokens_of r.1.now)) result ≡ sign_at (tokens_of line.now) }
+    ensures shorter { IfSome result (λ r. length r.1.now < length line.now) }
+{
+    let Token { word, rest } = first_token(line).token?;
     Some((sign_of(word)?, rest))
 }
 
 // These terms, and then terms with a sign each, as many as there are.
 fn signed_terms<'a>(
-    mut terms: Seq<Term>,
+    front: Seq<Term>,
     line: &'a [u8],
-) -> Result<(Seq<Term>, &'a [u8]), LineError> {
+) -> Result<(Seq<Term>, &'a [u8]), LineError>
+    ensures terms { Answers LineError.NoMemory (mapped (λ r. (front ++ r.0, r.1)) (signed_terms (tokens_of line.now))) (told result) }
+    ensures within { IfOk result (λ r. length r.1.now ≤ length line.now) }
+{
+    let mut terms = front;
     let mut rest = line;
     while let Some((minus, behind)) = sign(rest) {
-        let (term, more) = term(minus, behind)?;
-        terms.push(term)?;
-        rest = more;
+        match term(minus, behind) {
+            Ok((term, more)) => {
+                terms.push(term)?;
+                rest = more;
+            }
+            Err(error) => return Err(error),
+        }
     }
     Ok((terms, rest))
 }
 
-// The terms of a sum, of which the first may have a sign.
-fn terms(alloc: Global, line: &[u8]) -> Result<(Seq<Term>, &[u8]), LineError>
-    ensures { Answers LineError.NoMemory (terms (tokens_of line.now)) (told result) }
+// A term that begins here, and those behind it.
+fn terms_of(
+    alloc: Global,
+    minus: bool,
+    line: &[u8],
+) -> Result<(Seq<Term>, &[u8]), LineError>
+    ensures terms { Answers LineError.NoMemory (terms_of minus (tokens_of line.now)) (told result) }
+    ensures within { IfOk result (λ r. length r.1.now ≤ length line.now) }
 {
-    let (first, rest) = match sign(line) {
-        Some((minus, rest)) => term(minus, rest)?,
-        None => term(false, line)?,
-    };
-    let mut terms = Seq::new(alloc);
-    terms.push(first)?;
-    signed_terms(terms, rest)
+    match term(minus, line) {
+        Ok((first, rest)) => {
+            let mut terms = Seq::new(alloc);
+            terms.push(first)?;
+            signed_terms(terms, rest)
+        }
+        Err(error) => Err(error),
+    }
+}
+
+// The terms of a sum, of which the first may have a sign.
+#[tactic(auto, using(crate::proofs::SignLaws::first_signs))]
+fn terms(alloc: Global, line: &[u8]) -> Result<(Seq<Term>, &[u8]), LineError>
+    ensures terms { Answers LineError.NoMemory (terms (tokens_of line.now)) (told result) }
+    ensures within { IfOk result (λ r. length r.1.now ≤ length line.now) }
+{
+    match sign(line) {
+        Some((minus, behind)) => terms_of(alloc, minus, behind),
+        None => terms_of(alloc, false, line),
+    }
 }
 
 // A sum.
 #[tactic(auto, unfolding(crate::specs::Reading::value))]
 fn value(alloc: Global, line: &[u8]) -> Result<(Value, &[u8]), LineError>
     ensures value { Answers LineError.NoMemory (value (tokens_of line.now)) (told result) }
+    ensures within { IfOk result (λ r. length r.1.now ≤ length line.now) }
 {
-    let left = next(line).left;
+    let left = first_token(line).left;
     let (terms, rest) = terms(alloc, line)?;
     Ok((Value { left, terms }, rest))
 }
@@ -177,24 +211,38 @@ fn value(alloc: Global, line: &[u8]) -> Result<(Value, &[u8]), LineError>
 fn displacement(alloc: Global, line: &[u8]) -> Result<(Value, &[u8]), LineError>
     ensures { Answers LineError.NoMemory (displacement (tokens_of line.now)) (told result) }
 {
-    let left = next(line).left;
+    let left = first_token(line).left;
     let (terms, rest) = signed_terms(Seq::new(alloc), line)?;
     Ok((Value { left, terms }, rest))
 }
 
+// Whether the line ends.
+fn is_over(line: &[u8]) -> bool
+    ensures { result ≡ is_over (tokens_of line.now) }
+{
+    first_token(line).token.is_none()
+}
+
 // Values up to the end of the line, with commas between them.
 fn values(alloc: Global, line: &[u8]) -> Result<Seq<Value>, LineError>
-    ensures { Answers LineError.NoMemory (values (Rattle.asm_text.specs.Reading.left_of (tokens_of line.now) + 1) (tokens_of line.now)) result }
+    ensures { Answers LineError.NoMemory (values (count_of (tokens_of line.now)) (tokens_of line.now)) result }
 {
     let mut values = Seq::new(alloc);
     let mut rest = line;
     loop {
-        let (value, behind) = value(alloc, rest)?;
-        values.push(value)?;
-        if next(behind).token.is_none() {
-            return Ok(values);
+        match value(alloc, rest) {
+            Ok((value, behind)) => {
+                values.push(value)?;
+                if is_over(behind) {
+                    return Ok(values);
+                }
+                match comma(behind) {
+                    Ok(more) => rest = more,
+                    Err(error) => return Err(error),
+                }
+            }
+            Err(error) => return Err(error),
         }
-        rest = comma(behind)?;
     }
 }
 
@@ -266,7 +314,7 @@ fn port<'a>(
     let (size, rest) = size(at)?;
     if size == AccessSize::Eight {
         return Err(LineError::Wanted {
-            left: next(at).left,
+            left: first_token(at).left,
             want: Want::Size,
         });
     }
@@ -394,6 +442,20 @@ fn instruction(
     }))
 }
 
+// Data, up to the end of the line.
+#[tactic(auto, unfolding(crate::specs::Reading::data_line))]
+fn data_line(
+    alloc: Global,
+    left: usize,
+    size: AccessSize,
+    line: &[u8],
+) -> Result<Statement, LineError>
+    ensures { Answers LineError.NoMemory (data_line left size (tokens_of line.now)) result }
+{
+    let values = values(alloc, line)?;
+    Ok(Statement::Data { left, size, values })
+}
+
 // `.at` with a number, up to the end of the line.
 #[tactic(auto, unfolding(crate::specs::Reading::offset_line))]
 fn offset_line(left: usize, line: &[u8]) -> Result<Statement, LineError>
@@ -404,16 +466,24 @@ fn offset_line(left: usize, line: &[u8]) -> Result<Statement, LineError>
     Ok(Statement::Offset { left, offset })
 }
 
+// A number with this sign.
+fn integer_with(minus: bool, line: &[u8]) -> Result<(Integer, &[u8]), LineError>
+    ensures { told result ≡ integer_with minus (tokens_of line.now) }
+{
+    let (magnitude, rest) = number(line)?;
+    Ok((Integer { minus, magnitude }, rest))
+}
+
 // A number, maybe with `-`.
+#[tactic(auto, using(crate::proofs::SignLaws::integers))]
 fn integer(line: &[u8]) -> Result<(Integer, &[u8]), LineError>
     ensures { told result ≡ integer (tokens_of line.now) }
 {
-    let (minus, digits) = match sign(line) {
-        Some((true, behind)) => (true, behind),
-        _ => (false, line),
-    };
-    let (magnitude, rest) = number(digits)?;
-    Ok((Integer { minus, magnitude }, rest))
+    match sign(line) {
+        Some((true, behind)) => integer_with(true, behind),
+        Some((false, _)) => integer_with(false, line),
+        None => integer_with(false, line),
+    }
 }
 
 // The name that a word is.
@@ -452,22 +522,23 @@ fn worded(
     if word == b".at".as_slice() {
         return offset_line(left, line);
     }
-    if let Some(size) = data_size_of(word) {
-        let values = values(alloc, line)?;
-        return Ok(Statement::Data { left, size, values });
-    }
-    match Mnemonic::of(word) {
-        Some(mnemonic) => instruction(alloc, left, mnemonic, line),
-        None => Err(LineError::Wanted {
-            left,
-            want: Want::Mnemonic,
-        }),
+    match data_size_of(word) {
+        Some(size) => data_line(alloc, left, size, line),
+        None => match Mnemonic::of(word) {
+            Some(mnemonic) => instruction(alloc, left, mnemonic, line),
+            None => Err(LineError::Wanted {
+                left,
+                want: Want::Mnemonic,
+            }),
+        },
     }
 }
 
 // What stands behind this mark, if it comes next.
-fn behind_mark<'a>(mark: &str, line: &'a [u8]) -> Option<&'a [u8]> {
-    let Token { word, rest } = next(line).token?;
+fn behind_mark<'a>(mark: &str, line: &'a [u8]) -> Option<&'a [u8]>
+    ensures { option_map (λ r. tokens_of r.now) result ≡ mark_at mark.now (tokens_of line.now) }
+{
+    let Token { word, rest } = first_token(line).token?;
     if word == mark.as_bytes() {
         Some(rest)
     } else {
@@ -480,7 +551,7 @@ fn behind_mark<'a>(mark: &str, line: &'a [u8]) -> Option<&'a [u8]> {
 fn statement(alloc: Global, line: &[u8]) -> Result<Statement, LineError>
     ensures { Answers LineError.NoMemory (statement (tokens_of line.now)) result }
 {
-    let next = next(line);
+    let next = first_token(line);
     let Some(Token { word, rest }) = next.token else {
         return Ok(Statement::Nothing);
     };
@@ -495,7 +566,7 @@ fn statement(alloc: Global, line: &[u8]) -> Result<Statement, LineError>
 fn label(line: &[u8]) -> Result<(Option<Label>, &[u8]), LineError>
     ensures { told result ≡ label (tokens_of line.now) }
 {
-    let next = next(line);
+    let next = first_token(line);
     if let Some(Token { word, rest }) = next.token {
         if let Some(behind) = behind_mark(":", rest) {
             let left = next.left;
@@ -511,7 +582,11 @@ fn label(line: &[u8]) -> Result<(Option<Label>, &[u8]), LineError>
 pub(crate) fn line_of(alloc: Global, line: &[u8]) -> Result<SourceLine, LineError>
     ensures { Answers LineError.NoMemory (line_of (tokens_of line.now)) result }
 {
-    let (label, rest) = label(line)?;
-    let statement = statement(alloc, rest)?;
-    Ok(SourceLine { label, statement })
+    match label(line) {
+        Ok((label, rest)) => {
+            let statement = statement(alloc, rest)?;
+            Ok(SourceLine { label, statement })
+        }
+        Err(error) => Err(error),
+    }
 }

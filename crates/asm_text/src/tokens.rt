@@ -1,6 +1,6 @@
 //! The tokens of a line.
-ghost use Rattle.std.specs.Prelude.{◌≡◌, ◌<◌, IfSome, length};
-ghost use Rattle.asm_text.specs.Tokens.{begins_comment, is_blank, is_mark, is_word_byte, tokens_of};
+ghost use Rattle.std.specs.Prelude.{◌≡◌, ◌+◌, ◌^◌, ◌<◌, ◌≤◌, IfSome, length, not, position, suc, if◌then◌else◌};
+ghost use Rattle.asm_text.specs.Tokens.{begins_comment, is_blank, is_mark, is_word_byte, tokens_of, word_size, IsPastBlanks};
 ghost use Rattle.asm_text.specs.Shown.{shown};
 
 fn is_blank(c: u8) -> bool
@@ -43,11 +43,14 @@ pub(crate) struct Next<'a> {
 }
 
 // What is left of a line behind its blanks.
+#[tactic(auto, using(crate::proofs::TokenLaws::blank_here, crate::proofs::TokenLaws::past_blanks))]
 fn behind_blanks(line: &[u8]) -> &[u8]
-    ensures { tokens_of result.now ≡ tokens_of line.now }
+    ensures tokens { tokens_of result.now ≡ tokens_of line.now }
+    ensures past { IsPastBlanks result.now }
+    ensures within { length result.now ≤ length line.now }
 {
     let mut rest = line;
-    while let [c, more @ ..] = rest {
+    while let Some((c, more)) = rest.split_first() {
         if !is_blank(*c) {
             break;
         }
@@ -56,30 +59,55 @@ fn behind_blanks(line: &[u8]) -> &[u8]
     rest
 }
 
-// How many bytes the token at the head has.
-fn word_length(line: &[u8]) -> usize
+// Where the first byte stands that is none of a word.
+fn end_of_word(line: &[u8]) -> Option<usize>
+    ensures { result ≡ position (λ c. not (is_word_byte c)) line.now }
 {
-    if is_mark(line[0]) {
-        return 1;
+    line.iter().position(|c| !is_word_byte(*c))
+}
+
+// How many bytes of a word stand at the head.
+#[tactic(auto, using(crate::proofs::TokenLaws::size_by_position, crate::proofs::TokenLaws::size_without_position, crate::proofs::TokenLaws::within_line))]
+fn word_size(line: &[u8]) -> usize
+    ensures size { result ≡ word_size line.now }
+    ensures within { result ≤ length line.now }
+{
+    match end_of_word(line) {
+        Some(at) => at,
+        None => line.len(),
     }
-    line.iter().position(|c| !is_word_byte(*c)).unwrap_or(line.len())
+}
+
+// How many bytes a token has that begins with this byte.
+fn token_size(c: u8, behind: &[u8]) -> usize
+    requires { 1 + length behind.now < 2 ^ 64 }
+    ensures size { result ≡ (if is_mark c then 1 else suc (word_size behind.now)) }
+    ensures within { result ≤ 1 + length behind.now }
+{
+    if is_mark(c) {
+        1
+    } else {
+        1 + word_size(behind)
+    }
 }
 
 /// What comes next in what is left of a line.
-pub(crate) fn next(line: &[u8]) -> Next<'_>
+#[tactic(auto, using(crate::proofs::TokenLaws::token_here, crate::proofs::TokenLaws::comment_here, crate::proofs::TokenLaws::nothing_here))]
+pub(crate) fn first_token(line: &[u8]) -> Next<'_>
     ensures tokens { shown result ≡ tokens_of line.now }
     ensures shorter { IfSome result.token (λ t. length t.rest.now < length line.now) }
 {
     let line = behind_blanks(line);
     let left = line.len();
-    match line {
-        [c, ..] if !begins_comment(*c) => {
-            let (word, rest) = line.split_at(word_length(line));
-            Next {
-                left,
-                token: Some(Token { word, rest }),
-            }
-        }
-        _ => Next { left, token: None },
+    let Some((c, behind)) = line.split_first() else {
+        return Next { left, token: None };
+    };
+    if begins_comment(*c) {
+        return Next { left, token: None };
+    }
+    let (word, rest) = line.split_at(token_size(*c, behind));
+    Next {
+        left,
+        token: Some(Token { word, rest }),
     }
 }

@@ -5,6 +5,7 @@ ghost use Rattle.asm_text.specs.Words.{data_size_of, number_in, register_of, siz
 
 use crate::statement::Atom;
 use muen_num::{AccessSize, Name};
+use text_words::{based, decimal, grouped};
 
 
 /// `r0` to `r15`.
@@ -27,7 +28,10 @@ pub(crate) fn number_in(word: &[u8]) -> Option<u64>
     if let Some(n) = based(word) {
         return Some(n);
     }
-    decimal(word).ok()
+    match decimal(word) {
+        Ok(n) => Some(n),
+        Err(_) => None,
+    }
 }
 
 /// A name: a letter or `_`, and up to 62 letters, digits, `_` and `.`.

@@ -1,12 +1,14 @@
 //! The bytes of a source.
-ghost use Rattle.std.specs.Prelude.{◌≡◌, ◌++◌, OnOk};
-ghost use Rattle.std.specs.List.{All};
+ghost use Rattle.std.specs.Prelude.{◌≡◌, ◌++◌, ◌<◌, ◌*◌, ◌^◌, length, OnOk};
+ghost use Rattle.muen_num.specs.AccessSize.{bytes_of};
 ghost use Rattle.muen_num.specs.Answers.{Answers};
-ghost use Rattle.asm_text.specs.Appended.{Appends, IsFit, IsFitLine};
-ghost use Rattle.asm_text.specs.Meaning.{assembled, bytes_of_items, items_of, item_of};
+ghost use Rattle.asm_text.specs.Appended.{IsFit, IsFitAt, appended, of_numbers, with_bytes};
+
+ghost use Rattle.text_words.specs.Steps.{mapped};
+ghost use Rattle.asm_text.specs.Meaning.{assembled, item_of, little_endian, numbers_of};
 
 use crate::fault::{LineError, SourceFault};
-use crate::layout::{in_line, layout_of};
+use crate::layout::{fault_in, layout_of};
 use crate::meaning::{immediate_of, number_of};
 use crate::mnemonic::instruction_with;
 use crate::statement::{Meaning, Operation, Placed, Statement, Value};
@@ -17,18 +19,26 @@ use std::collections::BTreeMap;
 
 // The lowest bytes of a number, lowest first.
 fn put_number(out: &mut Vec<u8>, size: AccessSize, n: u64) -> Result<(), NoMemory>
+    requires { n < 2 ^ (8 * bytes_of size) }
+    ensures { OnOk result (out.new.items ≡ out.old.items ++ little_endian size n) }
 {
-    let bytes = n.to_le_bytes();
-    out.extend_from_slice(&bytes[..usize::from(size.bytes())])?;
+    match size {
+        AccessSize::One => out.push(n as u8)?,
+        AccessSize::Two => out.extend_from_slice(&(n as u16).to_le_bytes())?,
+        AccessSize::Four => out.extend_from_slice(&(n as u32).to_le_bytes())?,
+        AccessSize::Eight => out.extend_from_slice(&n.to_le_bytes())?,
+    }
     Ok(())
 }
 
+// The numbers of these values.
 fn put_numbers(
     out: &mut Vec<u8>,
     names: &BTreeMap<Name, Meaning>,
     size: AccessSize,
     values: &[Value],
 ) -> Result<(), LineError>
+    ensures { Answers LineError.NoMemory (of_numbers out.old.items size (numbers_of names.now.entries size values.now)) (with_bytes result out.new.items) }
 {
     for value in values {
         let n = number_of(names, size, value)?;
@@ -43,6 +53,8 @@ fn put_instruction(
     here: u64,
     operation: &Operation,
 ) -> Result<(), LineError>
+    requires { IsFit operation.now }
+    ensures { Answers LineError.NoMemory (appended out.old.items (item_of names.now.entries here (Statement.Instruction operation.now))) (with_bytes result out.new.items) }
 {
     let imm = immediate_of(names, here, operation)?;
     let with = &operation.operands;
@@ -57,12 +69,14 @@ fn put_line(
     names: &BTreeMap<Name, Meaning>,
     line: &Placed,
 ) -> Result<(), LineError>
+    requires here { line.now.here ≡ length out.old.items }
+    requires fit { IsFitAt line.now.here line.now.statement }
+    ensures { Answers LineError.NoMemory (appended out.old.items (item_of names.now.entries line.now.here line.now.statement)) (with_bytes result out.new.items) }
 {
     match &line.statement {
         Statement::Nothing | Statement::Definition { .. } => Ok(()),
         Statement::Offset { offset, .. } => {
-            let length = out.len() + (*offset - line.here) as usize;
-            out.resize(length, 0)?;
+            out.resize(*offset as usize, 0)?;
             Ok(())
         }
         Statement::Data { size, values, .. } => put_numbers(out, names, *size, values.items()),
@@ -75,13 +89,13 @@ fn put_line(
 /// only where memory was refused. The time grows with the number of bytes, and with the logarithm of
 /// the number of names.
 pub fn assemble(alloc: Global, text: &[u8]) -> Result<Vec<u8>, SourceFault>
-    ensures { Answers SourceFault.NoMemory (assembled text.now) (bytes_told result) }
+    ensures { Answers SourceFault.NoMemory (assembled text.now) (mapped (λ v. v.items) result) }
 {
     let layout = layout_of(alloc, text)?;
     let mut out = Vec::new(alloc);
     for line in layout.lines.items() {
         if let Err(error) = put_line(&mut out, &layout.names, line) {
-            return Err(in_line(line.number, line.end, error));
+            return Err(fault_in(line.number, line.end, error));
         }
     }
     Ok(out)
