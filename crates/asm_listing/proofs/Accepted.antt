@@ -9,14 +9,14 @@ use Rattle.muen_num.specs.declared.access.AccessSize.{AccessSize}
 use Rattle.muen_num.specs.declared.access.AccessSize.TheVariants.{One, Two, Four, Eight}
 use Rattle.guest_isa.specs.GuestIsa.{IsSmall, IsValid}
 use Rattle.guest_isa.specs.declared.instr.Instr.{Instr}
-use Rattle.text_words.specs.Numbers.{number_of}
+use Rattle.text_words.specs.Numbers.{decimal as number_below}
 use Rattle.text_words.specs.Steps.{◌>>=◌, ◌>>◌}
 use Rattle.asm_text.specs.Layout.{Names}
-use Rattle.asm_text.specs.Meaning.{fits, fits_signed, if_fits, immediate_by, immediate_of, residue, sum_of, distance_by}
+use Rattle.asm_text.specs.Meaning.{fits, fits_signed, if_fits, immediate_by, immediate_of, residue, sum_of, distance_by, jump_by}
 use Rattle.asm_text.specs.Mnemonics.{instruction_with, shape_of}
 use Rattle.asm_text.specs.Reading.{at_end, below_jump, comma, data_line, definition, directive, displacement, found, immediate as immediate_operands, instruction, integer, keyword, label, line_of, memory, name_at, number, offset_line, operands_of, pair, place, port, register, size, small, statement, value, values, worded}
 use Rattle.asm_text.specs.Tokens.{Tokens, end_with, token}
-use Rattle.asm_text.specs.Words.{behind, below, data_size_of, mnemonic_of}
+use Rattle.asm_text.specs.Words.{behind, below, data_size_of, mnemonic_of, result_ok}
 use Rattle.asm_text.specs.declared.fault.LineError.{LineError}
 use Rattle.asm_text.specs.declared.fault.Want.{Want}
 use Rattle.asm_text.specs.declared.fault.Want.TheVariants.{Register, At, To, Near, Range}
@@ -97,7 +97,11 @@ found_low left more (Some n) = by (nat_lt n 16) refl
 register_low : (ts : Tokens) → Holds LowFirst (register ts)
 unfolding register
 register_low (end_with left) = tt
-register_low (token left word more) = found_low left more (option_and_then number_of (behind (codes "r") word))
+register_low (token left word more) = by (behind (codes "r") word)
+  where
+    by : (o : Option (List ℕ)) → Holds LowFirst (found left Register more (option_and_then (λ digits. option_and_then (below 16) (result_ok (number_below digits))) o))
+    by None = tt
+    by (Some digits) = found_low left more (result_ok (number_below digits))
 
 abbrev LowPair : ℕ × ℕ × Tokens → Type 0
 LowPair x = (x.0 < 16) × (x.1 < 16)
@@ -258,7 +262,7 @@ module _ (left : ℕ) (want : Want) where
       by true e = signed_fits (residue 32 z) (residue_low z e)
       by false e = tt
 
-near : (here left : ℕ) (s : Sum) → Holds (FitsSigned w32) (distance_by s.labels here left s.number >>= λ d. if_fits (fits_signed 32 d) left Near d)
+near : (here left : ℕ) (s : Sum) → Holds (FitsSigned w32) (jump_by here left s)
 near here left s = after (FitsSigned w32) (distance_by s.labels here left s.number) _ λ d. signed_is left Near d
 
 by_mnemonic : (m : Mnemonic) (here left : ℕ) (s : Sum) → Holds (FitsSigned w32) (immediate_by m here left s)

@@ -1,5 +1,5 @@
 -- A line of data says its bytes.
-use Rattle.std.proofs.Common.{◌≡◌, ℕ, zero, suc, ◌+◌, ◌<◌, ◌≤◌, false, List, [], ◌∷◌, ◌++◌, length, Result, Ok, refl, ap, sym, subst, ◌∙◌, length-append, arith}
+use Rattle.std.proofs.Common.{◌≡◌, ℕ, zero, suc, ◌<◌, ◌≤◌, false, List, [], ◌∷◌, ◌++◌, length, Result, Ok, refl, ap, sym, subst, ◌∙◌, arith}
 use Rattle.std.specs.Prelude.{codes}
 use Rattle.std.specs.List.{All, flat_map}
 use Rattle.std.proofs.lemmas.Bool.{lt-ltb}
@@ -8,7 +8,7 @@ use Rattle.muen_num.specs.declared.access.AccessSize.TheVariants.{One}
 use Rattle.text_words.specs.Steps.{◌>>=◌}
 use Rattle.asm_text.specs.Layout.{Names}
 use Rattle.asm_text.specs.Meaning.{bits_of, fits, if_fits, number_of, numbers_of, residue}
-use Rattle.asm_text.specs.Reading.{data_line, keyword, left_of, line_of, values, with_others, worded}
+use Rattle.asm_text.specs.Reading.{count_of, data_line, keyword, line_of, values, with_others, worded}
 use Rattle.asm_text.specs.Tokens.{Tokens, end_with, token, goes_on, tokens_of}
 use Rattle.asm_text.specs.declared.fault.LineError.{LineError}
 use Rattle.asm_text.specs.declared.fault.Want.TheVariants.{Range}
@@ -98,14 +98,16 @@ pub record DataRead (chunk : List ℕ) : Type 0 where
   pub many : length read ≡ length chunk
   pub numbers : (names : Names) → numbers_of names One read ≡ Ok chunk
 
-many_digits : (bs : List ℕ) → length bs ≤ length (others_text bs)
-many_digits [] = omega arith
-many_digits (b ∷ bs) =
-    let e : length (others_text (b ∷ bs)) ≡ length (codes ", " ++ byte_text b) + length (others_text bs) = length-append (codes ", " ++ byte_text b) (others_text bs) in
-    let rest = many_digits bs in
-    omega arith
+many_tokens : (bs : List ℕ) → All (λ b. b < 256) bs → length bs ≤ count_of (tokens_of (others_text bs))
+unfolding tokens_of
+many_tokens [] all = omega arith
+many_tokens (b ∷ bs) all =
+    let low : b < 256 = All-head (λ b. b < 256) b bs all in
+    let e = ap count_of (word_parted (byte_text b) (others_text bs) (byte_word b low) (others_part bs)) in
+    let rest = many_tokens bs (All-tail (λ b. b < 256) b bs all) in
+    omega (arith, e, rest)
 
-data_worded : (left : ℕ) (more : Tokens) (vs : List Value) → values (left_of more + 1) more ≡ Ok vs → worded left (codes ".byte") more ≡ Ok (Data left One vs)
+data_worded : (left : ℕ) (more : Tokens) (vs : List Value) → values (count_of more) more ≡ Ok vs → worded left (codes ".byte") more ≡ Ok (Data left One vs)
 unfolding data_line
 data_worded left more vs e = ap (λ (r : Result (List Value) LineError). r >>= λ vs. Ok (Data left One vs)) e
 
@@ -118,8 +120,9 @@ data_read (b ∷ bs) some all =
     let left = length (codes ".byte " ++ rest) in
     let more = token (length rest) (byte_text b) (tokens_of (others_text bs)) in
     let parted : tokens_of rest ≡ more = word_parted (byte_text b) (others_text bs) (byte_word b low) (others_part bs) in
-    let enough : length bs < length rest + 1 = omega (arith, length-append (byte_text b) (others_text bs), many_digits bs) in
-    let v = values_read (length rest + 1) b bs enough low (All-tail (λ b. b < 256) b bs all) in
+    let last = All-tail (λ b. b < 256) b bs all in
+    let enough : length bs < count_of more = omega (arith, many_tokens bs last) in
+    let v = values_read (count_of more) b bs enough low last in
     record {
       left = left;
       read = v.read;

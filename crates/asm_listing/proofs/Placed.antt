@@ -16,7 +16,7 @@ use Rattle.guest_isa.specs.declared.instr.Instr.{Instr}
 use Rattle.guest_isa.specs.declared.instr.Instr.TheVariants.{Nop, Li, Lih, Mov, Add, Sub, And, Or, Xor, Shl, Shr, Load, Store, Jmp, Jz, Jnz, Jb, In, Out, Rdmsr, Wrmsr, Rdtsc, Vmcall, Hlt, Sti, Cli, Setv, Reti}
 use native.Mathlib.Nat.{add_comm}
 use Rattle.text_words.specs.Parts.{lines_of}
-use Rattle.asm_text.specs.Layout.{Layout, Names, Standing, after_line, at_start, in_line, labelled, layout_from, meaning_of, moved, named, stated, with_name}
+use Rattle.asm_text.specs.Layout.{Layout, Names, Standing, after_line, at_start, in_line, labelled, layout_from, line_at, meaning_of, moved, named, stated, with_name}
 use Rattle.asm_text.specs.Meaning.{Item, instruction, data_of, zeros, bytes_of_item, immediate_of, instruction_of, item_of, items_of, little_endian, number_of, numbers_of, said}
 use Rattle.asm_text.specs.Reading.{line_of, wanted}
 use Rattle.asm_text.specs.Tokens.{tokens_of}
@@ -111,6 +111,18 @@ line_passes line s fit room =
     holds_then (IsNext s.here) (IsAfter s.here line.statement) (labelled line.label s) (λ s. stated line.statement s) (labelled_stays line.label s room) λ next h.
     subst (λ here. Holds (IsAfter here line.statement) (stated line.statement next)) h.0 (stated_passes line.statement next fit h.1)
 
+-- a line that begins where the lines before it end, and what it leaves
+abbrev IsLine : ℕ → Placed × Standing → Type 0
+IsLine here x = (x.0.here ≡ here) × IsAfter here x.0.statement x.1
+
+line_seated : (s : Standing) (n : ℕ) (text : List ℕ) → s.here ≤ COMPONENT_FILE_MOST → Holds (IsLine s.here) (line_at s n text)
+unfolding line_at
+line_seated s n text room =
+    let end = length text + 1 in
+    holds_then IsFitLine (IsLine s.here) (in_line n end (line_of (tokens_of text))) _ (in_line_holds IsFitLine n end (line_of (tokens_of text)) (line_fit (tokens_of text))) λ line fit.
+    holds_then (IsAfter s.here line.statement) (IsLine s.here) (in_line n end (after_line line s)) _ (in_line_holds (IsAfter s.here line.statement) n end (after_line line s) (line_passes line s fit room)) λ next h.
+    (refl, h)
+
 abbrev AreSeatedIn : ℕ → Layout → Type 0
 AreSeatedIn here layout = AreSeated here layout.lines
 
@@ -118,11 +130,9 @@ layout_seated : (texts : List (List ℕ)) (s : Standing) (n : ℕ) → s.here �
 unfolding layout_from
 layout_seated [] s n room = room
 layout_seated (text ∷ texts) s n room =
-    let end = length text + 1 in
-    holds_then IsFitLine (AreSeatedIn s.here) (in_line n end (line_of (tokens_of text))) _ (in_line_holds IsFitLine n end (line_of (tokens_of text)) (line_fit (tokens_of text))) λ line fit.
-    holds_then (IsAfter s.here line.statement) (AreSeatedIn s.here) (in_line n end (after_line line s)) _ (in_line_holds (IsAfter s.here line.statement) n end (after_line line s) (line_passes line s fit room)) λ next h.
-    holds_then (AreSeatedIn next.here) (AreSeatedIn s.here) (layout_from next (n + 1) texts) _ (layout_seated texts next (n + 1) h.1.1) λ more rest.
-    (refl, h.0, subst (λ here. AreSeated here more.lines) h.1.0 rest)
+    holds_then (IsLine s.here) (AreSeatedIn s.here) (line_at s n text) _ (line_seated s n text room) λ x h.
+    holds_then (AreSeatedIn x.1.here) (AreSeatedIn s.here) (layout_from x.1 (n + 1) texts) _ (layout_seated texts x.1 (n + 1) h.1.1.1) λ more rest.
+    (h.0, h.1.0, subst (λ here. AreSeated here more.lines) h.1.1.0 rest)
 
 -- ---- items
 

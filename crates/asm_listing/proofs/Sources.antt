@@ -12,7 +12,7 @@ use Rattle.guest_isa.specs.GuestIsa.{decode_of}
 use Rattle.guest_isa.specs.declared.instr.Instr.{Instr}
 use Rattle.text_words.specs.Parts.{lines_of, parts_of, without_empty_end}
 use Rattle.text_words.specs.Steps.{◌>>=◌}
-use Rattle.asm_text.specs.Layout.{Layout, Names, Standing, after_line, in_line, layout_from, moved, stated, with_line}
+use Rattle.asm_text.specs.Layout.{Layout, Names, Standing, after_line, in_line, layout_from, line_at, moved, stated, with_line}
 use Rattle.asm_text.specs.Meaning.{Item, instruction, data_of, bytes_of_item, bytes_of_items, item_of, items_of, little_endian, said}
 use Rattle.asm_text.specs.Reading.{line_of, wanted}
 use Rattle.asm_text.specs.Tokens.{tokens_of}
@@ -171,6 +171,17 @@ none_laid : (here n : ℕ) → AreLaid here n []
 unfolding layout_from items_of
 none_laid here n = record { layout = record { lines = []; names = [] }; laid = refl; items = λ names. refl }
 
+abbrev placed_with : ℕ → ℕ → ℕ → Statement → Standing → Result (Placed × Standing) SourceFault
+placed_with n end here statement next = Ok (record { number = n; end = end; here = here; statement = statement }, next)
+
+line_laid : (here n : ℕ) (chunk : List ℕ) (r : IsRead chunk (instruction_in chunk)) → here % 8 ≡ 0 → here + length chunk ≤ COMPONENT_FILE_MOST
+    → line_at (standing here []) n (chunk_text chunk) ≡ Ok (record { number = n; end = length (chunk_text chunk) + 1; here = here; statement = r.statement }, standing (here + length chunk) [])
+unfolding line_at
+line_laid here n chunk r aligned room =
+    let end = length (chunk_text chunk) + 1 in
+    ap (λ (line : Result SourceLine LineError). in_line n end line >>= λ line. in_line n end (after_line line (standing here [])) >>= λ next. placed_with n end here line.statement next) r.line
+    ∙ ap (λ (next : Result Standing LineError). in_line n end next >>= λ next. placed_with n end here r.statement next) (r.moves here [] aligned room)
+
 more_laid : (here n : ℕ) (chunk : List ℕ) (chunks : List (List ℕ)) → IsRead chunk (instruction_in chunk) → here % 8 ≡ 0 → here + length chunk ≤ COMPONENT_FILE_MOST
     → AreLaid (here + length chunk) (n + 1) chunks → AreLaid here n (chunk ∷ chunks)
 unfolding layout_from items_of
@@ -180,8 +191,7 @@ more_laid here n chunk chunks r aligned room rest =
     record {
       layout = with_line placed rest.layout;
       laid =
-          ap (λ (line : Result SourceLine LineError). in_line n end line >>= λ line. in_line n end (after_line line (standing here [])) >>= λ next. layout_from next (n + 1) (map chunk_text chunks) >>= λ more. Ok (with_line (record { number = n; end = end; here = here; statement = line.statement }) more)) r.line
-          ∙ ap (λ (next : Result Standing LineError). in_line n end next >>= λ next. layout_from next (n + 1) (map chunk_text chunks) >>= λ more. Ok (with_line placed more)) (r.moves here [] aligned room)
+          ap (λ (line : Result (Placed × Standing) SourceFault). line >>= λ x. layout_from x.1 (n + 1) (map chunk_text chunks) >>= λ more. Ok (with_line x.0 more)) (line_laid here n chunk r aligned room)
           ∙ ap (λ (more : Result Layout SourceFault). more >>= λ more. Ok (with_line placed more)) rest.laid;
       items = λ names.
           ap (λ (item : Result Item LineError). in_line n end item >>= λ item. items_of names rest.layout.lines >>= λ items. Ok (item ∷ items)) (r.item names here)

@@ -1,5 +1,5 @@
 -- The words of a printed line: how they part, and what each spells.
-use Rattle.std.proofs.Common.{◌≡◌, ℕ, zero, suc, ◌^◌, ◌<◌, Bool, true, false, not, List, [], ◌∷◌, ◌++◌, length, take, drop, Option, Some, None, refl, ap, sym, ◌∙◌, append-nil, arith}
+use Rattle.std.proofs.Common.{◌≡◌, ℕ, zero, suc, ◌^◌, ◌<◌, Bool, true, false, not, List, [], ◌∷◌, ◌++◌, length, take, drop, Option, Some, None, Result, refl, ap, sym, ◌∙◌, append-nil, arith}
 use Rattle.std.specs.Prelude.{◌==◌, ◌&&◌, ◌||◌, if◌then◌else◌, nat_le, codes, decimal, option_map, option_and_then}
 use Rattle.std.specs.Char.{is_ascii_digit}
 use Rattle.std.specs.Cmp.Lexicographic.{bytes_decides}
@@ -10,12 +10,13 @@ use Rattle.std.proofs.lemmas.Bool.Decides.{nat_tests}
 use Rattle.std.proofs.lemmas.Fmt.{decimal_nonempty}
 use Rattle.hex.specs.Hex.{encode_lower, encode_with}
 use Rattle.text_words.specs.Groups.{before_mark, behind_mark, groups_of, number_of_groups}
+use Rattle.text_words.specs.declared.number.NumberError.{NumberError}
 use Rattle.asm_text.specs.Reading.{atom_of, sign_of}
 use Rattle.asm_text.specs.Tokens.{end_with, token, begins_comment, goes_on, is_blank, is_mark, is_word_byte, tokens_of, with_byte}
-use Rattle.asm_text.specs.Words.{behind, below, number_in, or_else, register_of, symbol_of}
+use Rattle.asm_text.specs.Words.{behind, below, by_mark, number_in, or_else, register_of, result_ok, symbol_of}
 use Rattle.asm_text.specs.declared.statement.Atom.TheVariants.{Number as NumberAtom, Name as NameAtom}
 use Rattle.asm_listing.specs.Source.{byte_text, register_text}
-use Rattle.asm_listing.proofs.Digits.{digits_alone, first_digit, number_read}
+use Rattle.asm_listing.proofs.Digits.{decimal_read, digits_alone, first_digit}
 
 infixr 66 ◌⧺◌
 -- one text before others
@@ -122,10 +123,9 @@ module _ (n : ℕ) (h : n < 2 ^ 64) where
 
   number_reads : number_in (decimal n) ≡ Some n
   number_reads =
-      (λ i.
-      or_else (option_and_then (λ digits. number_of_groups (groups_of digits)) (no_prefix i))
-      (or_else (option_and_then (λ middle. number_of_groups (groups_of middle)) (option_and_then before_mark (no_base i))) (option_and_then (below (2 ^ 64)) (number_read n h i))))
-      ∙ ap (λ b. if b then Some n else None) (lt-ltb n (2 ^ 64) h)
+      λ i.
+      by_mark (no_prefix i)
+      (or_else (option_and_then (λ middle. number_of_groups (groups_of middle)) (option_and_then before_mark (no_base i))) (result_ok (decimal_read n h i)))
 
   pub decimal_atom : atom_of (decimal n) ≡ Some (NumberAtom n)
   decimal_atom = λ i. if first_digit n h i then option_map NumberAtom (number_reads i) else option_map NameAtom (symbol_of (decimal n))
@@ -141,7 +141,7 @@ register_word r h =
 
 pub register_reads : (r : ℕ) → r < 16 → register_of (register_text r) ≡ Some r
 register_reads r h =
-    ap (option_and_then (below 16)) (number_read r (omega arith)) ∙ ap (λ b. if b then Some r else None) (lt-ltb r 16 h)
+    ap (λ (x : Result ℕ NumberError). option_and_then (below 16) (result_ok x)) (decimal_read r (omega arith)) ∙ ap (λ b. if b then Some r else None) (lt-ltb r 16 h)
 
 -- ---- bytes in hexadecimal digits
 
