@@ -25,7 +25,7 @@ result_ok (Err e) = None
 
 -- `r0` to `r15`
 abbrev pub register_of : List ℕ → Option ℕ
-register_of word = option_and_then (λ digits. option_and_then (below 16) (result_ok (decimal digits))) (behind (codes "r") word)
+register_of word = option_and_then (below 16) (option_and_then (λ digits. result_ok (decimal digits)) (behind (codes "r") word))
 
 -- the first that there is
 abbrev pub or_else : {X : Type 0} → Option X → Option X → Option X
