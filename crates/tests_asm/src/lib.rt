@@ -1,0 +1,5 @@
+//! Whole calls of `muen_asm` on files and sinks in memory, against lines that were worked out by hand.
+#![tactic(auto)]
+
+#[cfg(test)]
+mod calls;
