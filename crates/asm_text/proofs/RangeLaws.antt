@@ -1,6 +1,6 @@
 -- Numbers that fit so many bits, and sums.
-use Rattle.std.proofs.Common.{◌≡◌, ℕ, ◌+◌, ◌-◌, ◌*◌, ◌^◌, ◌<◌, ◌≤◌, Bool, true, false, List, [], ◌∷◌, length, drop, get_or, Option, Some, None, Result, Ok, Err, refl, ap, ◌∙◌, sym, arith}
-use Rattle.std.specs.Prelude.{ℤ, pos, negsuc, neg_ℤ, ◌+ℤ◌, ◌-ℤ◌, ◌≤ℤ◌, ◌<ℤ◌, ◌&&◌, int_le, int_lt}
+use Rattle.std.proofs.Common.{◌≡◌, ℕ, ◌+◌, ◌-◌, ◌^◌, ◌<◌, ◌≤◌, Bool, true, false, List, [], length, drop, get_or, Some, None, Result, Ok, Err, refl, ap, ◌∙◌, sym, arith}
+use Rattle.std.specs.Prelude.{ℤ, pos, negsuc, neg_ℤ, ◌+ℤ◌, ◌≤ℤ◌, ◌<ℤ◌, ◌&&◌, int_le, int_lt}
 use Rattle.std.proofs.Math.Nat.{pow-le-pow_right}
 use mir.Syntax.{w128}
 use mir.Val.{to_z, of_z}
@@ -9,7 +9,7 @@ use Rattle.std.proofs.lemmas.Int.{ints, to_z-of_z}
 use Rattle.std.proofs.lemmas.List.{drop_all, drop_more}
 use Rattle.text_words.specs.Steps.{◌>>=◌, mapped}
 use Rattle.asm_text.specs.Layout.{Names}
-use Rattle.asm_text.specs.Meaning.{added, fits, fits_signed, residue, signed, sum_of, sum_of_atom}
+use Rattle.asm_text.specs.Meaning.{added, fits, signed, sum_of, sum_of_atom}
 use Rattle.asm_text.specs.Ranges.{IsMagnitude, IsWithin}
 use Rattle.asm_text.specs.Reading.{ok_or_wanted, wanted}
 use Rattle.asm_text.specs.declared.fault.LineError.{LineError}

@@ -1,5 +1,5 @@
 -- Where the lines of a source that is read begin, and how many bytes each comes to.
-use Rattle.std.proofs.Common.{◌≡◌, ℕ, ℤ, suc, ◌+◌, ◌-◌, ◌*◌, ◌%◌, ◌<◌, ◌≤◌, Bool, true, false, List, [], ◌∷◌, ◌++◌, length, replicate, take, drop, get_or, Option, Some, None, Result, Ok, Err, refl, ap, ap₂, sym, ◌∙◌, subst, inl, inr, length-append, append_assoc, append-nil, suc-mul, arith}
+use Rattle.std.proofs.Common.{◌≡◌, ℕ, ℤ, suc, ◌+◌, ◌-◌, ◌*◌, ◌%◌, ◌<◌, ◌≤◌, Bool, true, false, List, [], ◌∷◌, ◌++◌, length, replicate, drop, get_or, Option, Some, None, Result, Ok, Err, refl, ap, ap₂, sym, ◌∙◌, subst, inl, inr, length-append, append_assoc, append-nil, suc-mul, arith}
 use Rattle.std.specs.Prelude.{◌⊎◌, ◌==◌, if◌then◌else◌, nat_lt, is_some}
 use Rattle.std.specs.List.{flat_map}
 use Rattle.std.proofs.lemmas.Bool.{eqb-true, ltb-false}
@@ -16,7 +16,7 @@ use Rattle.text_words.specs.Parts.{lines_of}
 use Rattle.text_words.specs.Steps.{◌>>=◌, mapped}
 use Rattle.asm_text.specs.Appended.{appended, behind, of_numbers, FollowFrom, IsFit as IsFitOperation, IsFitAt}
 use Rattle.asm_text.specs.Layout.{Layout, Names, Standing, after_line, at_start, fault_in, in_line, labelled, layout_from, line_at, meaning_of, moved, named, stated, with_name}
-use Rattle.asm_text.specs.Meaning.{Item, instruction, data_of, zeros, assembled, bytes_of_item, bytes_of_items, immediate_of, instruction_of, item_of, items_of, little_endian, number_of, numbers_of, said}
+use Rattle.asm_text.specs.Meaning.{Item, assembled, bytes_of_item, bytes_of_items, immediate_of, instruction_of, item_of, items_of, little_endian, number_of, numbers_of, said}
 use Rattle.asm_text.specs.Mnemonics.{instruction_with, shape_of}
 use Rattle.asm_text.specs.Reading.{line_of, wanted}
 use Rattle.asm_text.specs.Tokens.{tokens_of}

@@ -1,4 +1,4 @@
-use Rattle.std.proofs.Common.{◌≡◌, ◌+◌, ◌<◌, ◌≤◌, ◌^◌, ◌∙◌, length, get_or, drop, sym, arith, rules}
+use Rattle.std.proofs.Common.{◌≡◌, ◌+◌, ◌<◌, ◌≤◌, ◌^◌, ◌∙◌, length, get_or, sym, arith, rules}
 use Rattle.asm_text.proofs.RangeLaws.{magnitude_read, no_such_name, sum_fits, sum_grown, sum_read, sums_end, within_more}
 use Rattle.asm_text.proofs.meaning.sum_of.Goals as goal
 

@@ -1,0 +1,13 @@
+use Rattle.std.proofs.Common.{length}
+use Rattle.muen_outside.specs.Prints.{AreSame, out_state}
+use Rattle.asm_listing.specs.Source.{source_of}
+use Rattle.asm_listing.proofs.Printing.{IsPrinting}
+use Rattle.asm_listing.proofs.source.put_lines.Given as goal
+
+abbrev pub invariant-loop-rest : goal.invariant-loop-rest
+invariant-loop-rest g l =
+    AreSame l.initial.out l.out
+    × IsPrinting (source_of l.bytes) (source_of l.rest) (out_state g.S.Sink.state l.initial.out) (out_state g.S.Sink.state l.out)
+
+abbrev pub decreases-loop-rest : goal.decreases-loop-rest
+decreases-loop-rest g l = length l.rest

@@ -1,0 +1,240 @@
+//! The text of a chunk, spelled into a buffer: each call writes behind what stands there, and answers
+//! where it ends.
+ghost use Rattle.std.specs.Prelude.{◌≡◌, ◌+◌, ◌*◌, ◌≤◌, ◌∷◌, ◌++◌, [], codes, length, take};
+ghost use Rattle.std.specs.Fmt.{signed_decimal};
+ghost use Rattle.std.specs.List.{flat_map};
+ghost use Rattle.hex.specs.Hex.{encode_lower};
+ghost use Rattle.asm_text.specs.Mnemonics.{mnemonic_text};
+ghost use Rattle.asm_listing.specs.Source.{byte_text, chunk_text, data_text, displacement_text, instruction_in, instruction_text, operands_text, parts_text, register_text, size_text};
+
+use crate::parts::{Parts, parts_of};
+use asm_text::{Mnemonic, Shape};
+use guest_isa::{Instr, decode};
+use itoa::Buffer;
+use muen_num::AccessSize;
+use muen_num::text::{append, append_decimal8, append_decimal32};
+
+// ---- instructions
+
+fn append_register(out: &mut [u8], at: usize, r: u8) -> usize
+    requires { at + 4 ≤ length out.old }
+    ensures end { result ≤ at + 4 }
+    ensures text { take result out.new ≡ take at out.old ++ register_text r }
+{
+    let at = append(out, at, b"r");
+    append_decimal8(out, at, r)
+}
+
+fn append_size(out: &mut [u8], at: usize, size: AccessSize) -> usize
+    requires { at + 7 ≤ length out.old }
+    ensures end { result ≤ at + 7 }
+    ensures text { take result out.new ≡ take at out.old ++ size_text size }
+{
+    match size {
+        AccessSize::One => append(out, at, b"1 byte"),
+        AccessSize::Two => append(out, at, b"2 bytes"),
+        AccessSize::Four => append(out, at, b"4 bytes"),
+        AccessSize::Eight => append(out, at, b"8 bytes"),
+    }
+}
+
+fn append_signed(out: &mut [u8], at: usize, n: i32) -> usize
+    requires { at + 11 ≤ length out.old }
+    ensures end { result ≤ at + 11 }
+    ensures text { take result out.new ≡ take at out.old ++ signed_decimal n }
+{
+    let mut buffer = Buffer::new();
+    append(out, at, buffer.format(n).as_bytes())
+}
+
+fn append_displacement(out: &mut [u8], at: usize, n: i32) -> usize
+    requires { at + 13 ≤ length out.old }
+    ensures end { result ≤ at + 13 }
+    ensures text { take result out.new ≡ take at out.old ++ displacement_text n }
+{
+    if n == 0 {
+        return at;
+    }
+    let sign = if n < 0 { b" - " } else { b" + " };
+    let at = append(out, at, sign);
+    append_decimal32(out, at, n.unsigned_abs())
+}
+
+// `rd, rs`, and what stands before and between them.
+fn append_pair(out: &mut [u8], at: usize, rd: u8, rs: u8) -> usize
+    requires { at + 11 ≤ length out.old }
+    ensures end { result ≤ at + 11 }
+    ensures text { take result out.new ≡ take at out.old ++ (codes " " ++ register_text rd ++ codes ", " ++ register_text rs) }
+{
+    let at = append(out, at, b" ");
+    let at = append_register(out, at, rd);
+    let at = append(out, at, b", ");
+    append_register(out, at, rs)
+}
+
+fn append_immediate(out: &mut [u8], at: usize, rd: u8, imm: i32) -> usize
+    requires { at + 18 ≤ length out.old }
+    ensures end { result ≤ at + 18 }
+    ensures text { take result out.new ≡ take at out.old ++ (codes " " ++ register_text rd ++ codes ", " ++ signed_decimal imm) }
+{
+    let at = append(out, at, b" ");
+    let at = append_register(out, at, rd);
+    let at = append(out, at, b", ");
+    append_signed(out, at, imm)
+}
+
+// `rd, SIZE`, the words behind, and `rs + imm`.
+fn append_access(out: &mut [u8], at: usize, p: &Parts, words: &[u8]) -> usize
+    requires room { at + 40 ≤ length out.old }
+    requires short { length words.now ≤ 9 }
+    ensures end { result ≤ at + 40 }
+    ensures text { take result out.new ≡ take at out.old ++ (codes " " ++ register_text p.now.rd ++ codes ", " ++ size_text p.now.size ++ words.now ++ register_text p.now.rs ++ displacement_text p.now.imm) }
+{
+    let at = append(out, at, b" ");
+    let at = append_register(out, at, p.rd);
+    let at = append(out, at, b", ");
+    let at = append_size(out, at, p.size);
+    let at = append(out, at, words);
+    let at = append_register(out, at, p.rs);
+    append_displacement(out, at, p.imm)
+}
+
+fn append_operands(out: &mut [u8], at: usize, shape: Shape, p: &Parts) -> usize
+    requires { at + 40 ≤ length out.old }
+    ensures end { result ≤ at + 40 }
+    ensures text { take result out.new ≡ take at out.old ++ operands_text shape p.now }
+{
+    match shape {
+        Shape::Alone => at,
+        Shape::Immediate | Shape::JumpIf => append_immediate(out, at, p.rd, p.imm),
+        Shape::Pair => append_pair(out, at, p.rd, p.rs),
+        Shape::Memory => append_access(out, at, p, b" at "),
+        Shape::PortRead => append_access(out, at, p, b" at port "),
+        Shape::PortWrite => append_access(out, at, p, b" to port "),
+        Shape::Destination => {
+            let at = append(out, at, b" ");
+            append_register(out, at, p.rd)
+        }
+        Shape::Source => {
+            let at = append(out, at, b" ");
+            append_register(out, at, p.rs)
+        }
+        Shape::Jump => {
+            let at = append(out, at, b" ");
+            append_signed(out, at, p.imm)
+        }
+        Shape::JumpBelow => {
+            let at = append_pair(out, at, p.rd, p.rs);
+            let at = append(out, at, b", ");
+            append_signed(out, at, p.imm)
+        }
+    }
+}
+
+fn append_parts(out: &mut [u8], at: usize, p: &Parts) -> usize
+    requires { at + 46 ≤ length out.old }
+    ensures end { result ≤ at + 46 }
+    ensures text { take result out.new ≡ take at out.old ++ parts_text p.now }
+{
+    let at = append_mnemonic(out, at, p.mnemonic);
+    append_operands(out, at, p.mnemonic.shape(), p)
+}
+
+fn append_mnemonic(out: &mut [u8], at: usize, mnemonic: Mnemonic) -> usize
+    requires { at + 6 ≤ length out.old }
+    ensures end { result ≤ at + 6 }
+    ensures text { take result out.new ≡ take at out.old ++ mnemonic_text mnemonic }
+{
+    append(out, at, mnemonic.as_str().as_bytes())
+}
+
+#[tactic(auto, unfolding(crate::specs::Source::instruction_text))]
+fn append_instruction(out: &mut [u8], at: usize, i: &Instr) -> usize
+    requires { at + 46 ≤ length out.old }
+    ensures end { result ≤ at + 46 }
+    ensures text { take result out.new ≡ take at out.old ++ instruction_text i.now }
+{
+    append_parts(out, at, &parts_of(i))
+}
+
+// ---- data
+
+// A byte in two digits.
+fn append_digits(out: &mut [u8], at: usize, byte: u8) -> usize
+    requires { at + 2 ≤ length out.old }
+    ensures end { result ≡ at + 2 }
+    ensures text { take result out.new ≡ take at out.old ++ encode_lower (byte ∷ []) }
+{
+    let mut digits = [0u8; 2];
+    let _ = hex::encode_to_slice([byte], &mut digits);
+    append(out, at, &digits)
+}
+
+fn append_byte(out: &mut [u8], at: usize, byte: u8) -> usize
+    requires { at + 4 ≤ length out.old }
+    ensures end { result ≡ at + 4 }
+    ensures text { take result out.new ≡ take at out.old ++ byte_text byte }
+{
+    let at = append(out, at, b"0x");
+    append_digits(out, at, byte)
+}
+
+fn append_next_byte(out: &mut [u8], at: usize, byte: u8) -> usize
+    requires { at + 6 ≤ length out.old }
+    ensures end { result ≡ at + 6 }
+    ensures text { take result out.new ≡ take at out.old ++ (codes ", " ++ byte_text byte) }
+{
+    let at = append(out, at, b", ");
+    append_byte(out, at, byte)
+}
+
+fn append_others(out: &mut [u8], at: usize, bytes: &[u8]) -> usize
+    requires { at + 6 * length bytes.now ≤ length out.old }
+    ensures end { result ≡ at + 6 * length bytes.now }
+    ensures text { take result out.new ≡ take at out.old ++ flat_map (λ b. codes ", " ++ byte_text b) bytes.now }
+{
+    let mut end = at;
+    for byte in bytes {
+        end = append_next_byte(out, end, *byte);
+    }
+    end
+}
+
+#[tactic(auto, unfolding(crate::specs::Source::data_text))]
+fn append_data(out: &mut [u8], at: usize, bytes: &[u8]) -> usize
+    requires { at + 6 + 6 * length bytes.now ≤ length out.old }
+    ensures end { result ≤ at + 6 + 6 * length bytes.now }
+    ensures text { take result out.new ≡ take at out.old ++ data_text bytes.now }
+{
+    match bytes {
+        [] => at,
+        [first, others @ ..] => {
+            let at = append(out, at, b".byte ");
+            let at = append_byte(out, at, *first);
+            append_others(out, at, others)
+        }
+    }
+}
+
+// ---- chunks
+
+// The instruction that a chunk spells, if it spells one.
+fn instruction_in(chunk: &[u8]) -> Option<Instr>
+    ensures { result ≡ instruction_in chunk.now }
+{
+    let bytes = <[u8; 8]>::try_from(chunk).ok()?;
+    decode(bytes)
+}
+
+/// Writes what the source has for a chunk.
+pub(crate) fn append_chunk(out: &mut [u8], at: usize, chunk: &[u8]) -> usize
+    requires short { length chunk.now ≤ 8 }
+    requires room { at + 54 ≤ length out.old }
+    ensures end { result ≤ at + 54 }
+    ensures text { take result out.new ≡ take at out.old ++ chunk_text chunk.now }
+{
+    match instruction_in(chunk) {
+        Some(i) => append_instruction(out, at, &i),
+        None => append_data(out, at, chunk),
+    }
+}
