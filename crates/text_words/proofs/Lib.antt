@@ -1,3 +1,3 @@
 pub mod Digits
 pub mod GroupsInTurn
-pub mod Parts
+pub mod Cuts

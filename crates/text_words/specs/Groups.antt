@@ -1,7 +1,8 @@
 -- Numbers in groups of hexadecimal digits, such as 00ff_ff00.
-use Rattle.std.specs.Prelude.{ℕ, ◌+◌, ◌*◌, ◌^◌, ◌==◌, ◌&&◌, List, length, Bool, Option, Some, None, fold, nat_lt, if◌then◌else◌}
+use Rattle.std.specs.Prelude.{ℕ, ◌+◌, ◌-◌, ◌*◌, ◌^◌, ◌==◌, ◌&&◌, List, length, take, drop, codes, Bool, Option, Some, None, option_and_then, fold, nat_lt, if◌then◌else◌}
 use Rattle.std.specs.Char.{is_digit, digit_value}
 use Rattle.std.specs.List.{concat, list_all, slice_split}
+use Rattle.std.specs.Str.{bytes_eq}
 
 abbrev pub underscore : ℕ
 underscore = 95
@@ -26,3 +27,17 @@ value_of digits = fold with_digit 0 digits
 abbrev pub number_of_groups : List (List ℕ) → Option ℕ
 number_of_groups groups =
     if list_all is_group groups && nat_lt (value_of (concat groups)) (2 ^ 64) then Some (value_of (concat groups)) else None
+
+-- ---- as policies spell them
+
+-- what stands behind `16#`, where a text begins so
+abbrev pub behind_mark : List ℕ → Option (List ℕ)
+behind_mark text = if bytes_eq (take 3 text) (codes "16#") then Some (drop 3 text) else None
+
+-- what stands before `#`, where a text ends so
+abbrev pub before_mark : List ℕ → Option (List ℕ)
+before_mark text = if bytes_eq (drop (length text - 1) text) (codes "#") then Some (take (length text - 1) text) else None
+
+-- `16#`, groups of hexadecimal digits with single underscores between them, and `#`; the number is below 2^64
+abbrev pub based : List ℕ → Option ℕ
+based text = option_and_then (λ middle. number_of_groups (groups_of middle)) (option_and_then before_mark (behind_mark text))

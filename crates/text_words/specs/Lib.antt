@@ -1,3 +1,4 @@
 pub mod Groups
 pub mod Numbers
 pub mod Parts
+pub mod Steps

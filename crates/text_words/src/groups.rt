@@ -1,6 +1,6 @@
 //! The number that groups of hexadecimal digits spell.
 ghost use Rattle.std.specs.Prelude.{◌≡◌};
-ghost use Rattle.text_words.specs.Groups.{groups_of, number_of_groups};
+ghost use Rattle.text_words.specs.Groups.{based, groups_of, number_of_groups};
 
 /// The number below 2^64 that hexadecimal digits of either case spell, with single underscores
 /// between them, such as `00ff_ff00`.
@@ -23,4 +23,11 @@ pub fn grouped(digits: &[u8]) -> Option<u64>
         }
     }
     digit.then_some(n)
+}
+
+/// The number below 2^64 that a text such as `16#00ff_ff00#` spells.
+pub fn based(text: &[u8]) -> Option<u64>
+    ensures { result ≡ based text.now }
+{
+    grouped(text.strip_prefix(b"16#")?.strip_suffix(b"#")?)
 }

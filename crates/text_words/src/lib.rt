@@ -5,6 +5,6 @@ mod groups;
 pub mod number;
 mod parts;
 
-pub use groups::grouped;
+pub use groups::{based, grouped};
 pub use number::{NumberError, decimal};
 pub use parts::{cut, first_line};

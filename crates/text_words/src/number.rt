@@ -42,7 +42,7 @@ fn value(word: &[u8]) -> Option<u64>
 }
 
 /// The number below 2^64 that a word spells in decimal digits, without leading zeros.
-#[tactic(auto, using(crate::proofs::Digits::numbers))]
+#[tactic(auto, unfolding(crate::specs::Numbers::decimal), using(crate::proofs::Digits::numbers))]
 pub fn decimal(word: &[u8]) -> Result<u64, NumberError>
     ensures { result ≡ decimal word.now }
 {

@@ -11,7 +11,7 @@ fn position_of(text: &[u8], byte: u8) -> Option<usize>
 }
 
 /// What stands before the first such byte, and what stands behind it, if there is one.
-#[tactic(auto, using(crate::proofs::Parts::cuts))]
+#[tactic(auto, using(crate::proofs::Cuts::cuts))]
 pub fn cut(text: &[u8], byte: u8) -> (&[u8], Option<&[u8]>)
     ensures parts { parts_of byte text.now ≡ result.0.now ∷ parts_remaining byte result.1 }
     ensures whole { IfNone result.1 (result.0.now ≡ text.now) }
@@ -28,7 +28,7 @@ pub fn cut(text: &[u8], byte: u8) -> (&[u8], Option<&[u8]>)
 }
 
 /// The first line of a text that isn't empty, and the text behind it.
-#[tactic(auto, using(crate::proofs::Parts::first_lines))]
+#[tactic(auto, using(crate::proofs::Cuts::first_lines))]
 pub fn first_line(text: &[u8]) -> (&[u8], &[u8])
     requires { 0 < length text.now }
     ensures lines { lines_of text.now ≡ result.0.now ∷ lines_of result.1.now }
