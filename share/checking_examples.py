@@ -1,11 +1,17 @@
-"""What examples/ and its README promise together: everything has an example, and each line that is quoted is printed."""
+"""What examples/ and the documents on them promise: everything has an example, and what is quoted is printed, or stands in a source."""
 import json
 import re
 
-from checking import EXAMPLES, PROGRAM, TOP, Wrong, call, want
+from checking import EXAMPLES, PROGRAM, TOP, call, want
 from looking.guest import TABLE, decode
 
 RULES = 24
+RECORD = re.compile(r"(\w+\.record)`")
+
+
+def text_of(document):
+    """The text of a document."""
+    return (TOP / document).read_text(encoding="utf-8")
 
 
 def checks():
@@ -15,13 +21,16 @@ def checks():
     yield "an example of each mode, role and right", each_word
     yield "an example of each line of a record", each_input
     yield "a refusal by each rule", each_rule
-    for policy, records, lines in quoted():
-        yield f"the lines of examples/{policy} in its README", lambda policy=policy, records=records, lines=lines: printed(policy, records, lines)
+    yield "parts of sources in documents", excerpts
+    for where, *what in quoted():
+        yield f"the lines of {where}", lambda what=what: printed(*what)
+    for number, step in enumerate(steps(), 1):
+        yield f"step {number} of examples/README.md", lambda step=step: told(*step)
 
 
 def rows():
     """The cells of each row of the tables of examples/README.md whose first one is a policy."""
-    for row in (EXAMPLES / "README.md").read_text(encoding="utf-8").splitlines():
+    for row in text_of("examples/README.md").splitlines():
         cells = [cell.strip() for cell in row.strip("|").split("|")]
         if re.fullmatch(r"`\S+\.json`", cells[0]):
             yield cells
@@ -61,7 +70,7 @@ def all_of(wanted, found, what):
 
 def each_key():
     """Each key of each object of the schema stands in some policy."""
-    kinds = json.loads((TOP / "share" / "policy.schema.json").read_text(encoding="utf-8"))["$defs"]
+    kinds = json.loads(text_of("share/policy.schema.json"))["$defs"]
     found = {(kind, key) for policy in policies() for kind, value in objects(kinds, "System", policy) if isinstance(value, dict) for key in value}
     wanted = {(kind, key) for kind in kinds if kind[0].isupper() for key in kinds[kind]["properties"] if key != "description"}
     all_of(wanted, found, "keys without an example")
@@ -99,24 +108,53 @@ def each_rule():
     all_of(range(1, RULES + 1), found, "rules without a refusal")
 
 
-# ---- what README quotes
+# ---- what documents quote
 
 def quoted():
-    """Of each row of a policy that runs its records, and the lines of a run that it quotes."""
+    """Of each row of a policy that runs, and of each section of a document that quotes runs: policies, records and lines."""
     for policy, *cells in rows():
-        records = re.findall(r"`(\S+\.record)`", cells[0]) or ["twenty_ticks.record"]
-        lines = [line for cell in cells for line in re.findall(r"`((?:\d+ \d|end|regs|region) .*?)`", cell)]
-        if lines and "refused" not in policy:
-            yield policy.strip("`"), records, lines
+        if "refused" not in policy:
+            yield f"examples/{policy[1:-1]} in its README", [policy[1:-1]], RECORD.findall(cells[0]), lines_in(" ".join(cells))
+    for document in ("examples/worked.md", "docs/scheduling.md"):
+        for section in text_of(document).split("\n## ")[1:]:
+            policies = [policy for policy in re.findall(r"(\w+\.json)`", section) if (EXAMPLES / policy).is_file()]
+            yield f"{document}, {section.splitlines()[0]}", policies, RECORD.findall(section), lines_in(section)
 
 
-def printed(policy, records, lines):
-    """Each line is printed with one of the records."""
+def lines_in(text):
+    """The lines of a run in a text: between marks, or on a line of their own."""
+    return re.findall(r"(?m)(?:^|`)((?:\d+ \d|end|regs|region) \w[^`\n]*[^`.\n])(?:`|$)", text)
+
+
+def printed(policies, records, lines):
+    """Each line is printed of one of the policies with one of the records."""
     found = set()
-    for record in records:
-        done = call([PROGRAM, "boot", policy, record])
-        want((done.returncode, done.stderr), (0, b""), "boot")
-        found |= set(done.stdout.decode().splitlines())
-    for line in lines:
-        if line not in found:
-            raise Wrong(f"not printed: {line}")
+    for policy in policies if lines else ():
+        for record in records or ["twenty_ticks.record"]:
+            done = call([PROGRAM, "boot", policy, record])
+            want((done.returncode, done.stderr), (0, b""), f"boot of {policy}")
+            found |= set(done.stdout.decode().splitlines())
+    want([line for line in lines if line not in found], [], "lines that aren't printed")
+
+
+def steps():
+    """Each step of examples/README.md: its command, and the line that it prints."""
+    for step in re.findall(r"(?m)^\d+\. .*$", text_of("examples/README.md")):
+        command, line = re.findall(r"`([^`]*)`", step)[-2:]
+        yield command, line
+
+
+def told(command, line):
+    """The command of a step prints the line."""
+    done = call(["bash", "-c", command])
+    want((done.returncode, line in done.stdout.decode().splitlines()), (0, True), line)
+
+
+def excerpts():
+    """Each block of a document that begins with the name of a source is a part of it."""
+    count = 0
+    for document in sorted(TOP.glob("docs/*.md")):
+        for name, part in re.findall(r"(?ms)^```\n; (\w+/\w+\.asm)\n(.*?)^```", document.read_text(encoding="utf-8")):
+            count += 1
+            want(part in (EXAMPLES / name).read_text(encoding="utf-8"), True, f"{document.name}: the part of {name} is in it")
+    want(count > 0, True, "some document has a part of a source")

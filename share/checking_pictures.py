@@ -596,7 +596,8 @@ def faults():
 # what is stored of an example beside its trace
 FURTHER = {"gateway": ("plan", "matrix", "flows"), "two_subjects": ("plan",), "major_frames": ("plan",), "second_member": ("plan",),
            "private_memory": ("matrix",), "shared_memory": ("flows",), "frame_choice": ("plan",), "device_domains": ("matrix",),
-           "packet_ring": ("flows",), "monitor": ("matrix",)}
+           "packet_ring": ("flows",), "monitor": ("matrix",), "network_in": ("matrix",), "msrs_of_two": ("matrix",),
+           "handover": ("plan",), "two_way_gateway": ("plan", "matrix", "flows")}
 
 
 def pictures_of(name):

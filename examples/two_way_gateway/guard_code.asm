@@ -13,7 +13,7 @@ drop = 0x40_0148                        ; of crypt
         STI
 wait:   HLT
         JMP wait
-.at 0x140                               ; vector 40: the event cleared
+.at 0x140                               ; vector 40: the event clear
         STORE r2, 8 bytes at r1 + pc    ; encrypt goes on there, so its message is never sent
         VMCALL r4                       ; call 2: the event resume hands the CPU back
         VMCALL r3                       ; here it has the CPU again: the next alarm

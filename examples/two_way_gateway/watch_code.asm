@@ -23,5 +23,5 @@ wait:   HLT
 pause:  RDTSC r8
         JB r8, r7, pause
         STORE r0, 1 byte at r1          ; major frame 0
-        VMCALL r4                       ; call 1: the event cleared
+        VMCALL r4                       ; call 1: the event clear
         RETI
