@@ -420,7 +420,8 @@ def granted(document, domain_name):
             for irq in use.get("irqs", []):
                 yield f"{subject['name']} has {irq['irq']} of {device['name']}, vector {irq['vector']}"
         for msrs in subject.get("msrs", []):
-            yield f"{subject['name']} has MSRs {number(msrs['start']):x} to {number(msrs['end']):x}, {msrs['rights']}"
+            start, end = number(msrs["start"]), number(msrs["end"])
+            yield f"{subject['name']} has {f'MSR {start:x}' if start == end else f'MSRs {start:x} to {end:x}'}, {msrs['rights']}"
     for at, domain in enumerate(document.get("deviceDomains", [])):
         for entry in domain.get("memory", []):
             yield (f"{', '.join(sorted(domain['devices']))} in domain {domain_name(at, domain)} sees {entry['region']}"
