@@ -420,7 +420,8 @@ def granted(document, domain_name):
             for irq in use.get("irqs", []):
                 yield f"{subject['name']} has {irq['irq']} of {device['name']}, vector {irq['vector']}"
         for msrs in subject.get("msrs", []):
-            yield f"{subject['name']} has MSRs {number(msrs['start']):x} to {number(msrs['end']):x}, {msrs['rights']}"
+            start, end = number(msrs["start"]), number(msrs["end"])
+            yield f"{subject['name']} has {f'MSR {start:x}' if start == end else f'MSRs {start:x} to {end:x}'}, {msrs['rights']}"
     for at, domain in enumerate(document.get("deviceDomains", [])):
         for entry in domain.get("memory", []):
             yield (f"{', '.join(sorted(domain['devices']))} in domain {domain_name(at, domain)} sees {entry['region']}"
@@ -596,7 +597,8 @@ def faults():
 # what is stored of an example beside its trace
 FURTHER = {"gateway": ("plan", "matrix", "flows"), "two_subjects": ("plan",), "major_frames": ("plan",), "second_member": ("plan",),
            "private_memory": ("matrix",), "shared_memory": ("flows",), "frame_choice": ("plan",), "device_domains": ("matrix",),
-           "packet_ring": ("flows",), "monitor": ("matrix",)}
+           "packet_ring": ("flows",), "monitor": ("matrix",), "network_in": ("matrix",), "msrs_of_two": ("matrix",),
+           "handover": ("plan",), "two_way_gateway": ("plan", "matrix", "flows")}
 
 
 def pictures_of(name):

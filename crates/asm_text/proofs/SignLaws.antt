@@ -1,5 +1,5 @@
 -- What begins with a sign, and what doesn't.
-use Rattle.std.proofs.Common.{◌≡◌, Bool, true, false, List, ℕ, Option, Some, None, Result, Ok, Err, option_map, refl, ap, ◌∙◌, sym}
+use Rattle.std.proofs.Common.{◌≡◌, Bool, true, false, Option, Some, None, option_map, refl, ap, ◌∙◌}
 use Rattle.asm_text.specs.Reading.{integer, integer_with, number, sign_of, signed_number, terms, terms_behind, terms_of}
 use Rattle.asm_text.specs.Shown.{sign_at}
 use Rattle.asm_text.specs.Tokens.{Tokens, end_with, token}

@@ -1,11 +1,10 @@
 -- Terms one after another.
-use Rattle.std.proofs.Common.{◌≡◌, ℕ, ◌+◌, ◌<◌, ◌≤◌, Bool, true, false, List, [], ◌∷◌, ◌++◌, Option, Some, None, Result, Ok, Err, option_map, refl, ap, ◌∙◌, sym, append_assoc, append-nil, arith}
+use Rattle.std.proofs.Common.{◌≡◌, ℕ, Bool, List, [], ◌∷◌, ◌++◌, Option, Some, None, Result, Ok, Err, option_map, refl, ap, ◌∙◌, sym, append_assoc, append-nil}
 use Rattle.text_words.specs.Steps.{◌>>=◌, mapped}
-use Rattle.asm_text.specs.Reading.{atom_of, sign_of, signed_terms, terms_of, wanted, with_signed_term, with_term, without_term}
+use Rattle.asm_text.specs.Reading.{atom_of, sign_of, signed_terms, terms_of, with_signed_term, with_term, without_term}
 use Rattle.asm_text.specs.Shown.{as_term, sign_at, term_of}
 use Rattle.asm_text.specs.Tokens.{Tokens, end_with, token}
 use Rattle.asm_text.specs.declared.fault.LineError.{LineError}
-use Rattle.asm_text.specs.declared.fault.Want.TheVariants.{Term as TermWant}
 use Rattle.asm_text.specs.declared.statement.Atom.{Atom}
 use Rattle.asm_text.specs.declared.statement.Term.{Term}
 

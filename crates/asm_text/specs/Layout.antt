@@ -6,7 +6,7 @@ use Rattle.std.specs.Map.{lookup}
 use Rattle.std.specs.Ordering.{nat_cmp}
 use Rattle.muen_num.specs.AccessSize.{bytes_of}
 use Rattle.muen_num.specs.declared.limits.TheConstants.{COMPONENT_FILE_MOST}
-use Rattle.text_words.specs.Steps.{◌>>=◌, ◌>>◌}
+use Rattle.text_words.specs.Steps.{◌>>=◌}
 use Rattle.asm_text.specs.Reading.{wanted, line_of}
 use Rattle.asm_text.specs.Tokens.{tokens_of}
 use Rattle.asm_text.specs.declared.fault.LineError.{LineError}

@@ -1,5 +1,5 @@
 -- What a line's statement comes to, where each name is known.
-use Rattle.std.specs.Prelude.{ℕ, ℤ, pos, negsuc, neg_ℤ, zero, suc, ◌+ℤ◌, ◌-ℤ◌, ◌+◌, ◌-◌, ◌*◌, ◌^◌, ◌&&◌, Bool, true, false, List, [], ◌∷◌, length, replicate, Option, Some, None, option_map, Result, Ok, Err, int_le, int_lt, if◌then◌else◌}
+use Rattle.std.specs.Prelude.{ℕ, ℤ, pos, negsuc, neg_ℤ, zero, suc, ◌+ℤ◌, ◌-ℤ◌, ◌+◌, ◌-◌, ◌*◌, ◌^◌, ◌&&◌, Bool, true, false, List, [], ◌∷◌, replicate, Option, Some, option_map, Result, Ok, int_le, int_lt, if◌then◌else◌}
 use Rattle.std.specs.Int.{w8, w16, w32, w64, cast_signed, to_le_bytes}
 use Rattle.std.specs.List.{flat_map}
 use Rattle.muen_num.specs.AccessSize.{bytes_of}
@@ -7,9 +7,9 @@ use Rattle.muen_num.specs.declared.access.AccessSize.{AccessSize}
 use Rattle.muen_num.specs.declared.access.AccessSize.TheVariants.{One, Two, Four, Eight}
 use Rattle.guest_isa.specs.GuestIsa.{encoding_of}
 use Rattle.guest_isa.specs.declared.instr.Instr.{Instr}
-use Rattle.text_words.specs.Steps.{◌>>=◌, ◌>>◌}
+use Rattle.text_words.specs.Steps.{◌>>=◌}
 use Rattle.text_words.specs.Parts.{lines_of}
-use Rattle.asm_text.specs.Layout.{Names, meaning_of, Layout, layout_from, at_start, in_line}
+use Rattle.asm_text.specs.Layout.{Names, meaning_of, layout_from, at_start, in_line}
 use Rattle.asm_text.specs.Mnemonics.{instruction_with}
 use Rattle.asm_text.specs.Reading.{ok_or_wanted, wanted}
 use Rattle.asm_text.specs.declared.fault.LineError.{LineError}

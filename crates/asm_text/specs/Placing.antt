@@ -1,5 +1,5 @@
 -- What the calls that lay a source out keep, in the words of the definition.
-use Rattle.std.specs.Prelude.{List, Result, Ok, Err}
+use Rattle.std.specs.Prelude.{Result, Ok, Err}
 use Rattle.asm_text.specs.Layout.{Standing, Layout as Lines}
 use Rattle.asm_text.specs.declared.fault.LineError.{LineError}
 use Rattle.asm_text.specs.declared.fault.SourceFault.{SourceFault}

@@ -1,5 +1,5 @@
 -- What a line of a source says, or its first fault.
-use Rattle.std.specs.Prelude.{ℕ, ◌+◌, ◌==◌, ◌||◌, zero, suc, Bool, true, false, List, [], ◌∷◌, codes, Option, Some, None, Result, Ok, Err, option_map, slice_index, if◌then◌else◌}
+use Rattle.std.specs.Prelude.{ℕ, ◌+◌, zero, suc, Bool, true, false, List, [], ◌∷◌, codes, Option, Some, None, Result, Ok, Err, option_map, slice_index, if◌then◌else◌}
 use Rattle.std.specs.Char.{is_ascii_digit}
 use Rattle.std.specs.Str.{bytes_eq}
 use Rattle.muen_num.specs.declared.access.AccessSize.{AccessSize}
@@ -20,7 +20,6 @@ use Rattle.asm_text.specs.declared.statement.Atom.TheVariants.{Number as NumberA
 use Rattle.asm_text.specs.declared.statement.Term.{Term}
 use Rattle.asm_text.specs.declared.statement.Value.{Value}
 use Rattle.asm_text.specs.declared.statement.Operands.{Operands}
-use Rattle.asm_text.specs.declared.statement.Operation.{Operation}
 use Rattle.asm_text.specs.declared.statement.Integer.{Integer}
 use Rattle.asm_text.specs.declared.statement.Label.{Label}
 use Rattle.asm_text.specs.declared.statement.Statement.{Statement}

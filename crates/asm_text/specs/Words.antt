@@ -1,6 +1,6 @@
 -- What a word spells.
-use Rattle.std.specs.Prelude.{ℕ, ◌^◌, ◌<◌, ◌==◌, ◌&&◌, ◌||◌, Bool, nat_lt, true, List, [], ◌∷◌, take, drop, length, codes, slice_index, Option, Some, None, option_and_then, Result, Ok, Err, if◌then◌else◌}
-use Rattle.std.specs.Char.{is_ascii_alphabetic, is_ascii_digit}
+use Rattle.std.specs.Prelude.{ℕ, ◌==◌, ◌||◌, nat_lt, List, take, drop, length, codes, slice_index, Option, Some, None, option_and_then, Result, Ok, Err, if◌then◌else◌}
+use Rattle.std.specs.Char.{is_ascii_alphabetic}
 use Rattle.std.specs.List.{find}
 use Rattle.std.specs.Str.{bytes_eq}
 use Rattle.muen_num.specs.Naming.{name_of}
@@ -25,7 +25,7 @@ result_ok (Err e) = None
 
 -- `r0` to `r15`
 abbrev pub register_of : List ℕ → Option ℕ
-register_of word = option_and_then (λ digits. option_and_then (below 16) (result_ok (decimal digits))) (behind (codes "r") word)
+register_of word = option_and_then (below 16) (option_and_then (λ digits. result_ok (decimal digits)) (behind (codes "r") word))
 
 -- the first that there is
 abbrev pub or_else : {X : Type 0} → Option X → Option X → Option X

@@ -2,13 +2,12 @@
 ghost use Rattle.std.specs.Prelude.{◌≡◌, ◌++◌, ◌<◌, ◌*◌, ◌^◌, length, OnOk};
 ghost use Rattle.muen_num.specs.AccessSize.{bytes_of};
 ghost use Rattle.muen_num.specs.Answers.{Answers};
-ghost use Rattle.asm_text.specs.Appended.{IsFit, IsFitAt, appended, of_numbers, with_bytes};
-
+ghost use Rattle.asm_text.specs.Appended.{FollowFrom, IsFit, IsFitAt, appended, of_numbers, with_bytes};
 ghost use Rattle.text_words.specs.Steps.{mapped};
-ghost use Rattle.asm_text.specs.Meaning.{assembled, item_of, little_endian, numbers_of};
+ghost use Rattle.asm_text.specs.Meaning.{assembled, bytes_of_items, item_of, items_of, little_endian, numbers_of};
 
 use crate::fault::{LineError, SourceFault};
-use crate::layout::{fault_in, layout_of};
+use crate::layout::{Layout, fault_in, layout_of};
 use crate::meaning::{immediate_of, number_of};
 use crate::mnemonic::instruction_with;
 use crate::statement::{Meaning, Operation, Placed, Statement, Value};
@@ -41,8 +40,10 @@ fn put_numbers(
     ensures { Answers LineError.NoMemory (of_numbers out.old.items size (numbers_of names.now.entries size values.now)) (with_bytes result out.new.items) }
 {
     for value in values {
-        let n = number_of(names, size, value)?;
-        put_number(out, size, n)?;
+        match number_of(names, size, value) {
+            Ok(n) => put_number(out, size, n)?,
+            Err(error) => return Err(error),
+        }
     }
     Ok(())
 }
@@ -84,6 +85,21 @@ fn put_line(
     }
 }
 
+// The bytes of lines that follow one another.
+fn bytes_of(alloc: Global, layout: &Layout) -> Result<Vec<u8>, SourceFault>
+    requires { FollowFrom 0 layout.now.lines }
+    ensures { Answers SourceFault.NoMemory (mapped bytes_of_items (items_of layout.now.names.entries layout.now.lines)) (mapped (λ v. v.items) result) }
+{
+    let mut out = Vec::new(alloc);
+    for line in layout.lines.items() {
+        match put_line(&mut out, &layout.names, line) {
+            Ok(()) => {}
+            Err(error) => return Err(fault_in(line.number, line.end, error)),
+        }
+    }
+    Ok(out)
+}
+
 /// The bytes that a source says: of each instruction its eight, data, and zeros up to an offset; or
 /// the first fault: first of the lines as they are, then of what names stand for. `NoMemory` comes
 /// only where memory was refused. The time grows with the number of bytes, and with the logarithm of
@@ -91,12 +107,8 @@ fn put_line(
 pub fn assemble(alloc: Global, text: &[u8]) -> Result<Vec<u8>, SourceFault>
     ensures { Answers SourceFault.NoMemory (assembled text.now) (mapped (λ v. v.items) result) }
 {
-    let layout = layout_of(alloc, text)?;
-    let mut out = Vec::new(alloc);
-    for line in layout.lines.items() {
-        if let Err(error) = put_line(&mut out, &layout.names, line) {
-            return Err(fault_in(line.number, line.end, error));
-        }
+    match layout_of(alloc, text) {
+        Ok(layout) => bytes_of(alloc, &layout),
+        Err(fault) => Err(fault),
     }
-    Ok(out)
 }

@@ -14,7 +14,6 @@ use std::alloc::Global;
 use std::collections::BTreeMap;
 use text_words::first_line;
 
-
 /// What each name stands for, and where the next line begins.
 #[derive(Drop)]
 pub(crate) struct Names {

@@ -12,4 +12,6 @@ mod tokens;
 mod words;
 
 pub use assembling::assemble;
-pub use fault::{SourceFault, Want};
+pub use fault::{LineError, SourceFault, Want};
+pub use mnemonic::{Mnemonic, Shape};
+pub use words::number_in;

@@ -1,5 +1,6 @@
 //! What a statement comes to, where each name is known.
-ghost use Rattle.std.specs.Prelude.{◌≡◌, ◌≤◌, ◌<◌, ◌^◌, IfOk, IfSome, pos, true};
+ghost use Rattle.std.specs.Prelude.{◌≡◌, ◌≤◌, ◌<◌, ◌*◌, ◌^◌, IfOk, IfSome, pos, true};
+ghost use Rattle.muen_num.specs.AccessSize.{bytes_of};
 ghost use Rattle.asm_text.specs.Meaning.{bits_of, distance_by, fits, fits_signed, immediate_by, if_fits, immediate_of, integer_of, is_jump, is_wide, number_of, residue, signed, sum_of, sum_of_atom, sum_of_meaning};
 ghost use Rattle.asm_text.specs.Ranges.{IsMagnitude, IsSmallSum, IsSum};
 
@@ -220,7 +221,8 @@ pub(crate) fn number_of(
     size: AccessSize,
     value: &Value,
 ) -> Result<u64, LineError>
-    ensures { result ≡ number_of names.now.entries size value.now }
+    ensures value { result ≡ number_of names.now.entries size value.now }
+    ensures within { IfOk result (λ n. n < 2 ^ (8 * bytes_of size)) }
 {
     let sum = sum_of(names, value.terms.items())?;
     let bits = bits_of(size);

@@ -147,15 +147,12 @@ impl Mnemonic {
     }
 
     /// What stands behind it.
-    pub(crate) fn shape(self) -> Shape
+    pub fn shape(self) -> Shape
         ensures { result ≡ shape_of self }
     {
         match self {
-            Mnemonic::Nop
-            | Mnemonic::Hlt
-            | Mnemonic::Sti
-            | Mnemonic::Cli
-            | Mnemonic::Reti => Shape::Alone,
+            Mnemonic::Nop | Mnemonic::Hlt | Mnemonic::Sti | Mnemonic::Cli | Mnemonic::Reti =>
+                Shape::Alone,
             Mnemonic::Li | Mnemonic::Lih => Shape::Immediate,
             Mnemonic::Mov
             | Mnemonic::Add

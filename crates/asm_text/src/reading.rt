@@ -143,10 +143,7 @@ fn sign(line: &[u8]) -> Option<(bool, &[u8])>
 }
 
 // These terms, and then terms with a sign each, as many as there are.
-fn signed_terms<'a>(
-    front: Seq<Term>,
-    line: &'a [u8],
-) -> Result<(Seq<Term>, &'a [u8]), LineError>
+fn signed_terms<'a>(front: Seq<Term>, line: &'a [u8]) -> Result<(Seq<Term>, &'a [u8]), LineError>
     ensures terms { Answers LineError.NoMemory (mapped (λ r. (front ++ r.0, r.1)) (signed_terms (tokens_of line.now))) (told result) }
     ensures within { IfOk result (λ r. length r.1.now ≤ length line.now) }
 {
@@ -165,11 +162,7 @@ fn signed_terms<'a>(
 }
 
 // A term that begins here, and those behind it.
-fn terms_of(
-    alloc: Global,
-    minus: bool,
-    line: &[u8],
-) -> Result<(Seq<Term>, &[u8]), LineError>
+fn terms_of(alloc: Global, minus: bool, line: &[u8]) -> Result<(Seq<Term>, &[u8]), LineError>
     ensures terms { Answers LineError.NoMemory (terms_of minus (tokens_of line.now)) (told result) }
     ensures within { IfOk result (λ r. length r.1.now ≤ length line.now) }
 {
@@ -511,12 +504,7 @@ fn definition(left: usize, word: &[u8], line: &[u8]) -> Result<Statement, LineEr
 }
 
 // What a word begins.
-fn worded(
-    alloc: Global,
-    left: usize,
-    word: &[u8],
-    line: &[u8],
-) -> Result<Statement, LineError>
+fn worded(alloc: Global, left: usize, word: &[u8], line: &[u8]) -> Result<Statement, LineError>
     ensures { Answers LineError.NoMemory (worded left word.now (tokens_of line.now)) result }
 {
     if word == b".at".as_slice() {

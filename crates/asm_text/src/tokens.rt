@@ -84,11 +84,7 @@ fn token_size(c: u8, behind: &[u8]) -> usize
     ensures size { result ≡ (if is_mark c then 1 else suc (word_size behind.now)) }
     ensures within { result ≤ 1 + length behind.now }
 {
-    if is_mark(c) {
-        1
-    } else {
-        1 + word_size(behind)
-    }
+    if is_mark(c) { 1 } else { 1 + word_size(behind) }
 }
 
 /// What comes next in what is left of a line.

@@ -7,7 +7,6 @@ use crate::statement::Atom;
 use muen_num::{AccessSize, Name};
 use text_words::{based, decimal, grouped};
 
-
 /// `r0` to `r15`.
 pub(crate) fn register_of(word: &[u8]) -> Option<u8>
     ensures { result ≡ register_of word.now }
@@ -19,7 +18,7 @@ pub(crate) fn register_of(word: &[u8]) -> Option<u8>
 }
 
 /// A number below 2^64: decimal without a leading zero, or as `0x3f_fef0` or `16#3f_fef0#`.
-pub(crate) fn number_in(word: &[u8]) -> Option<u64>
+pub fn number_in(word: &[u8]) -> Option<u64>
     ensures { result ≡ number_in word.now }
 {
     if let Some(digits) = word.strip_prefix(b"0x") {

@@ -1,7 +1,8 @@
 -- What a command answers to the bytes of its file.
 use Rattle.std.specs.Prelude.{ℕ, List, ◌++◌, codes, Result, Ok, Err}
 use Rattle.hex.specs.Hex.{encode_lower}
-use Rattle.asm_listing.specs.Listing.{listing_of, source_of}
+use Rattle.asm_listing.specs.Listing.{listing_of}
+use Rattle.asm_listing.specs.Source.{source_of}
 use Rattle.asm_text.specs.Meaning.{assembled}
 use Rattle.asm_text.specs.declared.fault.SourceFault.{SourceFault}
 use Rattle.asm_top.specs.Commands.{Command, hex, lines, bin, text}

@@ -1,7 +1,7 @@
 -- What a call does: it looks at one file, and does what the words are answered to what it has.
 use Rattle.std.specs.Prelude.{◌≡◌, ◌⊎◌, ℕ, List, [], ◌∷◌, ◌++◌, Option, Some, None, Result, Ok, Err, codes, decimal}
 use Rattle.muen_outside.specs.Puts.{Appended, Failed}
-use Rattle.muen_outside.specs.States.{History, SinkState, look, looked, went, write}
+use Rattle.muen_outside.specs.States.{History, SinkState, look, looked, write, written}
 use Rattle.muen_outside.specs.Store.{Reading, whole, absent, long}
 use Rattle.muen_outside.specs.declared.files.FileError.{FileError}
 use Rattle.muen_outside.specs.declared.files.FileError.TheVariants.{Failed as ReadFailed, NoMemory as ReadMemory}
@@ -44,20 +44,20 @@ pub record Ends : Type 0 where
 
 -- nothing is put on the output, and there is one line that tells why
 pub record Stops (e : Ends) (status : Status) (text : List ℕ) : Type 0 where
-  pub status : e.status ≡ status
-  pub out : e.out' ≡ e.out
+  pub ended : e.status ≡ status
+  pub quiet : e.out' ≡ e.out
   pub told : Told text e.err e.err'
 
 -- the text is put, and no line
 pub record PutsAll (e : Ends) (text : List ℕ) : Type 0 where
-  pub status : e.status ≡ statuses.Done
-  pub out : Appended text e.out e.out'
-  pub err : e.err' ≡ e.err
+  pub ended : e.status ≡ statuses.Done
+  pub put : Appended text e.out e.out'
+  pub quiet : e.err' ≡ e.err
 
 -- a front of the text is put, and the sink has failed
 pub record PutsFront (e : Ends) (text : List ℕ) : Type 0 where
-  pub status : e.status ≡ statuses.OutputFault
-  pub out : Failed text e.out e.out'
+  pub ended : e.status ≡ statuses.OutputFault
+  pub put : Failed text e.out e.out'
   pub told : Told (codes "output fault") e.err e.err'
 
 abbrev pub no_memory_text : List ℕ
@@ -73,7 +73,7 @@ WriteEnds e (Err ReadMemory) = Stops e statuses.NoMemory no_memory_text
 abbrev pub Does : Ends → History → Answer → Type 0
 Does e seen (prints text) = (e.after ≡ seen) × (PutsAll e text ⊎ PutsFront e text)
 Does e seen (writes name bytes) =
-    (end : Result (Unit {0}) FileError) × (e.after ≡ went seen [] (write name bytes end ∷ [])) × WriteEnds e end
+    (end : Result (Unit {0}) FileError) × (e.after ≡ written seen (write name bytes end ∷ [])) × WriteEnds e end
 Does e seen (refuses fault) = (e.after ≡ seen) × Stops e statuses.SourceRefused (source_fault_text fault)
 
 -- .. or memory was refused, and nothing is done

@@ -39,12 +39,8 @@ fn usage() -> &'static str
 }
 
 // The text of an error in pieces.
-fn pieces<'a>(
-    error: CommandError<'a>,
-    one: &'a mut Buffer,
-    two: &'a mut Buffer,
-) -> Pieces<'a>
-    ensures { whole result ≡ error_text error }
+fn pieces<'a>(error: CommandError<'a>, one: &'a mut Buffer, two: &'a mut Buffer) -> Pieces<'a>
+    ensures { whole result ≡ error_text error.entry }
 {
     match error {
         CommandError::Usage => usage().into(),
@@ -70,7 +66,7 @@ fn put_line<S: Sink>(text: &Pieces<'_>, err: &mut S) -> Result<(), SinkFault>
 
 /// Puts the line of how a command ended; none where it is done.
 pub(crate) fn report<S: Sink>(outcome: Result<(), CommandError<'_>>, err: &mut S)
-    ensures { Reported (S.state err.old) (S.state err.new) outcome }
+    ensures { Reported (S.state err.old) (S.state err.new) outcome.entry }
 {
     if let Err(error) = outcome {
         let mut one = Buffer::new();
@@ -81,7 +77,7 @@ pub(crate) fn report<S: Sink>(outcome: Result<(), CommandError<'_>>, err: &mut S
 
 /// The status of how a command ended.
 pub(crate) fn status(outcome: Result<(), CommandError<'_>>) -> Status
-    ensures { result ≡ status_of outcome }
+    ensures { result ≡ status_of outcome.entry }
 {
     match outcome {
         Ok(()) => Status::Done,

@@ -1,5 +1,15 @@
 //! The commands: a file is read, and what follows from it is put or written.
-ghost use Rattle.std.specs.Prelude.{◌≡◌, map, string_bytes};
+ghost use Rattle.std.specs.Prelude.{◌≡◌, ◌∷◌, [], IfErr, IfOk, IfSome, Ok, Some, map, string_bytes};
+ghost use Rattle.asm_listing.specs.Listing.{listing_of};
+ghost use Rattle.asm_listing.specs.Source.{source_of};
+ghost use Rattle.muen_outside.specs.Looks.{HeldAfter, ShowAll, looks_since, writes_since};
+ghost use Rattle.muen_outside.specs.States.{SinkState};
+ghost use Rattle.muen_outside.specs.Store.{whole};
+ghost use Rattle.asm_top.specs.Answers.{hex_text};
+ghost use Rattle.asm_top.specs.Calls.{IsCall};
+ghost use Rattle.asm_top.specs.Commands.{bin, command_of, hex, lines, text};
+ghost use Rattle.asm_top.specs.Outcomes.{ComesOf, ComesTo, PutsTo, WritesTo};
+ghost use Rattle.asm_top.specs.Reads.{NotAssembled, NotRead, Saw, SawSource};
 
 use crate::command::Command;
 use crate::limits::SOURCE_MOST;
@@ -7,10 +17,10 @@ use crate::report::{CommandError, report, status};
 use crate::status::Status;
 use asm_listing::{put_listing, put_source};
 use asm_text::{SourceFault, assemble};
+use muen_num::Seq;
 use muen_num::limits::COMPONENT_FILE_MOST;
-use muen_num::{NoMemory, Seq};
 use muen_outside::{Buffer, FileError, Files, Found, Sink, SinkFault, put_pieces};
-use std::alloc::{AllocError, Global};
+use std::alloc::Global;
 
 // The bytes of a file, in one look.
 fn read<'a, F: Files>(
@@ -18,7 +28,11 @@ fn read<'a, F: Files>(
     name: &'a str,
     most: usize,
     files: &mut F,
-) -> Result<Seq<u8>, CommandError<'a>> {
+) -> Result<Seq<u8>, CommandError<'a>>
+    ensures ok { IfOk result (λ bytes. Saw name.now most (Ok (whole bytes)) (F.held files.old) (F.history files.old) (F.history files.new)) }
+    ensures err { IfErr result (NotRead name.now most (F.held files.old) (F.history files.old) (F.history files.new)) }
+    ensures held { F.held files.new ≡ F.held files.old }
+{
     match files.read(alloc, name, most) {
         Ok(Found::Bytes(bytes)) => Ok(bytes),
         Ok(Found::Missing) => Err(CommandError::Missing(name)),
@@ -29,11 +43,15 @@ fn read<'a, F: Files>(
 }
 
 // The bytes that the source of this file says.
-fn assembled<'a, F: Files>(
+fn read_source<'a, F: Files>(
     alloc: Global,
     source: &'a str,
     files: &mut F,
-) -> Result<Vec<u8>, CommandError<'a>> {
+) -> Result<Vec<u8>, CommandError<'a>>
+    ensures ok { IfOk result (λ v. SawSource source.now (F.held files.old) (F.history files.old) (F.history files.new) (Ok v.items)) }
+    ensures err { IfErr result (NotAssembled source.now (F.held files.old) (F.history files.old) (F.history files.new)) }
+    ensures held { F.held files.new ≡ F.held files.old }
+{
     let text = read(alloc, source, SOURCE_MOST, files)?;
     match assemble(alloc, text.items()) {
         Ok(bytes) => Ok(bytes),
@@ -42,81 +60,143 @@ fn assembled<'a, F: Files>(
     }
 }
 
-// What a put has come to.
-fn put<'a>(end: Result<(), SinkFault>) -> Result<(), CommandError<'a>> {
-    match end {
+// Puts the bytes in hexadecimal digits, and a line feed behind them.
+fn put_hex<'a, S: Sink>(alloc: Global, bytes: &[u8], out: &mut S) -> Result<(), CommandError<'a>>
+    ensures { PutsTo (hex_text bytes.now) (S.state out.old) (S.state out.new) result }
+{
+    let Ok(digits) = hex::encode(alloc, bytes) else {
+        return Err(CommandError::NoMemory);
+    };
+    match put_pieces(&[digits.as_str(), "\n"], out) {
         Ok(()) => Ok(()),
         Err(SinkFault) => Err(CommandError::OutputFault),
     }
 }
 
-fn hex<'a, F: Files, S: Sink>(
+// Puts the bytes as a listing, with addresses from this one on.
+fn put_lines<'a, S: Sink>(
     alloc: Global,
-    source: &'a str,
-    files: &mut F,
-    out: &mut S,
-) -> Result<(), CommandError<'a>> {
-    let bytes = assembled(alloc, source, files)?;
-    match hex::encode(alloc, &bytes) {
-        Ok(digits) => put(put_pieces(&[digits.as_str(), "\n"], out)),
-        Err(_) => Err(CommandError::NoMemory),
-    }
-}
-
-fn lines<'a, F: Files, S: Sink>(
-    alloc: Global,
-    source: &'a str,
     base: u64,
-    files: &mut F,
+    bytes: &[u8],
     out: &mut S,
-) -> Result<(), CommandError<'a>> {
-    let bytes = assembled(alloc, source, files)?;
-    match Buffer::make(alloc) {
-        Ok(mut buffer) => put(put_listing(base, &bytes, &mut buffer, out)),
-        Err(_) => Err(CommandError::NoMemory),
+) -> Result<(), CommandError<'a>>
+    ensures { PutsTo (listing_of base bytes.now) (S.state out.old) (S.state out.new) result }
+{
+    let Ok(mut buffer) = Buffer::make(alloc) else {
+        return Err(CommandError::NoMemory);
+    };
+    match put_listing(base, bytes, &mut buffer, out) {
+        Ok(()) => Ok(()),
+        Err(SinkFault) => Err(CommandError::OutputFault),
     }
 }
 
-fn bin<'a, F: Files>(
+// Puts a source of the bytes.
+fn put_text<'a, S: Sink>(alloc: Global, bytes: &[u8], out: &mut S) -> Result<(), CommandError<'a>>
+    ensures { PutsTo (source_of bytes.now) (S.state out.old) (S.state out.new) result }
+{
+    let Ok(mut buffer) = Buffer::make(alloc) else {
+        return Err(CommandError::NoMemory);
+    };
+    match put_source(bytes, &mut buffer, out) {
+        Ok(()) => Ok(()),
+        Err(SinkFault) => Err(CommandError::OutputFault),
+    }
+}
+
+// Puts the bytes under this name.
+fn write_bytes<'a, F: Files>(
     alloc: Global,
-    source: &'a str,
-    file: &'a str,
+    name: &str,
+    bytes: &[u8],
     files: &mut F,
-) -> Result<(), CommandError<'a>> {
-    let bytes = assembled(alloc, source, files)?;
-    match files.write(alloc, file, &bytes) {
+) -> Result<(), CommandError<'a>>
+    ensures { WritesTo name.now bytes.now (F.held files.old) (F.held files.new) (F.history files.old) (F.history files.new) result }
+{
+    match files.write(alloc, name, bytes) {
         Ok(()) => Ok(()),
         Err(FileError::Failed) => Err(CommandError::FileFault),
         Err(FileError::NoMemory) => Err(CommandError::NoMemory),
     }
 }
 
-fn text<'a, F: Files, S: Sink>(
+// Prints a source's bytes in hexadecimal digits.
+fn print_hex<'a, F: Files, S: Sink>(
+    alloc: Global,
+    source: &'a str,
+    files: &mut F,
+    out: &mut S,
+) -> Result<(), CommandError<'a>>
+    ensures { ComesTo (hex source.now) (F.held files.old) (F.held files.new) (F.history files.old) (F.history files.new) (S.state out.old) (S.state out.new) result }
+{
+    match read_source(alloc, source, files) {
+        Ok(bytes) => put_hex(alloc, &bytes, out),
+        Err(error) => Err(error),
+    }
+}
+
+// Prints a source's bytes as a listing, with addresses from this one on.
+fn print_lines<'a, F: Files, S: Sink>(
+    alloc: Global,
+    source: &'a str,
+    base: u64,
+    files: &mut F,
+    out: &mut S,
+) -> Result<(), CommandError<'a>>
+    ensures { ComesTo (lines source.now base) (F.held files.old) (F.held files.new) (F.history files.old) (F.history files.new) (S.state out.old) (S.state out.new) result }
+{
+    match read_source(alloc, source, files) {
+        Ok(bytes) => put_lines(alloc, base, &bytes, out),
+        Err(error) => Err(error),
+    }
+}
+
+// Writes a source's bytes under a file's name.
+fn write_bin<'a, F: Files>(
+    alloc: Global,
+    source: &'a str,
+    file: &'a str,
+    files: &mut F,
+) -> Result<(), CommandError<'a>>
+    ensures { (out : SinkState) → ComesTo (bin source.now file.now) (F.held files.old) (F.held files.new) (F.history files.old) (F.history files.new) out out result }
+{
+    match read_source(alloc, source, files) {
+        Ok(bytes) => write_bytes(alloc, file, &bytes, files),
+        Err(error) => Err(error),
+    }
+}
+
+// Prints a source of a file's bytes.
+fn print_text<'a, F: Files, S: Sink>(
     alloc: Global,
     file: &'a str,
     files: &mut F,
     out: &mut S,
-) -> Result<(), CommandError<'a>> {
-    let bytes = read(alloc, file, COMPONENT_FILE_MOST, files)?;
-    match Buffer::make(alloc) {
-        Ok(mut buffer) => put(put_source(bytes.items(), &mut buffer, out)),
-        Err(_) => Err(CommandError::NoMemory),
+) -> Result<(), CommandError<'a>>
+    ensures { ComesTo (text file.now) (F.held files.old) (F.held files.new) (F.history files.old) (F.history files.new) (S.state out.old) (S.state out.new) result }
+{
+    match read(alloc, file, COMPONENT_FILE_MOST, files) {
+        Ok(bytes) => put_text(alloc, bytes.items(), out),
+        Err(error) => Err(error),
     }
 }
 
 // Does what the words ask for.
+#[tactic(auto, using(crate::proofs::Ending::command_as))]
 fn work<'a, F: Files, S: Sink>(
     alloc: Global,
     words: &'a [String],
     files: &mut F,
     out: &mut S,
-) -> Result<(), CommandError<'a>> {
+) -> Result<(), CommandError<'a>>
+    ensures { ComesOf (command_of (map string_bytes words.now)) (F.held files.old) (F.held files.new) (F.history files.old) (F.history files.new) (S.state out.old) (S.state out.new) result }
+{
     match Command::parse(words) {
         Command::Usage => Err(CommandError::Usage),
-        Command::Hex(source) => hex(alloc, source, files, out),
-        Command::Lines { source, base } => lines(alloc, source, base, files, out),
-        Command::Bin { source, file } => bin(alloc, source, file, files),
-        Command::Text(file) => text(alloc, file, files, out),
+        Command::Hex(source) => print_hex(alloc, source, files, out),
+        Command::Lines { source, base } => print_lines(alloc, source, base, files, out),
+        Command::Bin { source, file } => write_bin(alloc, source, file, files),
+        Command::Text(file) => print_text(alloc, file, files, out),
     }
 }
 
@@ -127,7 +207,11 @@ pub(crate) fn call<F: Files, S: Sink, E: Sink>(
     files: &mut F,
     out: &mut S,
     err: &mut E,
-) -> Status {
+) -> Status
+    ensures call { IsCall (map string_bytes words.now) (record { before = F.history files.old; after = F.history files.new; out = S.state out.old; out' = S.state out.new; err = E.state err.old; err' = E.state err.new; status = result }) }
+    ensures agrees { IfSome (F.held files.old) (λ m. ShowAll m (looks_since (F.history files.old) (F.history files.new))) }
+    ensures held { HeldAfter (writes_since (F.history files.old) (F.history files.new)) (F.held files.old) (F.held files.new) }
+{
     let outcome = work(alloc, words, files, out);
     report(outcome, err);
     status(outcome)

@@ -6,7 +6,7 @@ use Rattle.std.specs.List.{flat_map, list_all, list_any, onto_first}
 use Rattle.std.proofs.lemmas.Bool.{and_from, and_parts}
 use Rattle.std.proofs.lemmas.Bool.Decides.{nat_tests}
 use Rattle.std.proofs.lemmas.List.Folds.{list_all-append}
-use Rattle.record_text.proofs.Parts.{lines_then}
+use Rattle.record_text.proofs.Cuts.{lines_then}
 use Rattle.record_text.specs.Reading.{all_ascii}
 use Rattle.record_text.specs.declared.fault.RecordFault.TheVariants.{NotAscii}
 use Rattle.record_text.specs.Parts.{lines_of, parts_of}

@@ -1,8 +1,8 @@
 -- What `boot` prints of the files that are generated of a number.
-use Rattle.std.proofs.Common.{◌≡◌, ℕ, ◌+◌, ◌*◌, ◌<◌, ◌%◌, Bool, true, false, List, [], ◌∷◌, ◌++◌, map, length, Option, Some, None, Result, Ok, Err, refl, sym, ap, subst, ◌∙◌, inl, inr, zero, suc, true≢false, arith}
+use Rattle.std.proofs.Common.{◌≡◌, ℕ, ◌+◌, ◌*◌, ◌<◌, ◌%◌, Bool, true, false, List, [], ◌∷◌, ◌++◌, map, length, Option, Some, None, refl, sym, ap, subst, ◌∙◌, inl, inr, zero, suc, true≢false, arith}
 use Rattle.std.specs.Prelude.{◌&&◌, codes, decimal, nat_lt, if◌then◌else◌}
 use Rattle.std.specs.FinMap.{get}
-use Rattle.std.specs.List.{find, flat_map, list_all}
+use Rattle.std.specs.List.{find, list_all}
 use Rattle.std.specs.Option.{option_map_or}
 use Rattle.std.proofs.lemmas.Bool.{cases_Bool}
 use Rattle.std.proofs.lemmas.List.{length-map}
@@ -19,7 +19,7 @@ use Rattle.muen_outside.proofs.HeldMap.{get-stored}
 use Rattle.muen_outside.specs.MemFiles.{Shelf, store_of}
 use Rattle.muen_outside.specs.MemSink.{Filling, sink_of}
 use Rattle.muen_outside.specs.States.{History, SinkState, Write}
-use Rattle.muen_outside.specs.Store.{Store, Reading, absent, long, reading_of, whole}
+use Rattle.muen_outside.specs.Store.{Store, long, reading_of, whole}
 use Rattle.policy_lawful.specs.Contents.{Held, content_bytes, initial_bytes, no_files}
 use Rattle.policy_lawful.specs.Lawful.{kept_or}
 use Rattle.policy_lawful.specs.Thing.{Item, Thing, device_items, item_of, items_of, placed_items, same_thing, state, things_of}

@@ -43,7 +43,7 @@ pub(crate) enum Command<'a> {
 }
 
 // The number below 2^16 that a word spells in decimal digits, without leading zeros.
-#[tactic(auto, using(crate::proofs::Numbers::loads))]
+#[tactic(auto, using(crate::proofs::Numbers::no_load))]
 fn load_number(word: &str) -> Option<u16>
     ensures { result ≡ load_number word.now }
 {

@@ -1,6 +1,6 @@
 -- Rule 4: blocks and the memory of devices are ranges of physical memory, regions have their sizes, alignments and
 -- addresses, channels are whole pages, and windows and what components provide are ranges of guest addresses.
-use Rattle.std.proofs.Common.{◌≡◌, ℕ, ◌+◌, ◌%◌, ◌<◌, ◌≤◌, Bool, true, Option, Some, None}
+use Rattle.std.proofs.Common.{◌≡◌, ◌+◌, ◌%◌, ◌<◌, ◌≤◌, Bool, true, Option, Some, None}
 use Rattle.std.specs.Prelude.{◌&&◌, nat_le, nat_lt}
 use Rattle.std.specs.List.{list_all}
 use Rattle.std.specs.Str.{bytes_eq}

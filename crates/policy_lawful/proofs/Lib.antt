@@ -20,6 +20,7 @@ pub mod KeptVectors
 pub mod KeptViews
 pub mod Mapped
 pub mod NameSets
+pub mod NamesIndexed
 pub mod Naming
 pub mod Offences
 pub mod Positions

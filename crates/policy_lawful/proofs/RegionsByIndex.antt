@@ -20,7 +20,7 @@ use Rattle.policy_lawful.proofs.UniqueNames.{unique}
 use Rattle.policy_lawful.specs.Thing.{region, same_thing}
 use Rattle.policy_types.specs.Rights.{allows}
 use Rattle.policy_types.specs.declared.source.Region.{Region}
-use Rattle.policy_lawful.specs.Views.{is_on_region, thing_shown, view, view_window, views_of}
+use Rattle.policy_lawful.specs.Views.{is_on_region, thing_shown, view_window, views_of}
 use Rattle.policy_lawful.specs.declared.view.Shown.{Shown}
 use Rattle.policy_lawful.specs.declared.view.Shown.TheVariants.{Memory, Channel, Provided as Given, Device, State}
 use Rattle.policy_lawful.specs.declared.view.View.{View}

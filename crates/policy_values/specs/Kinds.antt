@@ -16,7 +16,7 @@ use Rattle.policy_types.specs.declared.rights.Caching.{Caching}
 use Rattle.policy_types.specs.declared.rights.Caching.TheVariants.{Uc, Wc, Wt, Wp, Wb}
 use Rattle.policy_types.specs.declared.rights.Role.{Role}
 use Rattle.policy_types.specs.declared.rights.Role.TheVariants.{Writer, Reader}
-use Rattle.policy_values.specs.Based.{based}
+use Rattle.text_words.specs.Groups.{based}
 
 -- a natural number below 2^64: a JSON number, or a text such as 16#ff_ff#
 abbrev pub number_of : Data → Option ℕ

@@ -1,2 +1,1 @@
-pub mod Based
 pub mod Kinds

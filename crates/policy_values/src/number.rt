@@ -1,18 +1,10 @@
 //! Numbers: of JSON, or as texts with digits of base 16.
 ghost use Rattle.std.specs.Prelude.{◌≡◌};
 ghost use Rattle.serde_json.specs.View.{view};
-ghost use Rattle.policy_values.specs.Based.{based};
 ghost use Rattle.policy_values.specs.Kinds.{byte_of, number_of};
 
 use serde_json::Value;
-use text_words::grouped;
-
-// A number such as `16#00ff_ff00#`.
-fn read_based(text: &[u8]) -> Option<u64>
-    ensures { result ≡ based text.now }
-{
-    grouped(text.strip_prefix(b"16#")?.strip_suffix(b"#")?)
-}
+use text_words::based;
 
 /// The number below 2^64 that a value is: a JSON number of digits alone, or a text such as
 /// `16#00ff_ff00#`.
@@ -21,7 +13,7 @@ pub fn number_of(value: &Value) -> Option<u64>
 {
     match value {
         Value::Number(n) => n.as_u64(),
-        Value::String(text) => read_based(text.as_bytes()),
+        Value::String(text) => based(text.as_bytes()),
         _ => None,
     }
 }

@@ -1,13 +1,10 @@
 -- What a record that was read holds, in names.
-use Rattle.std.proofs.Common.{◌≡◌, ℕ, suc, ◌+◌, ◌*◌, ◌<◌, ◌≤◌, ◌^◌, Bool, true, false, List, [], ◌∷◌, length, Result, Ok, Err, ap, subst, inl, inr, arith}
-use Rattle.std.specs.Prelude.{◌&&◌, nat_le, codes, if◌then◌else◌}
+use Rattle.std.proofs.Common.{◌≡◌, ℕ, ◌+◌, ◌<◌, ◌≤◌, ◌^◌, Bool, true, false, List, [], ◌∷◌, Result, Ok, Err, ap, subst, inl, inr, arith}
+use Rattle.std.specs.Prelude.{codes, if◌then◌else◌}
 use Rattle.std.specs.List.{All, AllByRecursion}
 use Rattle.std.specs.Str.{bytes_eq}
 use Rattle.std.proofs.lemmas.Bool.{cases_Bool}
 use Rattle.std.proofs.lemmas.List.Elements.{All-from_recursion}
-use Rattle.hex.specs.Hex.{IsBytes, decode_of}
-use Rattle.hex.specs.declared.error.FromHexError.{FromHexError}
-use Rattle.hex.proofs.HexLemmas.{decode_of-ok}
 use Rattle.muen_num.specs.declared.limits.TheConstants.{GUEST_END, LAST_PORT, MOST_TICKS}
 use Rattle.record_text.specs.Bench.{Bench, is_known}
 use Rattle.record_text.specs.DeviceRecord.{DeviceRecord, NamedInput, port_input, memory_input, irq_input, dma_input}
@@ -16,12 +13,10 @@ use Rattle.record_text.specs.Parts.{lines_of}
 use Rattle.record_text.specs.Reading.{Standing, all_ascii, at_start, entry_at, in_line, names_known, not_after_end, not_back, nothing_until, order_fits, record_after, record_of, standing_after, with_entry}
 use Rattle.record_text.specs.Steps.{◌>>=◌}
 use Rattle.record_text.specs.Table.{Entry, input_entry, order_entry, end_entry, as_many, cpu_numbers, dma_line, end_line, entry_tick, first_word, five, four, irq_line, kind_of, mem_line, one, order_line, port_line, read_words, three}
-use Rattle.record_text.specs.Words.{hex_bytes, number_below, or_hex, tick_of, words_of}
+use Rattle.record_text.specs.Words.{hex_bytes, number_below, tick_of, words_of}
 use Rattle.record_text.specs.declared.fault.LineWant.{LineWant}
-use Rattle.record_text.specs.declared.fault.LineWant.TheVariants.{Hex}
 use Rattle.record_text.specs.declared.fault.RecordFault.TheVariants.{NoEnd}
-use Rattle.record_text.specs.declared.record.TheConstants.{INPUT_MOST}
-use Rattle.record_text.proofs.Rules.{IsFew, IsRuled, entry_at-Ok, hex_bytes-Ok, number_below-Ok, passed, then_ok}
+use Rattle.record_text.proofs.Rules.{IsFew, IsRuled, entry_at-Ok, hex_bytes-Ok, hex_bytes-within, number_below-Ok, passed, then_ok}
 use Rattle.guest_isa.specs.Words.{IsByte}
 
 -- ---- what is read are bytes, and of those that a device writes by itself there are a few
@@ -36,27 +31,6 @@ abbrev IsSmallEntry : Entry → Type 0
 IsSmallEntry (input_entry tick input) = IsSmall input
 IsSmallEntry (order_entry tick order) = Unit {0}
 IsSmallEntry (end_entry tick) = Unit {0}
-
-all_bytes : (xs : List ℕ) → IsBytes xs → All IsByte xs
-all_bytes xs h = All-from_recursion IsByte xs (each xs h)
-  where
-    each : (xs : List ℕ) → IsBytes xs → AllByRecursion IsByte xs
-    each [] h = tt
-    each (x ∷ xs) h = (h 0, each xs (λ k. h (suc k)))
-
-or_hex-Ok : (r : Result (List ℕ) FromHexError) (bytes : List ℕ) → or_hex r ≡ Ok bytes → r ≡ Ok bytes
-or_hex-Ok (Ok x) bytes h = let same : x ≡ bytes = cc in ap (λ x. Ok x) same
-or_hex-Ok (Err e) bytes h = cc
-
-hex_if : (b : Bool) (r : Result (List ℕ) LineWant) (bytes : List ℕ) → (if b then r else Err Hex) ≡ Ok bytes → r ≡ Ok bytes
-hex_if true r bytes h = h
-hex_if false r bytes h = cc
-
-hex_small : (word bytes : List ℕ) → hex_bytes word ≡ Ok bytes → All IsByte bytes
-unfolding hex_bytes
-hex_small word bytes h =
-    let read = hex_if (nat_le 2 (length word) && nat_le (length word) (2 * INPUT_MOST)) (or_hex (decode_of word)) bytes h in
-    all_bytes bytes (decode_of-ok word bytes (or_hex-Ok (decode_of word) bytes read)).3
 
 order_line_small : (cpus : ℕ) (words : List (List ℕ)) (e : Entry) → order_line cpus words ≡ Ok e → IsSmallEntry e
 unfolding order_line
@@ -87,7 +61,7 @@ mem_line_small words e h =
     let o = then_ok (number_below (2 ^ 64) w.0.3) _ e t.2 in
     let b = then_ok (hex_bytes w.0.4) (λ bytes. Ok (input_entry t.0 (memory_input w.0.1 w.0.2 o.0 bytes))) e o.2 in
     let made : input_entry t.0 (memory_input w.0.1 w.0.2 o.0 b.0) ≡ e = cc (b.2) in
-    rw (← made) (hex_small w.0.4 b.0 b.1)
+    rw (← made) (hex_bytes-within w.0.4 b.0 b.1)
 
 irq_line_small : (words : List (List ℕ)) (e : Entry) → irq_line words ≡ Ok e → IsSmallEntry e
 unfolding irq_line
@@ -105,7 +79,7 @@ dma_line_small words e h =
     let a = then_ok (number_below GUEST_END w.0.2) _ e t.2 in
     let b = then_ok (hex_bytes w.0.3) (λ bytes. Ok (input_entry t.0 (dma_input w.0.1 a.0 bytes))) e a.2 in
     let made : input_entry t.0 (dma_input w.0.1 a.0 b.0) ≡ e = cc (b.2) in
-    rw (← made) (hex_small w.0.3 b.0 b.1, hex_bytes-Ok w.0.3 b.0 b.1)
+    rw (← made) (hex_bytes-within w.0.3 b.0 b.1, hex_bytes-Ok w.0.3 b.0 b.1)
 
 end_line_small : (words : List (List ℕ)) (e : Entry) → end_line words ≡ Ok e → IsSmallEntry e
 unfolding end_line

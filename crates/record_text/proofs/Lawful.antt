@@ -15,7 +15,7 @@ use Rattle.record_text.specs.Law.{IsInputOf, IsRecordOf, NamesEachOnce, is_targe
 use Rattle.record_text.specs.Made.{RisesTo}
 use Rattle.record_text.specs.Resolving.{bytes_in, irq_of, is_in_span, memory_of, order_at, resolved, resolved_at, resolved_input, port_of, raised}
 use Rattle.record_text.specs.Reading.{Standing, all_ascii, at_start, entry_at, nothing_until, record_after, record_of, standing_after, with_entry}
-use Rattle.record_text.specs.Steps.{◌>>=◌, mapped}
+use Rattle.text_words.specs.Steps.{◌>>=◌, mapped}
 use Rattle.record_text.specs.Table.{Entry, input_entry, order_entry, end_entry, entry_tick}
 use Rattle.text_words.specs.Parts.{lines_of}
 use Rattle.record_text.specs.declared.devices.RecordDevice.{RecordDevice}

@@ -6,4 +6,4 @@ pub mod Numbers
 pub mod Orders
 pub mod Rules
 pub mod Ticks
-pub use Rattle.text_words.proofs.Parts
+pub use Rattle.text_words.proofs.Cuts

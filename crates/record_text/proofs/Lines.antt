@@ -12,7 +12,7 @@ use Rattle.record_text.specs.Made.{grown, made_line, made_says, made_with, stand
 use Rattle.record_text.specs.Resolving.{bytes_in, irq_of, is_in_span, memory_of, order_at, resolved, resolved_at, resolved_input, port_of, raised}
 use Rattle.record_text.specs.Reading.{Standing, are_distinct, entry_at, in_line, names_known, not_back, nothing_until, order_fits, record_after, standing_after, with_entry}
 use Rattle.record_text.specs.Saying.{line_of, said}
-use Rattle.record_text.specs.Steps.{◌>>=◌, ◌>>◌, mapped}
+use Rattle.text_words.specs.Steps.{◌>>=◌, ◌>>◌, mapped}
 use Rattle.record_text.specs.Table.{Entry, input_entry, order_entry, end_entry, entry_tick, read_words}
 use Rattle.record_text.specs.Words.{words_of}
 use Rattle.record_text.specs.declared.devices.RecordDevice.{RecordDevice}

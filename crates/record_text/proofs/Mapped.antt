@@ -1,6 +1,6 @@
 -- What a result that was mapped comes from.
 use Rattle.std.proofs.Common.{◌≡◌, Result, Ok, Err, refl}
-use Rattle.record_text.specs.Steps.{mapped}
+use Rattle.text_words.specs.Steps.{mapped}
 
 pub mapped_ok : {A B E : Type 0} (f : A → B) (r : Result A E) (y : B) → mapped f r ≡ Ok y → (x : A) × (r ≡ Ok x) × (f x ≡ y)
 mapped_ok f (Ok x) y e = (x, refl, cc)

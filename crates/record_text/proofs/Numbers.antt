@@ -29,8 +29,7 @@ below_is end (Some n) h =
     ] refl
 
 below_as : (end : ℕ) (word : List ℕ) (r : Result ℕ NumberError) → end ≤ 2 ^ 64 → r ≡ decimal word → answered end r ≡ with_line_error (number_below end word)
-unfolding number_below
-unfolding decimal
+unfolding number_below decimal
 below_as end word r h e = ap (answered end) e ∙ sym (below_is end (number_of word) h)
 
 pub number_is : (end : ℕ) (word : List ℕ) (n : ℕ) → end ≤ 2 ^ 64 → Ok n ≡ decimal word → n < end → Ok n ≡ with_line_error (number_below end word)
@@ -42,4 +41,4 @@ range_is end word n h e above = sym (ap (λ b. if b then Ok n else Err (Want Ran
 pub refused_is : (end : ℕ) (word : List ℕ) (why : NumberError) → end ≤ 2 ^ 64 → Err why ≡ decimal word → Err (number_error why) ≡ with_line_error (number_below end word)
 refused_is end word why h e = below_as end word (Err why) h e
 
-pub ruleset numbers = (number_is, range_is, refused_is)
+pub ruleset numbers = (number_is, refused_is)

@@ -1,6 +1,6 @@
 -- CPUs that were read before.
 use Rattle.std.proofs.Common.{◌≡◌, List, [], ◌∷◌, ◌++◌, Result, Ok, Err, refl, sym, ap, append_assoc}
-use Rattle.record_text.specs.Steps.{◌>>=◌}
+use Rattle.text_words.specs.Steps.{◌>>=◌}
 use Rattle.record_text.specs.declared.fault.LineWant.{LineWant}
 
 abbrev pub with_front : {X : Type 0} → List X → Result (List X) LineWant → Result (List X) LineWant

@@ -1,10 +1,11 @@
 -- What holds of a line that was read.
 use Rattle.std.proofs.Common.{◌≡◌, ℕ, suc, ◌+◌, ◌*◌, ◌<◌, ◌≤◌, ◌^◌, Bool, true, false, not, List, [], ◌∷◌, length, map, Option, Some, None, Result, Ok, Err, IsTrue, nat_lt, nat_le, refl, ap, ◌∙◌, arith}
 use Rattle.std.specs.Prelude.{◌==◌, ◌&&◌, if◌then◌else◌}
-use Rattle.std.specs.List.{list_all, list_any}
+use Rattle.std.specs.List.{All, AllByRecursion, list_all, list_any}
 use Rattle.std.proofs.lemmas.List.{map_push}
+use Rattle.std.proofs.lemmas.List.Elements.{All-from_recursion}
 use Rattle.std.proofs.lemmas.Bool.{and_parts, and_from, not-true, ltb-true, ltb-false, leb-true, eqb-true, lt-ltb}
-use Rattle.hex.specs.Hex.{decode_of}
+use Rattle.hex.specs.Hex.{IsBytes, decode_of}
 use Rattle.hex.specs.declared.error.FromHexError.{FromHexError}
 use Rattle.hex.proofs.HexLemmas.{decode_of-ok}
 use Rattle.muen_num.specs.declared.limits.TheConstants.{GUEST_END, LAST_PORT, MOST_TICKS}
@@ -12,7 +13,7 @@ use Rattle.record_text.specs.Bench.{Bench, bench_of, is_known}
 use Rattle.record_text.specs.DeviceRecord.{NamedInput, port_input, memory_input, irq_input, dma_input}
 use Rattle.record_text.specs.Made.{IsInOrder, made_with, standing_of}
 use Rattle.record_text.specs.Reading.{Standing, are_distinct, entry_at, in_line, names_known, not_after_end, not_back, order_fits}
-use Rattle.record_text.specs.Steps.{◌>>=◌, ◌>>◌, mapped}
+use Rattle.text_words.specs.Steps.{◌>>=◌, ◌>>◌, mapped}
 use Rattle.record_text.specs.Table.{Entry, input_entry, order_entry, end_entry, as_many, cpu_numbers, dma_line, end_line, entry_tick, first_word, five, four, irq_line, kind_of, line_of_kind, mem_line, one, order_line, port_line, read_words, three}
 use Rattle.text_words.specs.Numbers.{number_of}
 use Rattle.record_text.specs.Words.{below, hex_bytes, number_below, or_hex, tick_of, words_of}
@@ -87,6 +88,20 @@ hex_bytes-Ok word bytes h =
     let high = leb-true (length word) (2 * INPUT_MOST) sizes.1 in
     let twice = (decode_of-ok word bytes (or_hex-Ok (decode_of word) bytes parts.1)).2 in
     record { some = omega (arith, low, high, twice); few = omega (arith, low, high, twice) }
+
+-- each of them is below 256
+all_bytes : (xs : List ℕ) → IsBytes xs → All (λ x. x < 256) xs
+all_bytes xs h = All-from_recursion (λ x. x < 256) xs (each xs h)
+  where
+    each : (xs : List ℕ) → IsBytes xs → AllByRecursion (λ x. x < 256) xs
+    each [] h = tt
+    each (x ∷ xs) h = (h 0, each xs (λ k. h (suc k)))
+
+pub hex_bytes-within : (word bytes : List ℕ) → hex_bytes word ≡ Ok bytes → All (λ x. x < 256) bytes
+unfolding hex_bytes
+hex_bytes-within word bytes h =
+    let parts = hex_if (nat_le 2 (length word) && nat_le (length word) (2 * INPUT_MOST)) (or_hex (decode_of word)) bytes h in
+    all_bytes bytes (decode_of-ok word bytes (or_hex-Ok (decode_of word) bytes parts.1)).3
 
 -- ---- lines
 

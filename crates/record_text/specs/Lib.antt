@@ -7,8 +7,8 @@ pub mod Reading
 pub mod Remaining
 pub mod Resolving
 pub mod Saying
-pub mod Steps
 pub mod Table
 pub mod Words
 pub use Rattle.text_words.specs.Numbers
 pub use Rattle.text_words.specs.Parts
+pub use Rattle.text_words.specs.Steps

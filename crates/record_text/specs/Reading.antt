@@ -3,7 +3,7 @@ use Rattle.std.specs.Prelude.{ℕ, ◌+◌, ◌==◌, ◌&&◌, Bool, true, fals
 use Rattle.std.specs.List.{list_any}
 use Rattle.record_text.specs.Bench.{Bench, is_known}
 use Rattle.record_text.specs.DeviceRecord.{DeviceRecord}
-use Rattle.record_text.specs.Steps.{◌>>=◌, ◌>>◌}
+use Rattle.text_words.specs.Steps.{◌>>=◌, ◌>>◌}
 use Rattle.record_text.specs.Table.{Entry, input_entry, order_entry, end_entry, entry_tick, read_words}
 use Rattle.text_words.specs.Parts.{lines_of}
 use Rattle.record_text.specs.Words.{words_of}

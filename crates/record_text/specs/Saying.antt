@@ -3,7 +3,7 @@ use Rattle.std.specs.Prelude.{◌≡◌, Result, Ok, Err}
 use Rattle.text_words.specs.declared.number.NumberError.{NumberError}
 use Rattle.text_words.specs.declared.number.NumberError.TheVariants.{NoNumber, TooLarge}
 use Rattle.record_text.specs.Resolving.{resolved_input}
-use Rattle.record_text.specs.Steps.{mapped}
+use Rattle.text_words.specs.Steps.{mapped}
 use Rattle.record_text.specs.Table.{Entry, input_entry, order_entry, end_entry}
 use Rattle.record_text.specs.declared.devices.Devices.{Devices}
 use Rattle.record_text.specs.declared.fault.LineWant.{LineWant}

@@ -4,7 +4,7 @@ use Rattle.std.specs.Prelude.{ℕ, ◌+◌, ◌^◌, ◌==◌, List, [], ◌∷�
 use Rattle.std.specs.Str.{bytes_eq}
 use Rattle.muen_num.specs.declared.limits.TheConstants.{GUEST_END, LAST_PORT}
 use Rattle.record_text.specs.DeviceRecord.{NamedInput, port_input, memory_input, irq_input, dma_input}
-use Rattle.record_text.specs.Steps.{◌>>=◌, ◌>>◌}
+use Rattle.text_words.specs.Steps.{◌>>=◌, ◌>>◌}
 use Rattle.record_text.specs.Words.{tick_of, number_below, hex_bytes}
 use Rattle.record_text.specs.declared.fault.LineWant.{LineWant}
 use Rattle.record_text.specs.declared.fault.LineWant.TheVariants.{Word, Count}

@@ -5,7 +5,6 @@ ghost use Rattle.record_text.specs.Saying.{Gives, with_line_error, said};
 ghost use Rattle.record_text.specs.Table.{cpu_numbers, dma_line, end_line, first_word, five, four, irq_line, kind_of, line_of_kind, mem_line, no_word, one, order_line, port_line, read_words, three};
 ghost use Rattle.record_text.specs.Words.{words_of};
 
-use crate::words::Words;
 use crate::devices::Devices;
 use crate::fault::LineWant;
 use crate::number::{
@@ -13,6 +12,7 @@ use crate::number::{
 };
 use crate::record::Input;
 use crate::resolving::{resolve_dma, resolve_irq, resolve_memory, resolve_port};
+use crate::words::Words;
 use muen_num::Seq;
 use muen_num::limits::GUEST_END;
 use std::alloc::Global;

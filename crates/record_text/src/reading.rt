@@ -7,7 +7,7 @@ ghost use Rattle.record_text.specs.Law.{IsRecordOf};
 ghost use Rattle.record_text.specs.Made.{IsInOrder, made_with, standing_of};
 ghost use Rattle.record_text.specs.Resolving.{resolved};
 ghost use Rattle.record_text.specs.Reading.{all_ascii, at_start, entry_at, record_after, record_of};
-ghost use Rattle.record_text.specs.Steps.{mapped};
+ghost use Rattle.text_words.specs.Steps.{mapped};
 ghost use Rattle.text_words.specs.Parts.{lines_of};
 
 use crate::devices::Devices;
@@ -27,7 +27,7 @@ fn has_high_byte(line: &[u8]) -> bool
 }
 
 // The first line with a byte above 127 is a fault.
-#[tactic(auto, using(text_words::proofs::Parts::no_lines))]
+#[tactic(auto, using(text_words::proofs::Cuts::no_lines))]
 fn check_ascii(bytes: &[u8]) -> Result<(), RecordFault>
     ensures { result ≡ all_ascii 1 (lines_of bytes.now) }
 {

@@ -30,7 +30,7 @@ impl<'a> Words<'a> {
     }
 
     /// How many words remain.
-    #[tactic(auto, using(text_words::proofs::Parts::counts))]
+    #[tactic(auto, using(text_words::proofs::Cuts::counts))]
     pub(crate) fn count(&self) -> usize
         ensures { result ≡ length (words_remaining self.now) }
     {

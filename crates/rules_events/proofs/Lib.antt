@@ -5,6 +5,7 @@ pub mod EndsByChannel
 pub mod EventsByIndex
 pub mod FirstFault
 pub mod Items
+pub mod Merged
 pub mod ModesByIndex
 pub mod Monitored
 pub mod MonitorsByIndex

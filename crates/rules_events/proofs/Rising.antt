@@ -21,7 +21,7 @@ stands_at [] x i l e = absurd (omega arith)
 stands_at (y ∷ ys) x zero l e = ap (λ b. b || stands_in ys x) (eq-eqb y x e)
 stands_at (y ∷ ys) x (suc i) l e = or_right (y == x) (stands_in ys x) (stands_at ys x i (omega arith) e)
 
-nowhere : (xs : List ℕ) (x : ℕ) → ((i : ℕ) → i < length xs → get_or xs i 0 ≡ x → ⊥) → stands_in xs x ≡ false
+pub nowhere : (xs : List ℕ) (x : ℕ) → ((i : ℕ) → i < length xs → get_or xs i 0 ≡ x → ⊥) → stands_in xs x ≡ false
 nowhere [] x none = refl
 nowhere (y ∷ ys) x none = ap (λ b. b || stands_in ys x) (ne_eqb y x (none 0 (omega arith))) ∙ nowhere ys x (λ i l. none (suc i) (omega arith))
 

@@ -13,7 +13,7 @@ equal_turned a b =
       | inr other ↦ ne_eqb a b other ∙ sym (ne_eqb b a (λ same. other (sym same)))
     ]
 
-none_shared : (xs : List ℕ) → share xs [] ≡ false
+pub none_shared : (xs : List ℕ) → share xs [] ≡ false
 none_shared [] = refl
 none_shared (x ∷ xs) = none_shared xs
 
@@ -24,7 +24,7 @@ or_past false true false d = refl
 or_past false false c d = refl
 
 -- one more in the second
-one_more : (y : ℕ) (xs ys : List ℕ) → share xs (y ∷ ys) ≡ (stands_in xs y || share xs ys)
+pub one_more : (y : ℕ) (xs ys : List ℕ) → share xs (y ∷ ys) ≡ (stands_in xs y || share xs ys)
 one_more y [] ys = refl
 one_more y (x ∷ xs) ys =
     ap (λ b. ((y == x) || stands_in ys x) || b) (one_more y xs ys)

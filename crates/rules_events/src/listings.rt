@@ -9,6 +9,9 @@ use policy_lawful::resolved::Group;
 use std::alloc::Global;
 use std::marker::Model;
 
+// A search for an index takes about as long as so many steps over both lists.
+const MUCH: usize = 16;
+
 /// Whether some group lists both of two subjects.
 #[derive(Clone, Copy, Debug, PartialEq, Eq)]
 struct Shared {
@@ -83,17 +86,42 @@ fn share(one: &[usize], other: &[usize]) -> bool
     false
 }
 
-// Whether some index stands in both lists, which rise: the shorter one is gone through.
+// The same of two lists that rise: the lesser of two indexes is passed.
+#[tactic(auto, using(crate::proofs::Merged::one_passed, crate::proofs::Merged::other_passed, crate::proofs::Merged::first_shared, crate::proofs::Merged::one_ends, crate::proofs::Merged::other_ends))]
+fn share_merged(one: &[usize], other: &[usize]) -> bool
+    requires one { Rises one.now }
+    requires other { Rises other.now }
+    ensures { result ≡ share one.now other.now }
+{
+    let mut i = 0;
+    let mut j = 0;
+    while i < one.len() && j < other.len() {
+        if one[i] == other[j] {
+            return true;
+        }
+        if one[i] < other[j] {
+            i += 1;
+        } else {
+            j += 1;
+        }
+    }
+    false
+}
+
+// Whether some index stands in both lists, which rise. The indexes of a much shorter one are searched
+// for.
 #[tactic(auto, using(crate::proofs::Shares::share_turned))]
 fn share_rising(one: &[usize], other: &[usize]) -> bool
     requires one { Rises one.now }
     requires other { Rises other.now }
     ensures { result ≡ share one.now other.now }
 {
-    if one.len() <= other.len() {
+    if one.len() < other.len() / MUCH {
         share(one, other)
-    } else {
+    } else if other.len() < one.len() / MUCH {
         share(other, one)
+    } else {
+        share_merged(one, other)
     }
 }
 

@@ -1,5 +1,8 @@
-//! Tests of calls of the assembler's crates.
+//! Tests of the assembler's crates, and of whole calls of `muen_asm` on files and sinks in memory,
+//! against lines that were worked out by hand.
 #![tactic(auto)]
 
+#[cfg(test)]
+mod calls;
 #[cfg(test)]
 mod listings;

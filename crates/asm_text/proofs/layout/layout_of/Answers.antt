@@ -16,9 +16,9 @@ loop-rest-preserved c =
     let same = rw c.first_line.ensures.lines at c.loop-rest.invariant.same in
     record {
       same = rw c.in_ok-push-in-Ok.ensures.ok (
-        sym (line_read c.loop-rest.lines (standing_of c.loop-rest.names) (standing_of c.place_line.new.names) c.loop-rest.number c.first_line.result.0.now (lines_of c.first_line.result.1.now) c.in-Ok.line c.in-Ok.ensures)
-        ∙ same
-        );
+          sym (line_read c.loop-rest.lines (standing_of c.loop-rest.names) (standing_of c.place_line.new.names) c.loop-rest.number c.first_line.result.0.now (lines_of c.first_line.result.1.now) c.in-Ok.line c.in-Ok.ensures)
+          ∙ same
+          );
       count = omega (arith, c.first_line.ensures.shorter, c.loop-rest.invariant.count);
     }
 

@@ -7,9 +7,9 @@ pub loop-minus-preserved : goal.loop-minus-preserved
 loop-minus-preserved c =
     record {
       same = rw c.in_ok-push-in-Ok.ensures.ok (
-        sym (term_more c.loop-minus.terms (tokens_of c.loop-minus.rest.now) (tokens_of c.in-Some.behind.now) (tokens_of c.in-Ok.more.now) c.in-Some.minus c.in-Ok.term (sym c.in-Some.ensures.sign) (sym c.in-Ok.ensures.term))
-        ∙ c.loop-minus.invariant.same
-        );
+          sym (term_more c.loop-minus.terms (tokens_of c.loop-minus.rest.now) (tokens_of c.in-Some.behind.now) (tokens_of c.in-Ok.more.now) c.in-Some.minus c.in-Ok.term (sym c.in-Some.ensures.sign) (sym c.in-Ok.ensures.term))
+          ∙ c.loop-minus.invariant.same
+          );
       within = omega (arith, c.in-Some.ensures.shorter, c.in-Ok.ensures.shorter, c.loop-minus.invariant.within);
     }
 

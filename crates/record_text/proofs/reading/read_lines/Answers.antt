@@ -3,7 +3,7 @@ use Rattle.std.proofs.lemmas.Bool.{eqb-true}
 use Rattle.std.proofs.lemmas.Result.{err_from_is_err_and}
 use Rattle.text_words.specs.Parts.{lines_of}
 use Rattle.record_text.proofs.Lines.{grown_ended, grown_more, grown_unended, refused_here}
-use Rattle.text_words.proofs.Parts.{no_lines}
+use Rattle.text_words.proofs.Cuts.{no_lines}
 use Rattle.record_text.proofs.Rules.{in_order_more}
 use Rattle.record_text.proofs.reading.read_lines.Goals as goal
 

@@ -3,7 +3,7 @@ use Rattle.record_text.specs.Bench.{bench_of}
 use Rattle.record_text.specs.Made.{IsInOrder, grown, standing_of}
 use Rattle.record_text.specs.Resolving.{resolved}
 use Rattle.record_text.specs.Reading.{at_start, record_after}
-use Rattle.record_text.specs.Steps.{mapped}
+use Rattle.text_words.specs.Steps.{mapped}
 use Rattle.text_words.specs.Parts.{lines_of}
 use Rattle.record_text.proofs.reading.read_lines.Given as goal
 

@@ -1,0 +1,224 @@
+-- What holds of a line that is read: registers are below 16, and a port's access is of at most four bytes.
+use Rattle.std.proofs.Common.{◌≡◌, ℕ, ◌<◌, Bool, true, false, List, Option, Some, None, Result, Ok, Err, refl, arith}
+use Rattle.std.specs.Prelude.{if◌then◌else◌, codes, nat_lt, option_and_then}
+use Rattle.std.specs.Str.{bytes_eq}
+use Rattle.std.proofs.lemmas.Bool.{ltb-true}
+use Rattle.muen_num.specs.declared.access.AccessSize.{AccessSize}
+use Rattle.muen_num.specs.declared.access.AccessSize.TheVariants.{One, Two, Four, Eight}
+use Rattle.guest_isa.specs.GuestIsa.{IsSmall}
+use Rattle.text_words.specs.Numbers.{decimal}
+use Rattle.text_words.specs.Steps.{◌>>=◌, ◌>>◌}
+use Rattle.asm_text.specs.Mnemonics.{shape_of}
+use Rattle.asm_text.specs.Reading.{at_end, below_jump, comma, data_line, definition, directive, displacement, found, immediate as immediate_operands, instruction, integer, keyword, label, line_of, memory, name_at, number, offset_line, operands_of, pair, place, port, register, size, small, statement, value, values, worded}
+use Rattle.asm_text.specs.Tokens.{Tokens, end_with, token}
+use Rattle.asm_text.specs.Words.{behind, below, data_size_of, mnemonic_of, result_ok}
+use Rattle.asm_text.specs.declared.fault.LineError.{LineError}
+use Rattle.asm_text.specs.declared.fault.Want.{Want}
+use Rattle.asm_text.specs.declared.fault.Want.TheVariants.{Register, At, To}
+use Rattle.asm_text.specs.declared.mnemonic.Mnemonic.{Mnemonic}
+use Rattle.asm_text.specs.declared.mnemonic.Shape.{Shape}
+use Rattle.asm_text.specs.declared.mnemonic.Shape.TheVariants.{Alone, Immediate, Pair, Memory, PortRead, PortWrite, Destination, Source, Jump, JumpIf, JumpBelow}
+use Rattle.asm_text.specs.declared.statement.Operands.{Operands}
+use Rattle.asm_text.specs.declared.statement.SourceLine.{SourceLine}
+use Rattle.asm_text.specs.declared.statement.Statement.{Statement}
+use Rattle.asm_text.specs.declared.statement.Statement.TheVariants.{Instruction}
+use Rattle.asm_text.specs.declared.statement.Value.{Value}
+
+-- ---- where there is no fault
+
+abbrev pub Holds : {A E : Type 0} → (A → Type 0) → Result A E → Type 0
+Holds P (Ok x) = P x
+Holds P (Err e) = Unit {0}
+
+pub holds_then : {A B E : Type 0} (P : A → Type 0) (Q : B → Type 0) (r : Result A E) (f : A → Result B E) → Holds P r → ((x : A) → P x → Holds Q (f x)) → Holds Q (r >>= f)
+holds_then P Q (Ok x) f h k = k x h
+holds_then P Q (Err e) f h k = tt
+
+abbrev pub Any : {A : Type 0} → A → Type 0
+Any x = Unit {0}
+
+pub any : {A E : Type 0} (r : Result A E) → Holds Any r
+any (Ok x) = tt
+any (Err e) = tt
+
+pub after : {A B E : Type 0} (Q : B → Type 0) (r : Result A E) (f : A → Result B E) → ((x : A) → Holds Q (f x)) → Holds Q (r >>= f)
+after Q r f k = holds_then Any Q r f (any r) (λ x _. k x)
+
+pub after_test : {B E : Type 0} (Q : B → Type 0) (r : Result (Unit {0}) E) (s : Result B E) → Holds Q s → Holds Q (r >> s)
+after_test Q (Ok u) s h = h
+after_test Q (Err e) s h = tt
+
+pub holds_at : {A E : Type 0} (P : A → Type 0) (r : Result A E) (x : A) → Holds P r → r ≡ Ok x → P x
+holds_at P (Ok y) x h e = let same : y ≡ x = cc in rw (← same) h
+holds_at P (Err y) x h e = absurd (cc)
+
+either : {X : Type 0} (P : X → Type 0) (t : Bool) (x y : X) → P x → P y → P (if t then x else y)
+either P true x y h k = h
+either P false x y h k = k
+
+-- ---- operands
+
+abbrev pub SizeFits : Shape → AccessSize → Type 0
+SizeFits PortRead size = IsSmall size
+SizeFits PortWrite size = IsSmall size
+SizeFits _ size = Unit {0}
+
+-- registers are below 16, and an access to a port is of at most four bytes
+pub record AreFit (shape : Shape) (o : Operands) : Type 0 where
+  pub rd : o.rd < 16
+  pub rs : o.rs < 16
+  pub size : SizeFits shape o.size
+
+zero_low : 0 < 16
+zero_low = omega arith
+
+module _ {X : Type 0} where
+  abbrev LowFirst : ℕ × X → Type 0
+  LowFirst x = x.0 < 16
+
+found_low : (left : ℕ) (more : Tokens) (o : Option ℕ) → Holds LowFirst (found left Register more (option_and_then (below 16) o))
+found_low left more None = tt
+found_low left more (Some n) = by (nat_lt n 16) refl
+  where
+    by : (t : Bool) → nat_lt n 16 ≡ t → Holds LowFirst (found left Register more (if t then Some n else None))
+    by true e = ltb-true n 16 e
+    by false e = tt
+
+register_low : (ts : Tokens) → Holds LowFirst (register ts)
+unfolding register
+register_low (end_with left) = tt
+register_low (token left word more) = found_low left more (option_and_then (λ digits. result_ok (decimal digits)) (behind (codes "r") word))
+
+abbrev LowPair : ℕ × ℕ × Tokens → Type 0
+LowPair x = (x.0 < 16) × (x.1 < 16)
+
+pair_low : (ts : Tokens) → Holds LowPair (pair ts)
+unfolding pair
+pair_low ts =
+    holds_then LowFirst LowPair (register ts) _ (register_low ts) λ x h.
+    after LowPair (comma x.1) _ λ ts.
+    holds_then LowFirst LowPair (register ts) _ (register_low ts) λ y k.
+    (h, k)
+
+abbrev LowPlace : ℕ × Value × Tokens → Type 0
+LowPlace x = x.0 < 16
+
+place_low : (ts : Tokens) → Holds LowPlace (place ts)
+unfolding place
+place_low ts =
+    holds_then LowFirst LowPlace (register ts) _ (register_low ts) λ x h.
+    after LowPlace (displacement x.1) _ λ y.
+    h
+
+module _ (shape : Shape) where
+  abbrev FitFirst : Operands × Tokens → Type 0
+  FitFirst x = AreFit shape x.0
+
+fit : {shape : Shape} {o : Operands} → o.rd < 16 → o.rs < 16 → SizeFits shape o.size → AreFit shape o
+fit h k s = record { rd = h; rs = k; size = s }
+
+immediate_fit : (shape : Shape) → SizeFits shape One → (ts : Tokens) → Holds (FitFirst shape) (immediate_operands ts)
+unfolding immediate_operands
+immediate_fit shape s ts =
+    holds_then LowFirst (FitFirst shape) (register ts) _ (register_low ts) λ x h.
+    after (FitFirst shape) (comma x.1) _ λ ts.
+    after (FitFirst shape) (value ts) _ λ y.
+    fit h zero_low s
+
+below_fit : (ts : Tokens) → Holds (FitFirst JumpBelow) (below_jump ts)
+unfolding below_jump
+below_fit ts =
+    holds_then LowPair (FitFirst JumpBelow) (pair ts) _ (pair_low ts) λ x h.
+    after (FitFirst JumpBelow) (comma x.2) _ λ ts.
+    after (FitFirst JumpBelow) (value ts) _ λ y.
+    fit h.0 h.1 tt
+
+memory_fit : (ts : Tokens) → Holds (FitFirst Memory) (memory ts)
+unfolding memory
+memory_fit ts =
+    holds_then LowFirst (FitFirst Memory) (register ts) _ (register_low ts) λ x h.
+    after (FitFirst Memory) (comma x.1) _ λ ts.
+    after (FitFirst Memory) (size ts) _ λ n.
+    after (FitFirst Memory) (keyword (codes "at") At n.1) _ λ ts.
+    holds_then LowPlace (FitFirst Memory) (place ts) _ (place_low ts) λ y k.
+    fit h k tt
+
+small_is : {B : Type 0} (Q : B → Type 0) (left : ℕ) (n : AccessSize) (r : Result B LineError) → (IsSmall n → Holds Q r) → Holds Q (small left n >> r)
+small_is Q left One r k = k tt
+small_is Q left Two r k = k tt
+small_is Q left Four r k = k tt
+small_is Q left Eight r k = tt
+
+port_fit : (shape : Shape) → ((n : AccessSize) → IsSmall n → SizeFits shape n) → (text : List ℕ) (want : Want) (ts : Tokens) → Holds (FitFirst shape) (port text want ts)
+unfolding port
+port_fit shape s text want ts =
+    holds_then LowFirst (FitFirst shape) (register ts) _ (register_low ts) λ x h.
+    after (FitFirst shape) (comma x.1) _ λ at.
+    after (FitFirst shape) (size at) _ λ n.
+    small_is (FitFirst shape) _ n.0 _ λ few.
+    after (FitFirst shape) (keyword text want n.1) _ λ ts.
+    after (FitFirst shape) (keyword (codes "port") _ ts) _ λ ts.
+    holds_then LowPlace (FitFirst shape) (place ts) _ (place_low ts) λ y k.
+    fit h k (s n.0 few)
+
+operands_fit : (shape : Shape) (ts : Tokens) → Holds (FitFirst shape) (operands_of shape ts)
+unfolding operands_of
+operands_fit Alone ts = fit zero_low zero_low tt
+operands_fit Immediate ts = immediate_fit Immediate tt ts
+operands_fit Pair ts = holds_then LowPair (FitFirst Pair) (pair ts) _ (pair_low ts) λ x h. fit h.0 h.1 tt
+operands_fit Memory ts = memory_fit ts
+operands_fit PortRead ts = port_fit PortRead (λ n few. few) (codes "at") At ts
+operands_fit PortWrite ts = port_fit PortWrite (λ n few. few) (codes "to") To ts
+operands_fit Destination ts = holds_then LowFirst (FitFirst Destination) (register ts) _ (register_low ts) λ x h. fit h zero_low tt
+operands_fit Source ts = holds_then LowFirst (FitFirst Source) (register ts) _ (register_low ts) λ x h. fit zero_low h tt
+operands_fit Jump ts = after (FitFirst Jump) (value ts) _ λ y. fit zero_low zero_low tt
+operands_fit JumpIf ts = immediate_fit JumpIf tt ts
+operands_fit JumpBelow ts = below_fit ts
+
+-- ---- lines
+
+-- what an instruction names is fit for it
+abbrev pub IsFit : Statement → Type 0
+IsFit (Instruction o) = AreFit (shape_of o.mnemonic) o.operands
+IsFit _ = Unit {0}
+
+instruction_fit : (left : ℕ) (m : Mnemonic) (ts : Tokens) → Holds IsFit (instruction left m ts)
+unfolding instruction
+instruction_fit left m ts =
+    holds_then (FitFirst (shape_of m)) IsFit (operands_of (shape_of m) ts) _ (operands_fit (shape_of m) ts) λ x h.
+    after_test IsFit (at_end x.1) _ h
+
+directive_fit : (left : ℕ) (word : List ℕ) (ts : Tokens) (o : Option AccessSize) (p : Option Mnemonic) → Holds IsFit (directive left word ts o p)
+unfolding data_line
+directive_fit left word ts (Some n) p = after IsFit (values _ ts) _ λ vs. tt
+directive_fit left word ts None (Some m) = instruction_fit left m ts
+directive_fit left word ts None None = tt
+
+offset_fit : (left : ℕ) (ts : Tokens) → Holds IsFit (offset_line left ts)
+unfolding offset_line
+offset_fit left ts = after IsFit (number ts) _ λ x. after_test IsFit (at_end x.1) _ tt
+
+worded_fit : (left : ℕ) (word : List ℕ) (ts : Tokens) → Holds IsFit (worded left word ts)
+worded_fit left word ts =
+    either (Holds IsFit) (bytes_eq word (codes ".at")) (offset_line left ts) (directive left word ts (data_size_of word) (mnemonic_of word))
+    (offset_fit left ts) (directive_fit left word ts (data_size_of word) (mnemonic_of word))
+
+definition_fit : (left : ℕ) (word : List ℕ) (ts : Tokens) → Holds IsFit (definition left word ts)
+unfolding definition
+definition_fit left word ts = after IsFit (name_at left word) _ λ name. after IsFit (integer ts) _ λ n. after_test IsFit (at_end n.1) _ tt
+
+statement_fit : (ts : Tokens) → Holds IsFit (statement ts)
+unfolding statement
+statement_fit (end_with left) = tt
+statement_fit (token left word (end_with last)) = worded_fit left word (end_with last)
+statement_fit (token left word (token at mark more)) =
+    either (Holds IsFit) (bytes_eq mark (codes "=")) (definition left word more) (worded left word (token at mark more)) (definition_fit left word more) (worded_fit left word (token at mark more))
+
+abbrev pub IsFitLine : SourceLine → Type 0
+IsFitLine line = IsFit line.statement
+
+pub line_fit : (ts : Tokens) → Holds IsFitLine (line_of ts)
+unfolding line_of
+line_fit ts =
+    after IsFitLine (label ts) _ λ l.
+    holds_then IsFit IsFitLine (statement l.1) _ (statement_fit l.1) λ s h. h

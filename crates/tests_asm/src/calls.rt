@@ -1,0 +1,130 @@
+//! Each command once, and each status with its line.
+use asm_top::muen_asm;
+use muen_outside::{MemFiles, MemSink};
+use std::alloc::Global;
+use std::test::Fail;
+
+// The files of the calls below. The bytes of `wait` are those of `bytes`, and its source is `printed`.
+const FILES: [(&str, &str); 6] = [
+    ("wait", "wait: HLT ; for an event\n JMP wait\n.byte 1, -1"),
+    ("empty", ""),
+    ("word", "\n  HALT"),
+    ("number", "LI r1, 0x1_0000_0000"),
+    ("label", "JMP there"),
+    ("text", "JMP 0\n"),
+];
+
+const USAGE: &str = "1 muen_asm: usage: hex SOURCE, lines SOURCE BASE, bin SOURCE FILE, text FILE\n";
+
+// They, and files that are too long; the calls of these digits fail.
+fn files(alloc: Global, fails: Vec<u64>) -> Result<MemFiles, Fail> {
+    let mut held = Vec::new(alloc);
+    for (name, text) in FILES {
+        let bytes = Vec::from_slice(alloc, text.as_bytes())?;
+        held.push((String::from_str(alloc, name)?, bytes))?;
+    }
+    for (name, length) in [("long", 16_777_217), ("longer", 67_108_865)] {
+        held.push((
+            String::from_str(alloc, name)?,
+            vec![in alloc; b' '; length]?,
+        ))?;
+    }
+    Ok(MemFiles::make(held, fails))
+}
+
+// A call with these words, between which are spaces: its status, a space, what is put to the error
+// sink, and what to the output.
+fn call(
+    alloc: Global,
+    words: &str,
+    files: &mut MemFiles,
+    out: &mut MemSink,
+) -> Result<String, Fail> {
+    let mut list = Vec::new(alloc);
+    for word in words.split(' ') {
+        list.push(String::from_str(alloc, word)?)?;
+    }
+    let mut err = MemSink::make(alloc, 200, Vec::new(alloc), 0)?;
+    let status = u8::from(muen_asm(alloc, &list, files, out, &mut err));
+    let mut answer = status.to_string(alloc)?;
+    answer.push(' ')?;
+    for bytes in [err.text(), out.text()] {
+        let Ok(text) = String::from_utf8(bytes.to_vec(alloc)?) else {
+            return Err(Fail::new("no text"));
+        };
+        answer.push_str(text.as_str())?;
+    }
+    Ok(answer)
+}
+
+const CALLS: [(&str, &str); 19] = [
+    ("hex wait", "0 17000000000000000d000000f8ffffff01ff\n"),
+    ("hex empty", "0 \n"),
+    (
+        "lines wait 0x40_0000",
+        "0 0000000000400000  1700000000000000  HLT\n0000000000400008  0d000000f8ffffff  JMP -8\n0000000000400010  01ff              .byte 0x01, 0xff\n",
+    ),
+    ("lines empty 281474976710655", "0 "),
+    ("text text", "0 .byte 0x4a, 0x4d, 0x50, 0x20, 0x30, 0x0a\n"),
+    ("text empty", "0 "),
+    ("bin empty made", "0 "),
+    ("hex", USAGE),
+    ("text wait more", USAGE),
+    ("lines wait 0x1_0000_0000_0000", USAGE),
+    ("bin wait wait", USAGE),
+    (
+        "hex word",
+        "2 muen_asm: line 2, column 3: want an instruction, data, .at or a name\n",
+    ),
+    ("bin number made", "2 muen_asm: line 1, column 8: out of range\n"),
+    ("lines label 0", "2 muen_asm: line 1, column 5: no such name\n"),
+    ("hex absent", "3 muen_asm: missing file absent\n"),
+    ("text absent", "3 muen_asm: missing file absent\n"),
+    ("hex long", "3 muen_asm: file long has 16777217 bytes\n"),
+    ("text longer", "3 muen_asm: file longer has 67108865 bytes\n"),
+    ("bin wait made", "0 "),
+];
+
+#[test]
+fn answers(rt: HostRuntime) -> Result<(), Fail> {
+    let alloc = rt.alloc();
+    let mut files = files(alloc, Vec::new(alloc))?;
+    for (words, want) in CALLS {
+        let mut out = MemSink::make(alloc, 200, Vec::new(alloc), 0)?;
+        let answer = call(alloc, words, &mut files, &mut out)?;
+        assert_eq!(rt; answer.as_str(), want, "{words}");
+    }
+    let bytes = b"\x17\0\0\0\0\0\0\0\x0d\0\0\0\xf8\xff\xff\xff\x01\xff";
+    assert!(rt; files.get("made") == Some(bytes.as_slice()));
+    Ok(())
+}
+
+// The look fails, or the write.
+#[test]
+fn files_that_fail(rt: HostRuntime) -> Result<(), Fail> {
+    let alloc = rt.alloc();
+    for (call_that_fails, words) in [(0, "hex wait"), (0, "text wait"), (1, "bin wait made")] {
+        let mut files = files(alloc, vec![in alloc; call_that_fails]?)?;
+        let mut out = MemSink::make(alloc, 200, Vec::new(alloc), 0)?;
+        let answer = call(alloc, words, &mut files, &mut out)?;
+        assert_eq!(rt; answer.as_str(), "4 muen_asm: file fault\n", "{words}");
+    }
+    Ok(())
+}
+
+// The first put fails behind three bytes.
+#[test]
+fn an_output_that_fails(rt: HostRuntime) -> Result<(), Fail> {
+    let alloc = rt.alloc();
+    let mut files = files(alloc, Vec::new(alloc))?;
+    for (words, want) in [
+        ("hex wait", "7 muen_asm: output fault\n170"),
+        ("lines wait 0", "7 muen_asm: output fault\n000"),
+        ("text wait", "7 muen_asm: output fault\n.by"),
+    ] {
+        let mut out = MemSink::make(alloc, 200, vec![in alloc; 0]?, 3)?;
+        let answer = call(alloc, words, &mut files, &mut out)?;
+        assert_eq!(rt; answer.as_str(), want, "{words}");
+    }
+    Ok(())
+}

@@ -1,0 +1,11 @@
+; server: answers with twice the number, and hands the CPU back
+question = 0x60_0000
+answer = 0x60_1000
+        LI r2, question
+        LI r3, answer
+        LI r4, 1
+serve:  LOAD r1, 8 bytes at r2
+        ADD r1, r1
+        STORE r1, 8 bytes at r3
+        VMCALL r4                       ; call 1: the client runs from the next turn on
+        JMP serve                       ; here it goes on when it is asked again

@@ -1,0 +1,3 @@
+; the subject that is watched: loads a number and halts
+        LI r1, 5
+        HLT

@@ -1,0 +1,3 @@
+; loads a number and halts
+        LI r1, 5
+        HLT

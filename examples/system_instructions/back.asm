@@ -1,0 +1,3 @@
+; where RETI leads while no event was delivered
+        RDTSC r5
+        HLT

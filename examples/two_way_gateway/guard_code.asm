@@ -1,0 +1,20 @@
+; guard: has the CPU of encrypt from where that one has left its windows, until watch has looked
+base = 0x40_0000
+state = 0x60_0000                       ; the state page of encrypt, which it may change
+pc = 128
+drop = 0x40_0148                        ; of crypt
+        LI r3, 1
+        VMCALL r3                       ; call 1: the event alarm
+        LI r9, base
+        SETV r9
+        LI r1, state
+        LI r2, drop
+        LI r4, 2
+        STI
+wait:   HLT
+        JMP wait
+.at 0x140                               ; vector 40: the event clear
+        STORE r2, 8 bytes at r1 + pc    ; encrypt goes on there, so its message is never sent
+        VMCALL r4                       ; call 2: the event resume hands the CPU back
+        VMCALL r3                       ; here it has the CPU again: the next alarm
+        RETI
