@@ -97,11 +97,7 @@ found_low left more (Some n) = by (nat_lt n 16) refl
 register_low : (ts : Tokens) → Holds LowFirst (register ts)
 unfolding register
 register_low (end_with left) = tt
-register_low (token left word more) = by (behind (codes "r") word)
-  where
-    by : (o : Option (List ℕ)) → Holds LowFirst (found left Register more (option_and_then (λ digits. option_and_then (below 16) (result_ok (number_below digits))) o))
-    by None = tt
-    by (Some digits) = found_low left more (result_ok (number_below digits))
+register_low (token left word more) = found_low left more (option_and_then (λ digits. result_ok (number_below digits)) (behind (codes "r") word))
 
 abbrev LowPair : ℕ × ℕ × Tokens → Type 0
 LowPair x = (x.0 < 16) × (x.1 < 16)
