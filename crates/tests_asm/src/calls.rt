@@ -16,18 +16,12 @@ const FILES: [(&str, &str); 6] = [
 
 const USAGE: &str = "1 muen_asm: usage: hex SOURCE, lines SOURCE BASE, bin SOURCE FILE, text FILE\n";
 
-// They, and files that are too long; the calls of these digits fail.
+// They; the calls of these numbers fail.
 fn files(alloc: Global, fails: Vec<u64>) -> Result<MemFiles, Fail> {
     let mut held = Vec::new(alloc);
     for (name, text) in FILES {
         let bytes = Vec::from_slice(alloc, text.as_bytes())?;
         held.push((String::from_str(alloc, name)?, bytes))?;
-    }
-    for (name, length) in [("long", 16_777_217), ("longer", 67_108_865)] {
-        held.push((
-            String::from_str(alloc, name)?,
-            vec![in alloc; b' '; length]?,
-        ))?;
     }
     Ok(MemFiles::make(held, fails))
 }
@@ -57,7 +51,7 @@ fn call(
     Ok(answer)
 }
 
-const CALLS: [(&str, &str); 19] = [
+const CALLS: [(&str, &str); 17] = [
     ("hex wait", "0 17000000000000000d000000f8ffffff01ff\n"),
     ("hex empty", "0 \n"),
     (
@@ -80,8 +74,6 @@ const CALLS: [(&str, &str); 19] = [
     ("lines label 0", "2 muen_asm: line 1, column 5: no such name\n"),
     ("hex absent", "3 muen_asm: missing file absent\n"),
     ("text absent", "3 muen_asm: missing file absent\n"),
-    ("hex long", "3 muen_asm: file long has 16777217 bytes\n"),
-    ("text longer", "3 muen_asm: file longer has 67108865 bytes\n"),
     ("bin wait made", "0 "),
 ];
 
@@ -96,6 +88,21 @@ fn answers(rt: HostRuntime) -> Result<(), Fail> {
     }
     let bytes = b"\x17\0\0\0\0\0\0\0\x0d\0\0\0\xf8\xff\xff\xff\x01\xff";
     assert!(rt; files.get("made") == Some(bytes.as_slice()));
+    Ok(())
+}
+
+#[test]
+fn a_long_source(rt: HostRuntime) -> Result<(), Fail> {
+    let alloc = rt.alloc();
+    let mut held = Vec::new(alloc);
+    held.push((
+        String::from_str(alloc, "long")?,
+        vec![in alloc; b' '; 16_777_217]?,
+    ))?;
+    let mut files = MemFiles::make(held, Vec::new(alloc));
+    let mut out = MemSink::make(alloc, 10, Vec::new(alloc), 0)?;
+    let answer = call(alloc, "hex long", &mut files, &mut out)?;
+    assert_eq!(rt; answer.as_str(), "3 muen_asm: file long has 16777217 bytes\n");
     Ok(())
 }
 
