@@ -12,9 +12,11 @@ use Rattle.guest_isa.specs.declared.instr.Instr.{Instr}
 use Rattle.asm_text.specs.Meaning.{Item, instruction, data_of, zeros, bytes_of_item, bytes_of_items, said}
 use Rattle.asm_listing.specs.Laws.{AreBytes, SourcesSayAgain, instruction_at, instructions_from, instructions_of}
 use Rattle.asm_listing.specs.Source.{chunks_of}
-use Rattle.asm_listing.proofs.Accepted.{IsSound, holds_at}
+use Rattle.asm_text.proofs.Accepted.{holds_at}
+use Rattle.asm_text.proofs.Seats.{encoding_long}
+use Rattle.asm_listing.proofs.Accepted.{IsSound}
 use Rattle.asm_listing.proofs.Chunks.{chunks_by, encoding_decodes, first_chunk, no_chunk}
-use Rattle.asm_listing.proofs.Placed.{AreStanding, IsSeat, encoding_long, said_standing}
+use Rattle.asm_listing.proofs.Placed.{AreStanding, IsSeat, said_standing}
 use Rattle.asm_listing.proofs.Sources.{IsLow, bytes_back, chunk_item, front_low, item_by, source_says}
 
 -- ---- the bytes of a source

@@ -50,7 +50,7 @@ abbrev pub AreSeated : ℕ → List Placed → Type 0
 AreSeated here [] = here ≤ COMPONENT_FILE_MOST
 AreSeated here (line ∷ lines) = (line.here ≡ here) × IsPassed here line.statement × AreSeated (behind here line.statement) lines
 
-in_line_holds : {X : Type 0} (P : X → Type 0) (n end : ℕ) (r : Result X LineError) → Holds P r → Holds P (in_line n end r)
+pub in_line_holds : {X : Type 0} (P : X → Type 0) (n end : ℕ) (r : Result X LineError) → Holds P r → Holds P (in_line n end r)
 in_line_holds P n end (Ok x) h = h
 in_line_holds P n end (Err (Wanted left want)) h = tt
 in_line_holds P n end (Err LineMemory) h = tt
@@ -167,13 +167,13 @@ fit_operation o h z = valid_with o.mnemonic o.operands.rd o.operands.rs o.operan
 
 -- ---- how many bytes
 
-number_long : (size : AccessSize) (n : ℕ) → length (little_endian size n) ≡ bytes_of size
+pub number_long : (size : AccessSize) (n : ℕ) → length (little_endian size n) ≡ bytes_of size
 number_long One n = refl
 number_long Two n = refl
 number_long Four n = refl
 number_long Eight n = refl
 
-numbers_long : (size : AccessSize) (ns : List ℕ) → length (flat_map (little_endian size) ns) ≡ length ns * bytes_of size
+pub numbers_long : (size : AccessSize) (ns : List ℕ) → length (flat_map (little_endian size) ns) ≡ length ns * bytes_of size
 numbers_long size [] = omega arith
 numbers_long size (n ∷ ns) =
     length-append (little_endian size n) (flat_map (little_endian size) ns)
@@ -187,10 +187,10 @@ pub encoding_long : (i : Instr) → length (encoding_of i) ≡ 8
 unfolding encoding_of
 encoding_long i = refl
 
-abbrev IsLong : List Value → List ℕ → Type 0
+abbrev pub IsLong : List Value → List ℕ → Type 0
 IsLong values ns = length ns ≡ length values
 
-numbers_many : (names : Names) (size : AccessSize) (values : List Value) → Holds (IsLong values) (numbers_of names size values)
+pub numbers_many : (names : Names) (size : AccessSize) (values : List Value) → Holds (IsLong values) (numbers_of names size values)
 unfolding numbers_of
 numbers_many names size [] = refl
 numbers_many names size (v ∷ vs) =
@@ -198,7 +198,7 @@ numbers_many names size (v ∷ vs) =
     holds_then (IsLong vs) (IsLong (v ∷ vs)) (numbers_of names size vs) _ (numbers_many names size vs) λ ns h.
     ap suc h
 
-filled : (here n : ℕ) → here + length {A = ℕ} (replicate n 0) ≡ here + n
+pub filled : (here n : ℕ) → here + length {A = ℕ} (replicate n 0) ≡ here + n
 filled here n = ap (λ k. here + k) (length-replicate n 0)
 
 -- an item that begins here ends there
