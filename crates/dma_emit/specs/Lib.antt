@@ -7,3 +7,4 @@ pub mod Layout
 pub mod MadeFor
 pub mod Reached
 pub mod Ready
+pub use Rattle.muen_num.specs.declared.access

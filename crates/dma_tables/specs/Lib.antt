@@ -7,3 +7,4 @@ pub mod LineWrites
 pub mod Lowered
 pub mod LoweredRecord
 pub mod Tables
+pub use Rattle.binary_form.specs.Form

@@ -12,8 +12,8 @@ use Rattle.dma_tables.specs.declared.file.DmaFile.{DmaFile}
 use Rattle.image_pack.proofs.PartsKeep.{parts_keep}
 use Rattle.image_pack.specs.ImageConditions.{KeepsConditions}
 use Rattle.image_pack.specs.declared.parts.Image.{Image}
-use Rattle.image_soundness.specs.Sound.{IsSound, address_of}
-use Rattle.muen_num.specs.declared.access.AccessKind.TheVariants.{Write}
+use Rattle.proof_build.specs.Sound.{IsSound, address_of}
+use Rattle.dma_emit.specs.access.AccessKind.TheVariants.{Write}
 use Rattle.policy_lawful.specs.Contents.{Held}
 use Rattle.policy_lawful.specs.Dma.{dma_access}
 use Rattle.policy_lawful.specs.Resolution.{source_of}

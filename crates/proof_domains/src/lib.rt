@@ -8,7 +8,7 @@ ghost use Rattle.dma_emit.specs.Reached.{kind_of, placed_at};
 ghost use Rattle.dma_tables.specs.DmaWalk.{dma_walk};
 ghost use Rattle.dma_tables.specs.declared.file.DmaFile.{DmaFile};
 ghost use Rattle.image_pack.specs.declared.parts.Image.{Image};
-ghost use Rattle.image_soundness.specs.Sound.{IsSound};
+ghost use Rattle.proof_build.specs.Sound.{IsSound};
 ghost use Rattle.policy_lawful.specs.Contents.{Held};
 ghost use Rattle.policy_lawful.specs.Dma.{dma_access};
 ghost use Rattle.policy_lawful.specs.Resolution.{source_of};

@@ -46,14 +46,14 @@ use Rattle.record_text.specs.declared.record.Input.TheVariants.{Port, Mem, Idle,
 use Rattle.record_text.specs.declared.record.Record.{Record}
 use Rattle.record_text.specs.declared.record.TickInput.{TickInput}
 use Rattle.record_text.proofs.Rules.{IsFew}
-use Rattle.device_bench.specs.declared.effect.Effect.{Effect}
-use Rattle.device_bench.specs.declared.effect.Effect.TheVariants.{Mem as ToMem}
+use Rattle.kernel_core.specs.effect.Effect.{Effect}
+use Rattle.kernel_core.specs.effect.Effect.TheVariants.{Mem as ToMem}
 use Rattle.dma_tables.specs.Lowered.{goes, in_tick, is_line, line_writes as machine_writes, lowered, lowered_at, lowered_input}
 use Rattle.dma_tables.specs.declared.file.DmaFile.{DmaFile}
 use Rattle.proof_start.proofs.StartSets.{name_by}
 use Rattle.proof_start.specs.GroundOf.{ground_of}
 use Rattle.proof_turns.specs.Ground.{Ground, IsSubject, name_at}
-use Rattle.guest_isa.specs.Words.{IsByte}
+use Rattle.proof_start.specs.Words.{IsByte}
 use Rattle.proof_turns.specs.Inputs.{AreInput, AreLine, SameIrq, nobody, somebody}
 use Rattle.proof_turns.proofs.Groups.{joined}
 use Rattle.image_soundness.specs.Bench.{devices_of}

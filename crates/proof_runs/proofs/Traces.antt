@@ -16,7 +16,7 @@ use Rattle.kernel_core.specs.Kernel.{Live}
 use Rattle.kernel_core.specs.Ticks.{ended, kernel_run_to, live_started, tick_inputs, tick_order}
 use Rattle.subject_model.specs.Memory.{Page}
 use Rattle.muen_num.specs.declared.limits.TheConstants.{PAGE}
-use Rattle.device_bench.specs.declared.effect.Effect.{Effect}
+use Rattle.kernel_core.specs.effect.Effect.{Effect}
 use Rattle.dma_tables.specs.Lowered.{lowered}
 use Rattle.dma_tables.specs.declared.file.DmaFile.{DmaFile}
 use Rattle.muen_run.specs.RunText.{bytes_from, final_text, image_text, run_text}
@@ -27,8 +27,8 @@ use Rattle.record_text.specs.DeviceRecord.{DeviceRecord}
 use Rattle.record_text.specs.Reading.{record_of}
 use Rattle.record_text.specs.declared.record.Record.{Record}
 use Rattle.image_soundness.specs.Bench.{devices_of}
-use Rattle.frame_clock.specs.Run.{Ran, run_to}
-use Rattle.frame_clock.specs.Alike.{AreAlikeRuns}
+use Rattle.kernel_core.specs.Run.{Ran, run_to}
+use Rattle.proof_turns.specs.Alike.{AreAlikeRuns}
 use Rattle.subject_model.specs.StatePage.{state_in}
 use Rattle.kernel_core.specs.Machine.{page_at}
 use Rattle.kernel_core.specs.Control.{Control}
