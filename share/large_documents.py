@@ -314,7 +314,7 @@ def texts():
     """Texts whose only fault comes last, by their names."""
     def filled(front, item, back):
         return front + (item * (MOST // len(item)))[:MOST - len(front) - len(back) - len(item)].rsplit(item[-1:], 1)[0] + item[-1:] + back
-    keys = [b'"%07x":0' % (k * 0x9e3779b1 % (1 << 28)) for k in range(MOST // 13)]
+    rising = [b'"%s":0' % name("", k).encode() for k in range(MOST // 9)]
     digits = b"".join(b"%d" % k for k in range(1000))
     yield "brackets", b"[" * MOST
     yield "open_lists", b"[[" * 60 + b"[]," * (MOST // 3 - 100)
@@ -326,9 +326,8 @@ def texts():
     yield "one_fraction", b"[0." + b"7" * (MOST - 4) + b"]"
     yield "one_text", b'["' + b"x" * (MOST - 4) + b'"]'
     yield "one_key", b"{" + b'"a":{},' * (MOST // 7 - 1) + b'"a":1}'
-    yield "keys_mixed", b"{" + b",".join(keys)[:MOST - 20].rsplit(b",", 1)[0] + b"}"
-    yield "keys_rising", b"{" + b",".join(sorted(keys))[:MOST - 20].rsplit(b",", 1)[0] + b"}"
-    yield "keys_falling", b"{" + b",".join(sorted(keys, reverse=True))[:MOST - 20].rsplit(b",", 1)[0] + b"}"
+    for what, keys in (("rising", sorted(rising)), ("falling", sorted(rising)[::-1]), ("mixed", mixed(rising, random.Random(0)))):
+        yield f"keys_{what}", b"{" + b",".join(keys)[:MOST - 2].rsplit(b",", 1)[0] + b"}"
     yield "keys_long", b"{" + b",".join(b'"%s%06x":0' % (b"k" * 200, k) for k in range(MOST // 220)) + b"}"
     yield "not_utf8", b'"' + "é".encode() * (MOST // 2 - 2) + b"\xff"
     yield "blanks", b" " * MOST
