@@ -14,7 +14,8 @@ const FILES: [(&str, &str); 6] = [
     ("text", "JMP 0\n"),
 ];
 
-const USAGE: &str = "1 muen_asm: usage: hex SOURCE, lines SOURCE BASE, bin SOURCE FILE, text FILE\n";
+const USAGE: &str =
+    "1 muen_asm: usage: hex SOURCE, lines SOURCE BASE, bin SOURCE FILE, text FILE\n";
 
 // They; the calls of these numbers fail.
 fn files(alloc: Global, fails: Vec<u64>) -> Result<MemFiles, Fail> {
@@ -70,8 +71,14 @@ const CALLS: [(&str, &str); 17] = [
         "hex word",
         "2 muen_asm: line 2, column 3: want an instruction, data, .at or a name\n",
     ),
-    ("bin number made", "2 muen_asm: line 1, column 8: out of range\n"),
-    ("lines label 0", "2 muen_asm: line 1, column 5: no such name\n"),
+    (
+        "bin number made",
+        "2 muen_asm: line 1, column 8: out of range\n",
+    ),
+    (
+        "lines label 0",
+        "2 muen_asm: line 1, column 5: no such name\n",
+    ),
     ("hex absent", "3 muen_asm: missing file absent\n"),
     ("text absent", "3 muen_asm: missing file absent\n"),
     ("bin wait made", "0 "),
@@ -102,7 +109,10 @@ fn a_long_source(rt: HostRuntime) -> Result<(), Fail> {
     let mut files = MemFiles::make(held, Vec::new(alloc));
     let mut out = MemSink::make(alloc, 10, Vec::new(alloc), 0)?;
     let answer = call(alloc, "hex long", &mut files, &mut out)?;
-    assert_eq!(rt; answer.as_str(), "3 muen_asm: file long has 16777217 bytes\n");
+    assert_eq!(rt;
+        answer.as_str(),
+        "3 muen_asm: file long has 16777217 bytes\n"
+    );
     Ok(())
 }
 

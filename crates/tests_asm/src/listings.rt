@@ -76,7 +76,9 @@ fn mixed(alloc: Global, count: usize) -> Result<Vec<u8>, Fail> {
     let mut bytes = Vec::with_capacity(alloc, count)?;
     let mut state: u64 = 1;
     for index in 0..count {
-        state = state.wrapping_mul(6_364_136_223_846_793_005).wrapping_add(1);
+        state = state
+            .wrapping_mul(6_364_136_223_846_793_005)
+            .wrapping_add(1);
         let byte = (state >> 56) as u8;
         bytes.push(match index % 8 {
             0 => byte % 29,
