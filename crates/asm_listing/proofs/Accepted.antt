@@ -16,7 +16,7 @@ use Rattle.asm_text.specs.Meaning.{fits, fits_signed, if_fits, immediate_by, imm
 use Rattle.asm_text.specs.Mnemonics.{instruction_with, shape_of}
 use Rattle.asm_text.specs.Reading.{at_end, below_jump, comma, data_line, definition, directive, displacement, found, immediate as immediate_operands, instruction, integer, keyword, label, line_of, memory, name_at, number, offset_line, operands_of, pair, place, port, register, size, small, statement, value, values, worded}
 use Rattle.asm_text.specs.Tokens.{Tokens, end_with, token}
-use Rattle.asm_text.specs.Words.{behind, below, data_size_of, mnemonic_of, result_ok}
+use Rattle.asm_text.specs.Words.{behind, below, data_size_of, mnemonic_of}
 use Rattle.asm_text.specs.declared.fault.LineError.{LineError}
 use Rattle.asm_text.specs.declared.fault.Want.{Want}
 use Rattle.asm_text.specs.declared.fault.Want.TheVariants.{Register, At, To, Near, Range}

@@ -4,6 +4,8 @@ use Rattle.std.specs.Prelude.{◌==◌, ◌&&◌, ◌||◌, if◌then◌else◌,
 use Rattle.std.specs.Char.{is_ascii_digit}
 use Rattle.std.specs.Cmp.Lexicographic.{bytes_decides}
 use Rattle.std.specs.List.{list_all}
+use Rattle.std.specs.Option.{option_or}
+use Rattle.std.specs.Result.{result_ok}
 use Rattle.std.specs.Str.{bytes_eq}
 use Rattle.std.proofs.lemmas.Bool.{agree_below_at, and_from, and_parts, both_ways, eqb-true, false_from_ne_true, false≢true, lt-ltb}
 use Rattle.std.proofs.lemmas.Bool.Decides.{nat_tests}
@@ -13,7 +15,7 @@ use Rattle.text_words.specs.Groups.{before_mark, behind_mark, groups_of, number_
 use Rattle.text_words.specs.declared.number.NumberError.{NumberError}
 use Rattle.asm_text.specs.Reading.{atom_of, sign_of}
 use Rattle.asm_text.specs.Tokens.{end_with, token, begins_comment, goes_on, is_blank, is_mark, is_word_byte, tokens_of, with_byte}
-use Rattle.asm_text.specs.Words.{behind, below, by_mark, number_in, or_else, register_of, result_ok, symbol_of}
+use Rattle.asm_text.specs.Words.{behind, below, by_mark, number_in, register_of, symbol_of}
 use Rattle.asm_text.specs.declared.statement.Atom.TheVariants.{Number as NumberAtom, Name as NameAtom}
 use Rattle.asm_listing.specs.Source.{byte_text, register_text}
 use Rattle.asm_listing.proofs.Digits.{decimal_read, digits_alone, first_digit}
@@ -125,7 +127,7 @@ module _ (n : ℕ) (h : n < 2 ^ 64) where
   number_reads =
       λ i.
       by_mark (no_prefix i)
-      (or_else (option_and_then (λ middle. number_of_groups (groups_of middle)) (option_and_then before_mark (no_base i))) (result_ok (decimal_read n h i)))
+      (option_or (option_and_then (λ middle. number_of_groups (groups_of middle)) (option_and_then before_mark (no_base i))) (result_ok (decimal_read n h i)))
 
   pub decimal_atom : atom_of (decimal n) ≡ Some (NumberAtom n)
   decimal_atom = λ i. if first_digit n h i then option_map NumberAtom (number_reads i) else option_map NameAtom (symbol_of (decimal n))

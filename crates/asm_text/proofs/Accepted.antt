@@ -1,6 +1,7 @@
 -- What holds of a line that is read: registers are below 16, and a port's access is of at most four bytes.
 use Rattle.std.proofs.Common.{◌≡◌, ℕ, ◌<◌, Bool, true, false, List, Option, Some, None, Result, Ok, Err, refl, arith}
 use Rattle.std.specs.Prelude.{if◌then◌else◌, codes, nat_lt, option_and_then}
+use Rattle.std.specs.Result.{result_ok}
 use Rattle.std.specs.Str.{bytes_eq}
 use Rattle.std.proofs.lemmas.Bool.{ltb-true}
 use Rattle.muen_num.specs.declared.access.AccessSize.{AccessSize}
@@ -11,7 +12,7 @@ use Rattle.text_words.specs.Steps.{◌>>=◌, ◌>>◌}
 use Rattle.asm_text.specs.Mnemonics.{shape_of}
 use Rattle.asm_text.specs.Reading.{at_end, below_jump, comma, data_line, definition, directive, displacement, found, immediate as immediate_operands, instruction, integer, keyword, label, line_of, memory, name_at, number, offset_line, operands_of, pair, place, port, register, size, small, statement, value, values, worded}
 use Rattle.asm_text.specs.Tokens.{Tokens, end_with, token}
-use Rattle.asm_text.specs.Words.{behind, below, data_size_of, mnemonic_of, result_ok}
+use Rattle.asm_text.specs.Words.{behind, below, data_size_of, mnemonic_of}
 use Rattle.asm_text.specs.declared.fault.LineError.{LineError}
 use Rattle.asm_text.specs.declared.fault.Want.{Want}
 use Rattle.asm_text.specs.declared.fault.Want.TheVariants.{Register, At, To}

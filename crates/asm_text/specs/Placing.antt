@@ -4,14 +4,14 @@ use Rattle.asm_text.specs.Layout.{Standing, Layout as Lines}
 use Rattle.asm_text.specs.declared.fault.LineError.{LineError}
 use Rattle.asm_text.specs.declared.fault.SourceFault.{SourceFault}
 use Rattle.asm_text.specs.declared.layout.Layout.{Layout}
-use Rattle.asm_text.specs.declared.layout.Names.{Names}
+use Rattle.asm_text.specs.declared.layout.Standing.{Standing as Kept}
 use Rattle.asm_text.specs.declared.statement.Placed.{Placed}
 
-abbrev pub standing_of : Names → Standing
+abbrev pub standing_of : Kept → Standing
 standing_of n = record { here = n.here; names = n.names.entries }
 
 -- what a call leaves where it succeeds
-abbrev pub laid_out : Result (Unit {0}) LineError → Names → Result Standing LineError
+abbrev pub laid_out : Result (Unit {0}) LineError → Kept → Result Standing LineError
 laid_out (Ok u) n = Ok (standing_of n)
 laid_out (Err e) n = Err e
 
@@ -20,6 +20,6 @@ shown_layout (Ok l) = Ok (record { lines = l.lines; names = l.names.entries })
 shown_layout (Err fault) = Err fault
 
 -- a line, and what it leaves
-abbrev pub placed_told : Result Placed SourceFault → Names → Result (Placed × Standing) SourceFault
+abbrev pub placed_told : Result Placed SourceFault → Kept → Result (Placed × Standing) SourceFault
 placed_told (Ok line) n = Ok (line, standing_of n)
 placed_told (Err fault) n = Err fault

@@ -1,7 +1,9 @@
 -- What a word spells.
-use Rattle.std.specs.Prelude.{ℕ, ◌==◌, ◌||◌, nat_lt, List, take, drop, length, codes, slice_index, Option, Some, None, option_and_then, Result, Ok, Err, if◌then◌else◌}
+use Rattle.std.specs.Prelude.{ℕ, ◌==◌, ◌||◌, nat_lt, List, take, drop, length, codes, slice_index, Option, Some, None, option_and_then, if◌then◌else◌}
 use Rattle.std.specs.Char.{is_ascii_alphabetic}
 use Rattle.std.specs.List.{find}
+use Rattle.std.specs.Option.{option_or}
+use Rattle.std.specs.Result.{result_ok}
 use Rattle.std.specs.Str.{bytes_eq}
 use Rattle.muen_num.specs.Naming.{name_of}
 use Rattle.muen_num.specs.declared.access.AccessSize.{AccessSize}
@@ -19,18 +21,9 @@ behind beginning word = if bytes_eq (take (length beginning) word) beginning the
 abbrev pub below : ℕ → ℕ → Option ℕ
 below end n = if nat_lt n end then Some n else None
 
-abbrev pub result_ok : {X E : Type 0} → Result X E → Option X
-result_ok (Ok x) = Some x
-result_ok (Err e) = None
-
 -- `r0` to `r15`
 abbrev pub register_of : List ℕ → Option ℕ
 register_of word = option_and_then (below 16) (option_and_then (λ digits. result_ok (decimal digits)) (behind (codes "r") word))
-
--- the first that there is
-abbrev pub or_else : {X : Type 0} → Option X → Option X → Option X
-or_else (Some x) other = Some x
-or_else None other = other
 
 abbrev pub by_mark : Option (List ℕ) → Option ℕ → Option ℕ
 by_mark (Some digits) other = number_of_groups (groups_of digits)
@@ -38,7 +31,7 @@ by_mark None other = other
 
 -- a number below 2^64: decimal without a leading zero, `0x3f_fef0` or `16#3f_fef0#`
 abbrev pub number_in : List ℕ → Option ℕ
-number_in word = by_mark (behind (codes "0x") word) (or_else (based word) (result_ok (decimal word)))
+number_in word = by_mark (behind (codes "0x") word) (option_or (based word) (result_ok (decimal word)))
 
 -- a letter or `_` at the head, and a name's bytes and length
 abbrev pub symbol_of : List ℕ → Option (List ℕ)

@@ -1,5 +1,5 @@
 //! Where what each line says begins, and what each name stands for.
-ghost use Rattle.std.specs.Prelude.{◌≡◌, IfOk};
+ghost use Rattle.std.specs.Prelude.{◌≡◌};
 ghost use Rattle.muen_num.specs.Answers.{Answers};
 ghost use Rattle.asm_text.specs.Layout.{after_line, at_start, fault_in, labelled, layout_from, line_at, moved, stated, with_name};
 ghost use Rattle.asm_text.specs.Placing.{laid_out, placed_told, shown_layout, standing_of};
@@ -16,12 +16,12 @@ use text_words::first_line;
 
 /// What each name stands for, and where the next line begins.
 #[derive(Drop)]
-pub(crate) struct Names {
+pub(crate) struct Standing {
     pub here: u64,
     pub names: BTreeMap<Name, Meaning>,
 }
 
-impl Names {
+impl Standing {
     // A name that is new.
     fn add(&mut self, left: usize, name: Name, meaning: Meaning) -> Result<(), LineError>
         ensures { Answers LineError.NoMemory (with_name left name meaning (standing_of self.old)) (laid_out result self.new) }
@@ -129,16 +129,16 @@ pub(crate) fn fault_in(number: u64, end: u64, error: LineError) -> SourceFault
 #[tactic(auto, unfolding(crate::specs::Layout::line_at))]
 fn place_line(
     alloc: Global,
-    names: &mut Names,
+    standing: &mut Standing,
     number: u64,
     text: &[u8],
 ) -> Result<Placed, SourceFault>
-    ensures { Answers SourceFault.NoMemory (line_at (standing_of names.old) number text.now) (placed_told result names.new) }
+    ensures { Answers SourceFault.NoMemory (line_at (standing_of standing.old) number text.now) (placed_told result standing.new) }
 {
-    let here = names.here;
+    let here = standing.here;
     let end = text.len() as u64 + 1;
     match line_of(alloc, text) {
-        Ok(line) => match names.add_line(&line) {
+        Ok(line) => match standing.add_line(&line) {
             Ok(()) => Ok(Placed {
                 number,
                 end,
@@ -155,7 +155,7 @@ fn place_line(
 pub(crate) fn layout_of(alloc: Global, text: &[u8]) -> Result<Layout, SourceFault>
     ensures { Answers SourceFault.NoMemory (layout_from at_start 1 (lines_of text.now)) (shown_layout result) }
 {
-    let mut names = Names {
+    let mut standing = Standing {
         here: 0,
         names: BTreeMap::new(alloc),
     };
@@ -164,7 +164,7 @@ pub(crate) fn layout_of(alloc: Global, text: &[u8]) -> Result<Layout, SourceFaul
     let mut number: u64 = 1;
     while !rest.is_empty() {
         let (line, behind) = first_line(rest);
-        match place_line(alloc, &mut names, number, line) {
+        match place_line(alloc, &mut standing, number, line) {
             Ok(line) => lines.push(line)?,
             Err(fault) => return Err(fault),
         }
@@ -173,6 +173,6 @@ pub(crate) fn layout_of(alloc: Global, text: &[u8]) -> Result<Layout, SourceFaul
     }
     Ok(Layout {
         lines,
-        names: names.names,
+        names: standing.names,
     })
 }

@@ -16,13 +16,6 @@ use crate::words::{
 use muen_num::{AccessSize, Name, Seq};
 use std::alloc::Global;
 
-// What is wanted isn't there.
-fn wanted<T>(left: usize, want: Want) -> Result<T, LineError>
-    ensures { result ≡ Rattle.asm_text.specs.Reading.wanted left want }
-{
-    Err(LineError::Wanted { left, want })
-}
-
 // ---- tokens
 
 // This word or mark.

@@ -7,7 +7,7 @@ use Rattle.asm_text.proofs.layout.layout_of.Given as goal
 
 abbrev pub invariant-loop-rest : goal.invariant-loop-rest
 invariant-loop-rest l = record {
-  same : behind l.lines (layout_from (standing_of l.names) l.number (lines_of l.rest)) ≡ layout_from at_start 1 (lines_of l.text);
+  same : behind l.lines (layout_from (standing_of l.standing) l.number (lines_of l.rest)) ≡ layout_from at_start 1 (lines_of l.text);
   count : l.number + length l.rest ≤ length l.text + 1;
 }
 
