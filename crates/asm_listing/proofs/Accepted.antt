@@ -1,39 +1,26 @@
 -- The instruction of a line that is read is one of the table, with an immediate that it can have.
-use Rattle.std.proofs.Common.{◌≡◌, ℕ, ◌-◌, ◌^◌, ◌<◌, ◌≤◌, Bool, true, false, ℤ, pos, negsuc, List, Option, Some, None, Result, Ok, Err, refl, w32, arith}
-use Rattle.std.specs.Prelude.{if◌then◌else◌, codes, nat_lt, option_and_then}
+use Rattle.std.proofs.Common.{◌≡◌, ℕ, ◌-◌, ◌^◌, ◌<◌, ◌≤◌, Bool, true, false, ℤ, pos, negsuc, None, refl, w32, arith}
+use Rattle.std.specs.Prelude.{if◌then◌else◌}
 use Rattle.std.specs.Int.{cast_signed}
 use Rattle.std.specs.Int.RustNames.{FitsSigned}
-use Rattle.std.specs.Str.{bytes_eq}
 use Rattle.std.proofs.lemmas.Bool.{and_parts, leb-true, ltb-true}
 use Rattle.muen_num.specs.declared.access.AccessSize.{AccessSize}
-use Rattle.muen_num.specs.declared.access.AccessSize.TheVariants.{One, Two, Four, Eight}
-use Rattle.guest_isa.specs.GuestIsa.{IsSmall, IsValid}
+use Rattle.guest_isa.specs.GuestIsa.{IsValid}
 use Rattle.guest_isa.specs.declared.instr.Instr.{Instr}
-use Rattle.text_words.specs.Numbers.{decimal as number_below}
 use Rattle.text_words.specs.Steps.{◌>>=◌, ◌>>◌}
 use Rattle.asm_text.specs.Layout.{Names}
 use Rattle.asm_text.specs.Meaning.{fits, fits_signed, if_fits, immediate_by, immediate_of, residue, sum_of, distance_by, jump_by}
 use Rattle.asm_text.specs.Mnemonics.{instruction_with, shape_of}
-use Rattle.asm_text.specs.Reading.{at_end, below_jump, comma, data_line, definition, directive, displacement, found, immediate as immediate_operands, instruction, integer, keyword, label, line_of, memory, name_at, number, offset_line, operands_of, pair, place, port, register, size, small, statement, value, values, worded}
-use Rattle.asm_text.specs.Tokens.{Tokens, end_with, token}
-use Rattle.asm_text.specs.Words.{behind, below, data_size_of, mnemonic_of}
-use Rattle.asm_text.specs.declared.fault.LineError.{LineError}
+use Rattle.asm_text.specs.Reading.{number, size, value}
 use Rattle.asm_text.specs.declared.fault.Want.{Want}
-use Rattle.asm_text.specs.declared.fault.Want.TheVariants.{Register, At, To, Near, Range}
+use Rattle.asm_text.specs.declared.fault.Want.TheVariants.{Near, Range}
 use Rattle.asm_text.specs.declared.meaning.Sum.{Sum}
 use Rattle.asm_text.specs.declared.mnemonic.Mnemonic.{Mnemonic}
 use Rattle.asm_text.specs.declared.mnemonic.Mnemonic.TheVariants.{Nop, Li, Lih, Mov, Add, Sub, And, Or, Xor, Shl, Shr, Load, Store, Jmp, Jz, Jnz, Jb, In, Out, Rdmsr, Wrmsr, Rdtsc, Vmcall, Hlt, Sti, Cli, Setv, Reti}
-use Rattle.asm_text.specs.declared.mnemonic.Shape.{Shape}
-use Rattle.asm_text.specs.declared.mnemonic.Shape.TheVariants.{Alone, Immediate, Pair, Memory, PortRead, PortWrite, Destination, Source, Jump, JumpIf, JumpBelow}
-use Rattle.asm_text.specs.declared.statement.Operands.{Operands}
 use Rattle.asm_text.specs.declared.statement.Operation.{Operation}
-use Rattle.asm_text.specs.declared.statement.SourceLine.{SourceLine}
-use Rattle.asm_text.specs.declared.statement.Statement.{Statement}
-use Rattle.asm_text.specs.declared.statement.Statement.TheVariants.{Instruction}
-use Rattle.asm_text.specs.declared.statement.Value.{Value}
 use Rattle.asm_listing.proofs.Chunks.{signed_fits}
 use Rattle.asm_listing.proofs.Instructions.{immediate}
-use Rattle.asm_text.proofs.Accepted.{Holds, SizeFits, after, holds_then}
+use Rattle.asm_text.proofs.Accepted.{Holds, SizeFits, after}
 
 -- ---- immediates
 

@@ -1,10 +1,9 @@
 -- Where the items of a source that is read stand, and what their bytes are.
-use Rattle.std.proofs.Common.{◌≡◌, ℕ, zero, suc, ◌+◌, ◌-◌, ◌*◌, ◌%◌, ◌<◌, ◌≤◌, Bool, true, false, ℤ, pos, List, [], ◌∷◌, length, replicate, Option, Some, None, Result, Ok, Err, refl, ap, sym, ◌∙◌, ap₂, subst, length-append, suc-mul, w32, arith}
-use Rattle.std.specs.Prelude.{◌==◌, if◌then◌else◌, nat_lt, is_some}
+use Rattle.std.proofs.Common.{◌≡◌, ℕ, zero, suc, ◌+◌, ◌-◌, ◌*◌, ◌%◌, ◌<◌, ◌≤◌, true, false, ℤ, pos, List, [], ◌∷◌, length, replicate, None, ap, sym, ◌∙◌, subst, w32, arith}
+use Rattle.std.specs.Prelude.{◌==◌, if◌then◌else◌}
 use Rattle.std.specs.Int.{bytes_low_first, byte_at, cast_unsigned, to_le_bytes}
 use Rattle.std.specs.Int.RustNames.{FitsSigned}
 use Rattle.std.specs.List.{All, flat_map}
-use Rattle.std.proofs.lemmas.Bool.{eqb-true, ltb-false}
 use Rattle.std.proofs.lemmas.List.Elements.{All-append, All-cons, All-nil, All-replicate}
 use lib.ListN.{length-replicate}
 use Rattle.muen_num.specs.AccessSize.{bytes_of}
@@ -17,20 +16,11 @@ use Rattle.guest_isa.specs.declared.instr.Instr.TheVariants.{Nop, Li, Lih, Mov, 
 use native.Mathlib.Nat.{add_comm}
 use Rattle.text_words.specs.Parts.{lines_of}
 use Rattle.asm_text.specs.Appended.{behind}
-use Rattle.asm_text.specs.Layout.{Layout, Names, Standing, after_line, at_start, in_line, labelled, layout_from, line_at, meaning_of, moved, named, stated, with_name}
-use Rattle.asm_text.specs.Meaning.{Item, instruction, data_of, zeros, bytes_of_item, immediate_of, instruction_of, item_of, items_of, little_endian, number_of, numbers_of, said}
-use Rattle.asm_text.specs.Reading.{line_of, wanted}
-use Rattle.asm_text.specs.Tokens.{tokens_of}
-use Rattle.asm_text.specs.declared.fault.LineError.{LineError}
-use Rattle.asm_text.specs.declared.fault.LineError.TheVariants.{Wanted, NoMemory as LineMemory}
-use Rattle.asm_text.specs.declared.fault.Want.TheVariants.{Ahead, Aligned, NewName, Room}
-use Rattle.asm_text.specs.declared.statement.Label.{Label}
-use Rattle.asm_text.specs.declared.statement.Meaning.{Meaning}
+use Rattle.asm_text.specs.Layout.{Names, at_start, in_line, layout_from}
+use Rattle.asm_text.specs.Meaning.{Item, instruction, data_of, zeros, bytes_of_item, immediate_of, instruction_of, item_of, items_of, little_endian, numbers_of, said}
 use Rattle.asm_text.specs.declared.statement.Placed.{Placed}
-use Rattle.asm_text.specs.declared.statement.SourceLine.{SourceLine}
 use Rattle.asm_text.specs.declared.statement.Statement.{Statement}
 use Rattle.asm_text.specs.declared.statement.Statement.TheVariants.{Nothing, Definition, Offset, Data, Instruction}
-use Rattle.asm_text.specs.declared.statement.Value.{Value}
 use Rattle.asm_text.proofs.Accepted.{Holds, holds_then}
 use Rattle.asm_text.proofs.Seats.{AreSeated, AreSeatedIn, IsLong, IsPassed, encoding_long, filled, in_line_holds, layout_seated, numbers_long, numbers_many}
 use Rattle.asm_listing.proofs.Accepted.{IsSound, immediate_fits, sound_with}

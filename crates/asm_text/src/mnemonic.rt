@@ -2,7 +2,6 @@
 ghost use Rattle.std.specs.Prelude.{◌≡◌, ◌<◌};
 ghost use Rattle.asm_text.specs.Mnemonics.{instruction_with, mnemonic_text, shape_of};
 ghost use Rattle.asm_text.specs.Words.{mnemonic_of};
-ghost use Rattle.guest_isa.specs.GuestIsa.{IsSmall, IsValid};
 
 use guest_isa::Instr;
 use muen_num::AccessSize;

@@ -1,5 +1,5 @@
 //! What a word spells.
-ghost use Rattle.std.specs.Prelude.{◌≡◌, ◌<◌, IfSome};
+ghost use Rattle.std.specs.Prelude.{◌≡◌, ◌<◌};
 ghost use Rattle.asm_text.specs.Reading.{atom_of, sign_of};
 ghost use Rattle.asm_text.specs.Words.{data_size_of, number_in, register_of, size_of, size_unit, symbol_of};
 

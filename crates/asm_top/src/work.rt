@@ -1,5 +1,5 @@
 //! The commands: a file is read, and what follows from it is put or written.
-ghost use Rattle.std.specs.Prelude.{◌≡◌, ◌∷◌, [], IfErr, IfOk, IfSome, Ok, Some, map, string_bytes};
+ghost use Rattle.std.specs.Prelude.{◌≡◌, ◌∷◌, [], IfErr, IfOk, IfSome, Ok, map, string_bytes};
 ghost use Rattle.asm_listing.specs.Listing.{listing_of};
 ghost use Rattle.asm_listing.specs.Source.{source_of};
 ghost use Rattle.muen_outside.specs.Looks.{HeldAfter, ShowAll, looks_since, writes_since};

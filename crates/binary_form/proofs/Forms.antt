@@ -10,7 +10,7 @@ use Rattle.binary_form.specs.declared.fault.Field.{Field}
 use Rattle.binary_form.specs.declared.fault.FormFault.{FormFault}
 use Rattle.binary_form.specs.declared.fault.FormFault.TheVariants.{Short, Bad, Trailing}
 use Rattle.binary_form.specs.Form.{IsBytes, ◌>>=◌, Form, left_of, IsSettled, extended, longer, only, field, tag, tag_at, gap, gap_at, absent, present, spelled_there, fits_there, either, done, items, items_at, spells, all_fit, each, each_at, each_spelled, each_fit, whole}
-use Rattle.binary_form.proofs.Leaves.{IsBytes-drop, bind_ok, test_ok, tests_ok, else_ok, bind_err, test_err, tests_err, else_err, err_is, ok_not_err, Takes-shorter, ok_is, Takes, Takes-then, Laws, bind_stays, field_stays, number_laws, byte_laws, bytes_laws, coded_laws, wide16, wide32, wide64}
+use Rattle.binary_form.proofs.Leaves.{IsBytes-drop, bind_ok, test_ok, tests_ok, bind_err, test_err, tests_err, ok_not_err, Takes-shorter, ok_is, Takes, Takes-then, Laws, bind_stays, field_stays, number_laws, byte_laws, bytes_laws, coded_laws, wide16, wide32, wide64}
 
 -- ---- a condition
 

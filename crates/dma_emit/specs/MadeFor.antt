@@ -1,7 +1,7 @@
 -- What the file of a placed policy's tables keeps.
 use Rattle.std.specs.Prelude.{◌+◌, ◌*◌, ◌≤◌, length}
 use Rattle.std.specs.List.{All}
-use Rattle.binary_form.specs.Form.{IsBytes}
+use Rattle.dma_tables.specs.Form.{IsBytes}
 use Rattle.dma_emit.specs.Base.{IsBase}
 use Rattle.dma_emit.specs.Domains.{domains_of}
 use Rattle.dma_emit.specs.Emitted.{IsFileOf}

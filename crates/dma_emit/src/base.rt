@@ -1,7 +1,7 @@
 //! The lowest pages that no block of memory and no memory of a device has.
 ghost use Rattle.std.specs.Prelude.{◌≡◌, ◌+◌, ◌*◌, ◌%◌, ◌<◌, ◌≤◌, ◌^◌, ◌||◌, All, IfOk, map, nat_le, not, option_map};
 ghost use Rattle.std.specs.List.{find, sum_by};
-ghost use Rattle.dma_emit.specs.Base.{IsBase, IsLowestFree, is_free};
+ghost use Rattle.dma_emit.specs.Base.{IsBase, IsLowestFree};
 ghost use Rattle.dma_tables.specs.declared.file.TheConstants.{MOST_DMA_PAGES};
 ghost use Rattle.muen_num.specs.declared.limits.TheConstants.{PAGE, PHYSICAL_END};
 ghost use Rattle.policy_lawful.specs.Resolution.{source_of};

@@ -1,6 +1,6 @@
 //! The tables of a placed policy.
 ghost use Rattle.std.specs.Prelude.{◌≡◌, ◌*◌, ◌<◌, ℕ, Bool, List, length, IfOk};
-ghost use Rattle.binary_form.specs.Form.{IsBytes};
+ghost use Rattle.dma_tables.specs.Form.{IsBytes};
 ghost use Rattle.dma_emit.specs.Base.{IsBase};
 ghost use Rattle.dma_emit.specs.Domains.{domains_of};
 ghost use Rattle.dma_emit.specs.Emitted.{IsFileOf};

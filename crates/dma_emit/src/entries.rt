@@ -1,5 +1,5 @@
 //! Root and context tables (Intel VT-d specification, legacy mode).
-ghost use Rattle.std.specs.Prelude.{◌≡◌, ◌+◌, ◌<◌, ◌≤◌, ◌++◌, ◌^◌, length, map, slice_index, IfSome, OnOk, option_map};
+ghost use Rattle.std.specs.Prelude.{◌≡◌, ◌+◌, ◌<◌, ◌≤◌, ◌++◌, ◌^◌, length, map, OnOk, option_map};
 ghost use Rattle.std.specs.List.{flat_map};
 ghost use Rattle.dma_emit.specs.Entries.{context_entry, context_of, device_on, entry_bytes, refers_to, root_entry, table_bytes};
 ghost use Rattle.dma_emit.specs.Layout.{buses, context_page, on_bus, page_count, tables_page};

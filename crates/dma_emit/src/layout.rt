@@ -1,10 +1,9 @@
 //! Which page of the file has which table. Pages are numbered from 0, the root table's.
 ghost use Rattle.std.specs.Prelude.{◌≡◌, ◌+◌, ◌==◌, ◌<◌, ◌≤◌, length, map, IfOk};
-ghost use Rattle.std.specs.List.{list_any};
-ghost use Rattle.dma_emit.specs.Layout.{buses, buses_below, domain_pages, has_device, on_bus, page_count, tables_page, windows_at};
+ghost use Rattle.dma_emit.specs.Layout.{buses, buses_below, domain_pages, has_device, on_bus, tables_page};
 ghost use Rattle.dma_emit.specs.Ready.{AreWindows, IsReady};
 ghost use Rattle.dma_emit.specs.declared.layout.TheConstants.{BUSES};
-ghost use Rattle.ept_emit.specs.Pages.{ept_pages, range_of, ranges_of};
+ghost use Rattle.ept_emit.specs.Pages.{ept_pages, ranges_of};
 ghost use Rattle.muen_num.specs.Range.{numbers_below};
 
 use crate::domains::Domains;

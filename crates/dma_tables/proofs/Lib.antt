@@ -5,3 +5,4 @@ pub mod FileLaws
 pub mod FileSizes
 pub mod Lines
 pub mod LoweredLaws
+pub use Rattle.image_pack.proofs.PartsKeep

@@ -7,3 +7,6 @@ pub mod LineWrites
 pub mod Lowered
 pub mod LoweredRecord
 pub mod Tables
+pub use Rattle.binary_form.specs.Form
+pub use Rattle.image_pack.specs.ImageConditions
+pub use Rattle.image_pack.specs.declared.parts

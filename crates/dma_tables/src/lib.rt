@@ -15,6 +15,7 @@ mod walk;
 mod writing;
 
 pub use binary_form::{Field, ImageFault};
+pub use device_bench::Effect;
 pub use fault::dma_fault_pieces;
 pub use file::{DmaDevice, DmaFile, MOST_DMA_PAGES};
 pub use lowering::{lower, lowered_records};

@@ -10,8 +10,8 @@ use Rattle.ept_emit.specs.Emitted.{holds, window_at}
 use Rattle.ept_emit.specs.Searches.{IsPast}
 use Rattle.ept_emit.specs.declared.window.Leaf.TheVariants.{Small}
 use Rattle.ept_emit.specs.declared.window.Window.{Window}
-use Rattle.policy_types.specs.declared.rights.Caching.TheVariants.{Uc}
-use Rattle.policy_types.specs.declared.rights.Rights.TheVariants.{R}
+use Rattle.ept_emit.specs.rights.Caching.TheVariants.{Uc}
+use Rattle.ept_emit.specs.rights.Rights.TheVariants.{R}
 
 -- a window to read by
 abbrev pub some_window : Window

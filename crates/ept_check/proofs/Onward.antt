@@ -15,7 +15,7 @@ use Rattle.machine_layout.specs.Walks.{addresses_from, bits_of, entry_address, e
 use Rattle.machine_layout.specs.declared.walk.Walk.{Walk}
 use Rattle.machine_layout.specs.declared.walk.Walk.TheVariants.{At, Misconfigured, Violation}
 use Rattle.muen_num.specs.declared.access.AccessKind.{AccessKind}
-use Rattle.policy_types.specs.Rights.{allows}
+use Rattle.ept_emit.specs.Rights.{allows}
 
 abbrev pub onward : ℕ → Walk → Walk
 onward d (At address) = At (address + d)

@@ -21,7 +21,7 @@ use Rattle.muen_num.specs.Access.{kind_bit}
 use Rattle.muen_num.specs.Search.{first_of}
 use Rattle.muen_num.specs.declared.access.AccessKind.{AccessKind}
 use Rattle.muen_num.specs.declared.access.AccessKind.TheVariants.{Fetch, Read, Write}
-use Rattle.policy_types.specs.Rights.{allows}
+use Rattle.ept_emit.specs.Rights.{allows}
 
 -- ---- tests
 

@@ -10,5 +10,6 @@ mod tables;
 mod window;
 
 pub use count::pages;
+pub use policy_types::{Caching, Rights};
 pub use tables::{emit, eptp, write_tables};
 pub use window::{GuestRange, Leaf, Window};

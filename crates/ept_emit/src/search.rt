@@ -1,5 +1,5 @@
 //! Which window has an address of an entry.
-ghost use Rattle.std.specs.Prelude.{◌≡◌, ◌+◌, ◌*◌, ◌^◌, ◌<◌, ◌≤◌, length, All, IfSome};
+ghost use Rattle.std.specs.Prelude.{◌≡◌, ◌+◌, ◌*◌, ◌^◌, ◌<◌, ◌≤◌, All, IfSome};
 ghost use Rattle.ept_emit.specs.Pages.{AreApart, ranges_of};
 ghost use Rattle.ept_emit.specs.Entries.{IsEmittable, window_on};
 ghost use Rattle.ept_emit.specs.Searches.{IsPast};

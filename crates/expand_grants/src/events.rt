@@ -1,7 +1,7 @@
 //! The events that a subject raises.
 ghost use Rattle.std.specs.Prelude.{◌≡◌, ◌++◌, true, slice_get, Some, IfOk};
 ghost use Rattle.std.specs.List.{filter_map, list_all};
-ghost use Rattle.expand_grants.specs.Raising.{all_readers, all_targets, call_entry, channel_end_entry, entries_of, entry, fits_channel_end, fits_channel_ends, fits_number, fits_source, fits_sources, fits_way, source_entry, way_of, writer_call};
+ghost use Rattle.expand_grants.specs.Raising.{all_readers, all_targets, call_entry, channel_end_entry, entries_of, entry, fits_channel_end, fits_channel_ends, fits_source, fits_sources, fits_way, source_entry, way_of, writer_call};
 
 use crate::append::push_some;
 use crate::granted::{EventEntry, Way};

@@ -1,7 +1,6 @@
 //! The subjects that events, and events of channels, reach.
 ghost use Rattle.std.specs.Prelude.{◌≡◌, ◌++◌, ◌==◌, true, map, option_map, IfOk};
 ghost use Rattle.std.specs.List.{filter_map, find, list_all};
-ghost use Rattle.policy_lawful.specs.Resolution.{IsResolved};
 ghost use Rattle.expand_grants.specs.Raising.{all_readers, all_targets, first_reached, fits_channel_end, fits_channel_ends, fits_number, fits_target, fits_targets, reader_reached, target_reached};
 
 use crate::append::push_some;

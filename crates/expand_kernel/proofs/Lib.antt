@@ -8,3 +8,4 @@ pub mod InTurn
 pub mod LowestFirst
 pub mod Numbering
 pub mod TablePages
+pub use Rattle.ept_emit.proofs.PageCounts

@@ -6,3 +6,4 @@ pub use Rattle.expand_grants.specs.declared.granted
 pub mod ByIndex
 pub mod Expansion
 pub mod Regions
+pub use Rattle.ept_emit.specs.declared.window

@@ -1,5 +1,5 @@
 //! The major frame that runs, and the slots in it.
-ghost use Rattle.std.specs.Prelude.{◌≡◌, ◌<◌, length, map, option_map, slice_get};
+ghost use Rattle.std.specs.Prelude.{◌≡◌, ◌<◌, map, option_map, slice_get};
 ghost use Rattle.frame_clock.specs.Plan.{frames_in};
 ghost use Rattle.frame_clock.specs.FrameSlot.{slot_of};
 ghost use Rattle.frame_clock.specs.Frames.{next_major, frame_at_tick, slot_in, ticks_of_majors, first_frame};

@@ -12,8 +12,8 @@ use Rattle.policy_json.specs.Document.{json_of, policy_from, policy_of, read_sys
 use Rattle.policy_json.specs.Objects.{description, read_if_present, read_known, read_object, read_optional, read_required}
 use Rattle.policy_json.specs.Table as table
 use Rattle.policy_json.specs.Values.{and_then, under, or_want, read_hexadecimal, read_items, read_list, read_mode, read_name, read_number, read_rights, read_role}
-use Rattle.policy_types.specs.declared.refusal.Fault.{Fault}
-use Rattle.policy_types.specs.declared.refusal.Want.TheVariants.{Hexadecimal}
+use Rattle.policy_lawful.specs.refusal.Fault.{Fault}
+use Rattle.policy_lawful.specs.refusal.Want.TheVariants.{Hexadecimal}
 use Rattle.policy_lawful.specs.rights.Rights.TheVariants.{Rx}
 use Rattle.serde_json.specs.Data.{Data, member, no_members, number, object, string, unsigned}
 use Rattle.serde_json.specs.Read.{read}

@@ -4,7 +4,7 @@ ghost use Rattle.muen_num.specs.Range.{numbers_below};
 ghost use Rattle.serde_json.specs.Data.{Data};
 ghost use Rattle.serde_json.specs.View.{view};
 ghost use Rattle.generated_system.specs.PolicyValue.{channel_value, devices_value, frames_value, group_value, list as list_value, minor_frame_value, reader_value, region_value, subject_value, whole_device_value, window_value, writer_value};
-ghost use Rattle.generated_system.specs.System.{code_of, numbered as numbered_name, one_before};
+ghost use Rattle.generated_system.specs.System.{code_of, numbered as numbered_name};
 
 use crate::code::code;
 use serde_json::{Value, json, push};

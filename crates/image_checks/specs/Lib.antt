@@ -1,4 +1,4 @@
-pub use Rattle.image_emit.specs.Made
+pub use Rattle.proof_build.specs.Made
 pub use Rattle.image_soundness.specs.Memory
 pub use Rattle.image_soundness.specs.Sound
 pub mod Agreement

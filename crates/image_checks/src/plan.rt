@@ -1,15 +1,15 @@
 //! Whether the plan of an image, its CPUs and the region of its scheduler are a policy's.
-ghost use Rattle.std.specs.Prelude.{◌≡◌, length, IfOk};
+ghost use Rattle.std.specs.Prelude.{◌≡◌, length, IfOk, true};
 ghost use Rattle.image_checks.specs.Firsts.{Decides};
 ghost use Rattle.image_checks.specs.PlanFault.{HasChoice, HasPlan};
 ghost use Rattle.plan_emit.specs.PlanOf.{IsPlanOf};
-ghost use Rattle.policy_lawful.specs.Resolution.{source_of};
+ghost use Rattle.policy_lawful.specs.Resolution.{IsResolved, source_of};
 
 use crate::spans::has_tag;
 use image_pack::{GroupPart, Image, Major, Parts, Plan};
 use muen_num::{NoMemory, Tag, TagPart};
 use plan_emit::plan;
-use policy_lawful::Lawful;
+use policy_lawful::{Lawful, Resolved};
 use std::alloc::Global;
 
 fn same_groups(a: &[GroupPart], b: &[GroupPart]) -> bool
@@ -31,13 +31,21 @@ fn same_plan(a: &Plan, b: &Plan) -> bool
         && same_majors(a.majors.items(), b.majors.items())
 }
 
+// Whether the subjects have different names: they do, since the policy's type says so.
+fn is_resolved(policy: &Resolved) -> bool
+    ensures is { IsResolved policy.now }
+    ensures holds { result ≡ true }
+{
+    policy.subjects().len() <= usize::MAX
+}
+
 // Whether a plan is that of the policy.
 fn is_plan(alloc: Global, lawful: &Lawful, given: &Plan) -> Result<bool, NoMemory>
     ensures { IfOk result (Decides (IsPlanOf (source_of lawful.now) given.now)) }
 {
     let made = plan(alloc, lawful)?;
-    // The subjects of a resolved policy have different names, so it has one plan.
-    let _subjects = lawful.resolved().subjects();
+    // Subjects have different names, so there is one plan.
+    prove!(is_resolved(lawful.resolved()));
     Ok(same_plan(&made, given))
 }
 

@@ -2,7 +2,7 @@
 use Rattle.std.proofs.Common.{◌≡◌, refl, sym, ap, ap₂, subst, ℕ, List, length, map, Option}
 use Rattle.std.specs.List.{All}
 use Rattle.std.specs.List.Sorted.{IsPermutation}
-use Rattle.binary_form.specs.Form.{IsBytes}
+use Rattle.image_pack.specs.Form.{IsBytes}
 use Rattle.event_emit.specs.Tables.{AreDevices}
 use Rattle.image_emit.proofs.Conditions.{keeps}
 use Rattle.image_emit.proofs.ContentLengths.{contents_kept}

@@ -6,7 +6,7 @@ use Rattle.std.proofs.Math.Seq.{take-suc}
 use Rattle.std.proofs.lemmas.List.{map-append}
 use Rattle.std.proofs.lemmas.List.Elements.{All-append, All-cons, All-nil}
 use Rattle.std.proofs.lemmas.Option.{get_or_from_slice_get, slice_get-get_or, slice_get_within}
-use Rattle.binary_form.specs.Form.{IsBytes}
+use Rattle.image_pack.specs.Form.{IsBytes}
 use Rattle.image_emit.specs.Taking.{IsTaking}
 use Rattle.image_pack.specs.SpanConditions.{HaveDifferentNumbers}
 use Rattle.image_pack.specs.declared.parts.SpanPart.{SpanPart}

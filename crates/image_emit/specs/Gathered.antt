@@ -1,7 +1,7 @@
 -- Parts of an image that are made one after another.
 use Rattle.std.specs.Prelude.{◌≡◌, ℕ, List, [], ◌++◌, map, zip, slice_index_or}
 use Rattle.std.specs.List.{All, AllZip, enumerate_from, flat_map}
-use Rattle.binary_form.specs.Form.{IsBytes}
+use Rattle.image_pack.specs.Form.{IsBytes}
 use Rattle.event_emit.specs.Tables.{AreTables}
 use Rattle.event_emit.specs.declared.event_tables.EventTables.{EventTables}
 use Rattle.image_emit.specs.Made.{kernel_bytes, subject_part}

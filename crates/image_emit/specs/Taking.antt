@@ -1,7 +1,7 @@
 -- What spans hold, taken one after another.
 use Rattle.std.specs.Prelude.{◌≡◌, ℕ, ◌≤◌, List, [], map, slice_get, slice_index_or, take, Some}
 use Rattle.std.specs.List.{All}
-use Rattle.binary_form.specs.Form.{IsBytes}
+use Rattle.image_pack.specs.Form.{IsBytes}
 use Rattle.image_pack.specs.declared.parts.SpanPart.{SpanPart}
 
 -- the first so many spans hold what stood at their numbers, which are bytes, and what stands at the others' numbers is as it was

@@ -1,7 +1,7 @@
 //! What the spans of an image hold.
 ghost use Rattle.std.specs.Prelude.{◌≡◌, ◌++◌, [], flat_map, map, slice_index_or, slice_set, IfOk, OnOk};
 ghost use Rattle.std.specs.List.{All};
-ghost use Rattle.binary_form.specs.Form.{IsBytes};
+ghost use Rattle.image_pack.specs.Form.{IsBytes};
 ghost use Rattle.image_emit.specs.Made.{kernel_bytes};
 ghost use Rattle.image_pack.specs.SpanConditions.{HaveDifferentNumbers};
 

@@ -7,8 +7,8 @@ use Rattle.std.proofs.lemmas.List.Elements.{All-from_recursion}
 use Rattle.muen_num.specs.declared.limits.TheConstants.{MOST_DEVICES, PAGE, PHYSICAL_END}
 use Rattle.phys_mem.specs.Spans.{AreApart, AreSpans, IsSpan, end_of}
 use Rattle.phys_mem.specs.declared.spans.MemorySpan.{MemorySpan}
-use Rattle.binary_form.specs.Form.{all_fit, byte, bytes_of, coded, done, each, each_fit, field, gap, items, number, only}
-use Rattle.binary_form.proofs.Forms.{both_true}
+use Rattle.image_pack.specs.Form.{all_fit, byte, bytes_of, coded, done, each, each_fit, field, gap, items, number, only}
+use Rattle.image_pack.proofs.Forms.{both_true}
 use Rattle.image_pack.specs.Codes.{is_device}
 use Rattle.image_pack.specs.Image.{after, content, counts, header, image, no_spans_before, span}
 use Rattle.image_pack.specs.Parts.{IsParts}

@@ -10,7 +10,7 @@ use Rattle.binary_form.proofs.Sizes.{IsSized, bytes_sized, done_sized, each_size
 use Rattle.image_pack.specs.Codes.{is_device}
 use Rattle.image_pack.specs.Image.{after, after_device, content, device, group, image, major, next_index, no_spans_before, nothing_left, outline, span, subject}
 use Rattle.image_pack.specs.Parts.{IsImage}
-use Rattle.image_pack.specs.Sizes.{device_size, group_size, header_size, major_size, most_image_bytes, span_size, subject_size}
+use Rattle.image_pack.specs.Sizes.{device_size, group_size, major_size, most_image_bytes, span_size, subject_size}
 use Rattle.image_pack.specs.SpanConditions.{pages_of}
 use Rattle.image_pack.specs.declared.outline.Header.{Header}
 use Rattle.image_pack.specs.declared.parts.Image.{Image}

@@ -14,3 +14,8 @@ pub mod SpansFit
 pub mod SpansKeep
 pub mod SubjectsFit
 pub mod SubjectsKeep
+pub use Rattle.binary_form.proofs.Forms
+pub use Rattle.binary_form.proofs.Loops
+pub use Rattle.binary_form.proofs.Leaves
+pub use Rattle.binary_form.proofs.Sizes
+pub use Rattle.binary_form.proofs.Theorem

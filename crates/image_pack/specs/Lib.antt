@@ -6,3 +6,7 @@ pub mod ImageConditions
 pub mod Parts
 pub mod Sizes
 pub mod SpanConditions
+pub use Rattle.binary_form.specs.Form
+pub use Rattle.binary_form.specs.FaultText
+pub use Rattle.binary_form.specs.Faults
+pub use Rattle.binary_form.specs.declared.fault

@@ -1,6 +1,6 @@
 //! An image that is known to be one, read from its bytes and written as them.
 ghost use Rattle.std.specs.Prelude.{◌≡◌, ◌≤◌, ◌<◌, Err, ◌++◌, ℕ, List, length, Ok, IfOk};
-ghost use Rattle.binary_form.specs.Form.{Form, IsBytes, left_of, whole};
+ghost use Rattle.binary_form.specs.Form.{IsBytes, whole};
 ghost use Rattle.binary_form.specs.Faults.{Tells, unpacked, IsShort};
 ghost use Rattle.binary_form.specs.declared.fault.Field.{Field};
 ghost use Rattle.image_pack.specs.Image.{image};

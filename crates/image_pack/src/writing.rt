@@ -4,7 +4,7 @@
 ghost use Rattle.std.specs.Prelude.{◌≡◌, ℕ, ◌++◌, List, OnOk, is_some};
 ghost use Rattle.binary_form.specs.Form.{Form, items, each};
 ghost use Rattle.image_pack.specs.Codes.{part_code, part_name};
-ghost use Rattle.image_pack.specs.Image.{tau0_at, counts, header, title, span, group, event, events, subject, minor, frames, major, range, window, irq, device, content, image};
+ghost use Rattle.image_pack.specs.Image.{tau0_at, counts, header, title, span, group, events, subject, minor, frames, major, range, window, irq, device, content, image};
 ghost use Rattle.image_pack.specs.declared.outline.Header.{Header};
 ghost use Rattle.image_pack.specs.declared.outline.Outline.{Outline};
 ghost use Rattle.image_pack.specs.declared.reading.spans.SpansBefore.{SpansBefore};

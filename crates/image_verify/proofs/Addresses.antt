@@ -34,7 +34,7 @@ use Rattle.policy_lawful.specs.source.Source.{Source}
 use Rattle.policy_lawful.specs.source.Subject.{Subject as NamedSubject}
 use Rattle.proof_build.proofs.FirstIndexes.{IsFirstAt, beside_first, first_mapped, first_named, none_joined, none_mapped, none_pieces}
 use Rattle.proof_build.proofs.NamedViews.{shown_name, view_called}
-use Rattle.subject_emit.proofs.Pieces.{from_some}
+use Rattle.proof_start.proofs.ListFacts.{from_some}
 use Rattle.policy_lawful.proofs.Items.{provided_by, things_are}
 
 -- ---- by kind and name

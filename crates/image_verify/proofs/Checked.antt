@@ -39,7 +39,7 @@ use Rattle.policy_lawful.specs.Windows.{access_of, windows_of}
 use Rattle.policy_lawful.specs.declared.resolved.Subject.{Subject}
 use Rattle.policy_lawful.specs.source.Source.{Source}
 use Rattle.proof_build.specs.Built.{HasOnePathPerTable as HasOnePath, IsOnePath as IsSamePath}
-use Rattle.subject_emit.proofs.Pieces.{from_some}
+use Rattle.proof_start.proofs.ListFacts.{from_some}
 
 -- ---- entries lie at multiples of 8
 

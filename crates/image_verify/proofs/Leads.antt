@@ -42,7 +42,7 @@ use Rattle.policy_lawful.specs.Rights.{allows, rights_bits}
 use Rattle.policy_lawful.specs.rights.Rights.{Rights}
 use Rattle.policy_lawful.specs.source.Source.{Source}
 use Rattle.proof_build.proofs.WalksByWindow.{ArePassedOnce, found_contained, found_permuted}
-use Rattle.region_alloc.proofs.EachInTurn.{All-in_order}
+use Rattle.proof_build.proofs.EachInTurn.{All-in_order}
 
 -- ---- pairs of a list that is mapped
 

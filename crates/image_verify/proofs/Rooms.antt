@@ -39,12 +39,11 @@ use Rattle.policy_lawful.specs.declared.resolved.Subject.{Subject}
 use Rattle.policy_lawful.specs.declared.view.View.{View}
 use Rattle.policy_lawful.specs.source.Source.{Source}
 use Rattle.policy_lawful.specs.source.Subject.{Subject as NamedSubject}
-use Rattle.proof_start.proofs.ListFacts.{all_at, any_passing, filtered_at, first_at, found_at, found_some, kept_at, other_at}
+use Rattle.proof_start.proofs.ListFacts.{all_at, any_passing, filtered_at, first_at, found_at, found_some, from_some, kept_at, other_at}
 use Rattle.proof_start.proofs.MemoryFacts.{span_by}
 use Rattle.proof_start.proofs.SubjectFacts.{subject_spans}
 use Rattle.proof_start.proofs.WindowFacts.{IsOn, IsOnState, IsOnThing, each_window}
-use Rattle.subject_emit.proofs.Pieces.{from_some}
-use Rattle.subject_model.proofs.KeyLaws.{same_things}
+use Rattle.proof_start.proofs.KeyLaws.{same_things}
 
 -- ---- numbers
 

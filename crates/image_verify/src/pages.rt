@@ -4,7 +4,7 @@ ghost use Rattle.ept_check.specs.Sound.{AreTables};
 ghost use Rattle.ept_check.specs.Tables.{is_among};
 ghost use Rattle.image_checks.specs.Memory.{memory_of};
 ghost use Rattle.image_checks.specs.Sound.{is_in_tables, is_tables};
-ghost use Rattle.image_verify.specs.TablePages.{pages_of_all, pages_of_span, pages_of_tables};
+ghost use Rattle.image_verify.specs.TablePages.{pages_of_all, pages_of_span};
 
 use image_pack::{Parts, SpanKind, SpanPart};
 use muen_num::limits::PAGE;

@@ -5,3 +5,4 @@
 mod bitmaps;
 
 pub use bitmaps::emit;
+pub use policy_types::PortRange;

@@ -5,3 +5,6 @@ pub use Rattle.frame_clock.specs.Run
 pub mod Kernel
 pub mod Slots
 pub mod Ticks
+pub use Rattle.device_bench.specs.declared.effect
+pub use Rattle.event_router.specs.Router
+pub use Rattle.event_router.specs.Vectors

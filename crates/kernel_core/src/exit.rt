@@ -1,5 +1,5 @@
 //! What the kernel makes of an exit.
-ghost use Rattle.std.specs.Prelude.{◌≡◌, option_and_then, slice_get};
+ghost use Rattle.std.specs.Prelude.{◌≡◌};
 ghost use Rattle.kernel_core.specs.Kernel.{entry, event_of, exit_end_of};
 
 use image_pack::{EventPart, SubjectPart};

@@ -2,9 +2,7 @@
 ghost use Rattle.std.specs.Prelude.{◌≡◌, ◌<◌, length, slice_get, option_map, None, Some, IfOk};
 ghost use Rattle.guest_isa.specs.state.SubjectState.{SubjectState};
 ghost use Rattle.image_pack.specs.declared.parts.SubjectPart.{SubjectPart};
-ghost use Rattle.muen_num.specs.ListChange.{change_at};
-ghost use Rattle.event_router.specs.Router.{deliverable, taken};
-ghost use Rattle.vmx_machine.specs.Machine.{entered, left, state_on};
+ghost use Rattle.event_router.specs.Router.{taken};
 ghost use Rattle.kernel_core.specs.Kernel.{acts, event_of, exit_handled, raised_by, standing_of, switched, turn_of, vector_for};
 ghost use Rattle.device_bench.specs.Devices.{CanRun};
 ghost use Rattle.kernel_core.specs.Ticks.{kernel_started, with_live};
@@ -15,7 +13,6 @@ use crate::setup::Setup;
 use crate::slots::{KeptSlot, no_slots, slot_at};
 use crate::turn::{Standing, Turn};
 use device_bench::{Bench, Effect, Record};
-use ept_walk::{PhysMem, Translate};
 use event_router::Router;
 use frame_clock::FrameAt;
 use guest_isa::{Finish, StepEnd};
@@ -24,7 +21,7 @@ use muen_num::NoMemory;
 use std::alloc::Global;
 use std::marker::Model;
 use view_text::{TurnAction, TurnLine};
-use vmx_machine::{Control, Machine};
+use vmx_machine::{Control, Machine, PhysMem, Translate};
 
 /// The kernel of a system that runs on a record.
 #[derive(Drop)]

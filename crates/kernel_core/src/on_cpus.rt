@@ -1,5 +1,5 @@
 //! Which subject is on which CPU, by numbers.
-ghost use Rattle.std.specs.Prelude.{◌≡◌, ◌<◌, List, ℕ, length, replicate, slice_get, Option, None, Some, IfOk};
+ghost use Rattle.std.specs.Prelude.{◌≡◌, ◌<◌, length, replicate, slice_get, Option, None, Some, IfOk};
 ghost use Rattle.muen_num.specs.ListChange.{change_at};
 
 use muen_num::NoMemory;

@@ -1,7 +1,6 @@
 //! Ticks: how one begins, in which order the CPUs take their turns, and how a run ends.
-ghost use Rattle.std.specs.Prelude.{◌≡◌, ◌+◌, ◌*◌, ◌<◌, ◌≤◌, ◌^◌, None, length, replicate, map, slice_get, option_map};
+ghost use Rattle.std.specs.Prelude.{◌≡◌, ◌+◌, ◌*◌, ◌<◌, ◌≤◌, ◌^◌, None, length, map, slice_get, option_map};
 ghost use Rattle.muen_num.specs.Range.{numbers_below};
-ghost use Rattle.device_bench.specs.Devices.{order_at};
 ghost use Rattle.frame_clock.specs.Run.{all_taken, begun};
 ghost use Rattle.guest_isa.specs.StatePage.{state_in};
 ghost use Rattle.vmx_machine.specs.Machine.{page_at};
@@ -9,10 +8,9 @@ ghost use Rattle.kernel_core.specs.Ticks.{all_left, begins, ended, kernel, pick_
 
 use crate::kernel::{Kernel, control_at};
 use device_bench::{Effect, TickInput};
-use ept_walk::{PhysMem, Translate};
 use frame_clock::advance;
 use guest_isa::SubjectState;
-use vmx_machine::Machine;
+use vmx_machine::{Machine, PhysMem, Translate};
 
 // The first byte of a page, by its number.
 fn first_byte<M: PhysMem>(mem: &M, page: u32) -> Option<u8>

@@ -1,5 +1,5 @@
 //! The lines of a map.
-ghost use Rattle.std.specs.Prelude.{◌≡◌, ◌+◌, ◌≤◌, ◌++◌, length, take};
+ghost use Rattle.std.specs.Prelude.{◌≡◌, ◌+◌, ◌≤◌, ◌++◌, length};
 ghost use Rattle.map_report.specs.Lines.{laid_word};
 ghost use Rattle.map_report.specs.MapText.{rights_text};
 

@@ -7,3 +7,4 @@ mod bitmap;
 
 pub use area::emit_area;
 pub use bitmap::emit;
+pub use policy_types::MsrGrant;

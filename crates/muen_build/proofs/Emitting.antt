@@ -5,7 +5,7 @@ use Rattle.std.specs.Prelude.{IfOk, Result}
 use Rattle.std.proofs.lemmas.Result.{IfOk-weaker}
 use Rattle.expand_kernel.specs.Expansion.{Expansion}
 use Rattle.image_emit.specs.Made.{IsFilled, thing_bytes}
-use Rattle.image_soundness.specs.Sound.{IsSound}
+use Rattle.proof_build.specs.Sound.{IsSound}
 use Rattle.image_pack.specs.declared.parts.Image.{Image}
 use Rattle.muen_outside.specs.Looks.{ShowAll}
 use Rattle.muen_outside.specs.Store.{Store}

@@ -25,7 +25,7 @@ use Rattle.policy_lawful.specs.source.Content.TheVariants.{Zero, Fill, Inline, F
 use Rattle.policy_lawful.specs.source.Provided.{Provided}
 use Rattle.policy_lawful.specs.source.Region.{Region as SourceRegion}
 use Rattle.region_alloc.specs.Placed.{Placement}
-use Rattle.subject_emit.specs.Mapped.{kernel_first}
+use Rattle.proof_build.specs.Mapped.{kernel_first}
 
 -- ---- lists
 

@@ -20,7 +20,6 @@ use Rattle.muen_build.specs.declared.accepted.BuildError.{BuildError}
 use Rattle.muen_build.specs.declared.accepted.BuildError.TheVariants.{FileFault, Refused}
 use Rattle.muen_build.proofs.Looks.{same_self}
 use Rattle.policy_lawful.specs.Resolution.{Resolution, source_of}
-use Rattle.policy_lawful.specs.refusal.Refusal.{Refusal}
 use Rattle.policy_lawful.specs.source.Source.{Source}
 
 find_both : (name : List ℕ) (xs ys : Files) → find_bytes name (xs ++ ys) ≡ option_or (find_bytes name xs) (find_bytes name ys)

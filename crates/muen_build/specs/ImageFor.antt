@@ -1,7 +1,7 @@
 -- When bytes are an image for a policy over files.
 use Rattle.std.specs.Prelude.{ℕ, List}
 use Rattle.proof_build.specs.Built.{HasGreatestPages, HasKernelSpans, HasMemoryTypes, HasNoSpareTables, HasOnePathPerTable, HasSpans, TablesAscend}
-use Rattle.image_soundness.specs.Sound.{ForEachSubject, IsSound}
+use Rattle.proof_build.specs.Sound.{ForEachSubject, IsSound}
 use Rattle.image_pack.specs.Parts.{IsImage}
 use Rattle.image_pack.specs.declared.parts.Image.{Image}
 use Rattle.muen_outside.specs.Store.{Store}

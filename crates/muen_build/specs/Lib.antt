@@ -5,3 +5,4 @@ pub mod ImageFor
 pub mod Looks
 pub mod Reading
 pub mod Refusals
+pub use Rattle.policy_json.specs.Document

@@ -1,11 +1,11 @@
 //! Contents, held against the room for them.
-ghost use Rattle.std.specs.Prelude.{◌≡◌, ◌<◌, ◌≤◌, IfOk, IfErr, None, Ok, length, map, option_map};
+ghost use Rattle.std.specs.Prelude.{◌≡◌, ◌<◌, ◌≤◌, IfOk, IfErr, None, Ok, length, map};
 ghost use Rattle.std.specs.Str.{bytes_eq};
 ghost use Rattle.muen_num.specs.Search.{as_refusal};
 ghost use Rattle.muen_outside.specs.Store.{find_bytes, whole};
 ghost use Rattle.policy_lawful.specs.Resolution.{source_of};
 ghost use Rattle.muen_build.specs.Accepting.{Grows, IsAdded, Known, LooksAt, NotFound, NotRead, Passes, Refuses, Stops, all_names, brought_names, filled_names, given_files, looks_of, of_all, of_brought, of_filled, part_length};
-ghost use Rattle.muen_build.specs.Filling.{brought_at, filled, filled_of, filled_provided, filled_region};
+ghost use Rattle.muen_build.specs.Filling.{filled, filled_of, filled_provided, filled_region};
 ghost use Rattle.muen_build.specs.Looks.{names_file};
 ghost use Rattle.muen_build.specs.Refusals.{too_long_for};
 ghost use Rattle.muen_build.specs.declared.accepted.BuildError.TheVariants.{Refused};

@@ -2,7 +2,7 @@
 ghost use Rattle.std.specs.Prelude.{◌≡◌, IfErr, IfOk, Ok};
 ghost use Rattle.std.specs.FinMap.{insert};
 ghost use Rattle.proof_build.specs.Built.{HasGreatestPages, HasKernelSpans, HasMemoryTypes, HasNoSpareTables, HasOnePathPerTable, HasSpans, TablesAscend};
-ghost use Rattle.image_soundness.specs.Sound.{ForEachSubject, IsSound};
+ghost use Rattle.proof_build.specs.Sound.{ForEachSubject, IsSound};
 ghost use Rattle.muen_build.specs.Accepting.{Accepts, FailsWith, looks_of};
 ghost use Rattle.muen_build.specs.Building.{Builds};
 ghost use Rattle.muen_build.specs.ImageFor.{IsImageFor};

@@ -1,6 +1,5 @@
 // The final lines of subjects.
 ghost use Rattle.std.specs.Prelude.{◌≡◌, ◌≤◌, option_map, slice_get};
-ghost use Rattle.std.specs.List.{flat_map};
 ghost use Rattle.muen_outside.specs.Prints.{Prints};
 ghost use Rattle.view_text.specs.ViewText.{rows_text};
 ghost use Rattle.muen_run.specs.RunText.{numbered_subject_text, states_text};

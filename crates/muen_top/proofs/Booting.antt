@@ -3,9 +3,9 @@ use Rattle.std.proofs.Common.{◌≡◌, inl, inr, ℕ, List, [], ◌∷◌, ◌
 use Rattle.std.specs.FinMap.{get, insert}
 use Rattle.std.specs.List.{All}
 use Rattle.std.proofs.lemmas.List.Elements.{All-nil}
-use Rattle.binary_form.specs.Faults.{Tells}
-use Rattle.binary_form.specs.declared.fault.ImageFault.{ImageFault}
-use Rattle.binary_form.specs.declared.fault.ImageFault.TheVariants.{Short, Bad, Trailing, NoMemory as NoMemoryForImage}
+use Rattle.image_pack.specs.Faults.{Tells}
+use Rattle.image_pack.specs.fault.ImageFault.{ImageFault}
+use Rattle.image_pack.specs.fault.ImageFault.TheVariants.{Short, Bad, Trailing, NoMemory as NoMemoryForImage}
 use Rattle.dma_tables.specs.declared.file.DmaFile.{DmaFile}
 use Rattle.image_load.specs.Resolving.{image_bench}
 use Rattle.image_soundness.specs.Bench.{devices_of}

@@ -4,8 +4,8 @@ use Rattle.std.specs.FinMap.{get}
 use Rattle.std.specs.List.{All}
 use Rattle.std.proofs.Math.Seq.{drop-append_seam}
 use Rattle.std.proofs.lemmas.List.Elements.{All-head, All-pop}
-use Rattle.binary_form.specs.Faults.{unpacked}
-use Rattle.binary_form.specs.declared.fault.ImageFault.{ImageFault}
+use Rattle.image_pack.specs.Faults.{unpacked}
+use Rattle.image_pack.specs.fault.ImageFault.{ImageFault}
 use Rattle.dma_tables.specs.DmaFile.{dma_file}
 use Rattle.dma_tables.specs.declared.file.DmaFile.{DmaFile}
 use Rattle.image_load.specs.Resolving.{image_bench}

@@ -19,9 +19,9 @@ use Rattle.muen_top.specs.Commands.{Command}
 use Rattle.muen_top.specs.FilesSeen.{OverLooks, Saw}
 use Rattle.muen_top.specs.Loads.{GivesNone, NotRead}
 use Rattle.muen_top.specs.PolicyCommands.{HasRead, IsAnswered, StopsCommand}
-use Rattle.binary_form.specs.Faults.{Tells, unpacked}
-use Rattle.binary_form.specs.declared.fault.ImageFault.{ImageFault}
-use Rattle.binary_form.specs.declared.fault.ImageFault.TheVariants.{Short, Bad, Trailing, NoMemory as NoMemoryForImage}
+use Rattle.image_pack.specs.Faults.{Tells, unpacked}
+use Rattle.image_pack.specs.fault.ImageFault.{ImageFault}
+use Rattle.image_pack.specs.fault.ImageFault.TheVariants.{Short, Bad, Trailing, NoMemory as NoMemoryForImage}
 use Rattle.image_pack.specs.Image.{image as image_form}
 use Rattle.muen_top.specs.CommandErrors.{error_of_image_fault, error_of_record_fault, error_of_refusal}
 use Rattle.muen_top.specs.declared.outcome.CommandError.{CommandError}

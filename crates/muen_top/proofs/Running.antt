@@ -1,10 +1,10 @@
 -- What `run` answers, as its files are read before the record.
 use Rattle.std.proofs.Common.{◌≡◌, inl, inr, ℕ, List, [], ◌∷◌, ◌++◌, Option, Some, None, Result, Ok, Err, refl, sym, ap, subst, ◌∙◌, append-nil, option_map}
 use Rattle.std.specs.FinMap.{get}
-use Rattle.binary_form.proofs.Theorem.{back}
-use Rattle.binary_form.specs.Faults.{Tells, unpacked}
-use Rattle.binary_form.specs.declared.fault.ImageFault.{ImageFault}
-use Rattle.binary_form.specs.declared.fault.ImageFault.TheVariants.{Short, Bad, Trailing, NoMemory as NoMemoryForImage}
+use Rattle.image_pack.proofs.Theorem.{back}
+use Rattle.image_pack.specs.Faults.{Tells, unpacked}
+use Rattle.image_pack.specs.fault.ImageFault.{ImageFault}
+use Rattle.image_pack.specs.fault.ImageFault.TheVariants.{Short, Bad, Trailing, NoMemory as NoMemoryForImage}
 use Rattle.dma_tables.proofs.FileLaws.{file_laws}
 use Rattle.dma_tables.specs.DmaFile.{dma_file}
 use Rattle.dma_tables.specs.Tables.{IsDmaFile}

@@ -4,10 +4,10 @@ use Rattle.std.specs.Int.{w32, w64}
 use Rattle.std.proofs.lemmas.Bool.{leb-true}
 use Rattle.std.proofs.lemmas.List.{length-append, length-replicate}
 use Rattle.muen_num.specs.declared.limits.TheConstants.{MOST_DEVICES, PAGE}
-use Rattle.binary_form.specs.declared.fault.Field.{Field}
-use Rattle.binary_form.specs.Form.{Form, tag, field, gap, bytes_of}
-use Rattle.binary_form.proofs.Leaves.{wide32, wide64}
-use Rattle.binary_form.proofs.Sizes.{IsSized, byte_sized, condition, done_sized, field_sized, gap_sized, items_sized, name_sized, number_sized, only_sized, rows}
+use Rattle.image_pack.specs.fault.Field.{Field}
+use Rattle.image_pack.specs.Form.{Form, tag, field, gap, bytes_of}
+use Rattle.image_pack.proofs.Leaves.{wide32, wide64}
+use Rattle.image_pack.proofs.Sizes.{IsSized, byte_sized, condition, done_sized, field_sized, gap_sized, items_sized, name_sized, number_sized, only_sized, rows}
 use Rattle.dma_tables.proofs.ConditionsHold.{conditions_kept}
 use Rattle.dma_tables.specs.DmaFile.{after_device, device, dma_file, mark_bytes}
 use Rattle.dma_tables.specs.Tables.{device_size}

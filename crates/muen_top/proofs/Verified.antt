@@ -1,9 +1,9 @@
 -- What a verdict that is answered tells of what a store holds.
 use Rattle.std.proofs.Common.{◌≡◌, ℕ, List, Some, None, Result, Ok, Err, refl, sym, ap, subst, ◌∙◌}
 use Rattle.std.specs.FinMap.{get}
-use Rattle.binary_form.specs.Faults.{unpacked}
-use Rattle.binary_form.specs.declared.fault.ImageFault.{ImageFault}
-use Rattle.binary_form.proofs.Theorem.{back}
+use Rattle.image_pack.specs.Faults.{unpacked}
+use Rattle.image_pack.specs.fault.ImageFault.{ImageFault}
+use Rattle.image_pack.proofs.Theorem.{back}
 use Rattle.image_pack.specs.Image.{image as image_form}
 use Rattle.image_pack.specs.declared.parts.Image.{Image}
 use Rattle.image_pack.proofs.ImageLaws.{image_laws}

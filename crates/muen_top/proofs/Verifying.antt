@@ -5,8 +5,8 @@ use Rattle.std.specs.Str.{bytes_eq}
 use Rattle.std.specs.List.{All}
 use Rattle.std.specs.Prelude.{if◌then◌else◌}
 use Rattle.std.proofs.lemmas.List.Elements.{All-weaker}
-use Rattle.binary_form.specs.Faults.{Tells, unpacked}
-use Rattle.binary_form.specs.declared.fault.ImageFault.{ImageFault}
+use Rattle.image_pack.specs.Faults.{Tells, unpacked}
+use Rattle.image_pack.specs.fault.ImageFault.{ImageFault}
 use Rattle.image_verify.specs.Made.{thing_bytes}
 use Rattle.image_pack.specs.Image.{image as image_form}
 use Rattle.image_pack.specs.Parts.{IsImage}

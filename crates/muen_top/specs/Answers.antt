@@ -2,7 +2,7 @@
 use Rattle.std.specs.Prelude.{ℕ, List, Option, Some, None, Result, Ok, Err}
 use Rattle.std.specs.FinMap.{get}
 use Rattle.flow_report.specs.FlowText.{flow_text_of}
-use Rattle.binary_form.specs.Faults.{unpacked}
+use Rattle.image_pack.specs.Faults.{unpacked}
 use Rattle.dma_tables.specs.DmaFile.{dma_file}
 use Rattle.dma_tables.specs.declared.file.DmaFile.{DmaFile}
 use Rattle.image_load.specs.Resolving.{image_bench, image_record}
@@ -22,7 +22,7 @@ use Rattle.muen_top.specs.LoadText.{load_text}
 use Rattle.record_text.specs.Reading.{record_of}
 use Rattle.image_soundness.specs.Bench.{devices_of}
 use Rattle.muen_build.specs.Refusals.{accepted_policy_of, fitting_policy_of, laid_policy_of, lawful_policy_of}
-use Rattle.binary_form.specs.declared.fault.ImageFault.{ImageFault}
+use Rattle.image_pack.specs.fault.ImageFault.{ImageFault}
 use Rattle.record_text.specs.declared.fault.RecordFault.{RecordFault}
 use Rattle.muen_top.specs.declared.limits.TheConstants.{DMA_MOST}
 

@@ -4,8 +4,8 @@ use Rattle.policy_lawful.specs.Refusals.{is_no_memory}
 use Rattle.policy_lawful.specs.refusal.Refusal.{Refusal}
 use Rattle.muen_build.specs.declared.accepted.BuildError.{BuildError}
 use Rattle.muen_build.specs.declared.accepted.BuildError.TheVariants.{Refused as RefusedPolicy, FileFault as FaultOfFiles}
-use Rattle.binary_form.specs.declared.fault.ImageFault.{ImageFault}
-use Rattle.binary_form.specs.declared.fault.ImageFault.TheVariants.{NoMemory as NoMemoryForImage}
+use Rattle.image_pack.specs.fault.ImageFault.{ImageFault}
+use Rattle.image_pack.specs.fault.ImageFault.TheVariants.{NoMemory as NoMemoryForImage}
 use Rattle.record_text.specs.declared.fault.RecordFault.{RecordFault}
 use Rattle.record_text.specs.declared.fault.RecordFault.TheVariants.{NoMemory as NoMemoryForRecord}
 use Rattle.muen_top.specs.declared.outcome.CommandError.{CommandError}

@@ -4,7 +4,7 @@ use Rattle.generated_system.specs.Record.{generated_record}
 use Rattle.generated_system.specs.System.{generated_system}
 use Rattle.image_soundness.specs.Bench.{devices_of}
 use Rattle.muen_outside.specs.MemFiles.{Shelf}
-use Rattle.policy_json.specs.Document.{policy_of}
+use Rattle.muen_build.specs.Document.{policy_of}
 use Rattle.record_text.specs.Reading.{record_of}
 
 -- a document of the system, and a text of its device record

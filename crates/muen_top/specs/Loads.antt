@@ -2,8 +2,8 @@
 use Rattle.std.specs.Prelude.{◌≡◌, ℕ, List, [], ◌∷◌, ◌++◌, Option, Some, None, Result, Ok, Err}
 use Rattle.std.specs.List.{All}
 use Rattle.std.specs.FinMap.{get}
-use Rattle.binary_form.specs.Faults.{Tells, unpacked}
-use Rattle.binary_form.specs.declared.fault.ImageFault.{ImageFault}
+use Rattle.image_pack.specs.Faults.{Tells, unpacked}
+use Rattle.image_pack.specs.fault.ImageFault.{ImageFault}
 use Rattle.dma_tables.specs.DmaFile.{dma_file}
 use Rattle.dma_tables.specs.Tables.{IsDmaFile}
 use Rattle.image_soundness.specs.Sound.{IsSound}

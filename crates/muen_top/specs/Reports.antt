@@ -2,7 +2,7 @@
 use Rattle.std.specs.Prelude.{◌≡◌, ℕ, List, ◌++◌, ◌⊎◌, Some, None, codes, decimal}
 use Rattle.muen_outside.specs.States.{SinkState}
 use Rattle.muen_outside.specs.Puts.{Appended, Failed}
-use Rattle.binary_form.specs.FaultText.{image_fault_text}
+use Rattle.image_pack.specs.FaultText.{image_fault_text}
 use Rattle.dma_tables.specs.DmaFaultText.{dma_fault_text}
 use Rattle.image_verify.specs.FaultText.{fault_text}
 use Rattle.image_verify.specs.declared.fault.Fault.{Fault}

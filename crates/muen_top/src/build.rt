@@ -1,6 +1,6 @@
 // The command `build`: a policy is read, and its image is written, and the tables of its domains of devices,
 // if a file is named for them.
-ghost use Rattle.std.specs.Prelude.{◌≡◌, ℕ, Bool, List, Option, Some, IfOk, IfErr, IfSome, is_some, option_map};
+ghost use Rattle.std.specs.Prelude.{◌≡◌, ℕ, List, Option, Some, IfOk, IfErr, IfSome, is_some, option_map};
 ghost use Rattle.muen_outside.specs.States.{SinkState};
 ghost use Rattle.policy_lawful.specs.Resolution.{source_of};
 ghost use Rattle.muen_top.specs.Calls.{ComesOfCommand};

@@ -1,6 +1,6 @@
 // The command `load`: the system that is generated of a number is booted in memory, and what the text of its
 // run comes to is printed.
-ghost use Rattle.std.specs.Prelude.{◌≡◌, IfOk, IfErr, length, string_bytes};
+ghost use Rattle.std.specs.Prelude.{◌≡◌, IfOk, length, string_bytes};
 ghost use Rattle.hex.specs.Hex.{encode_lower};
 ghost use Rattle.sha2.specs.Sha256.{sha256};
 ghost use Rattle.generated_system.specs.Record.{generated_record};

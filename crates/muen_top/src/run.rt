@@ -2,8 +2,8 @@
 // are read, and the image's run is printed.
 ghost use Rattle.std.specs.Prelude.{◌≡◌, ◌∷◌, [], List, ℕ, Ok, Err, Some, IfOk, IfErr, if◌then◌else◌, None, option_map};
 ghost use Rattle.std.specs.Str.{bytes_eq};
-ghost use Rattle.binary_form.specs.Faults.{Tells, unpacked};
-ghost use Rattle.binary_form.specs.declared.fault.ImageFault.{ImageFault};
+ghost use Rattle.image_pack.specs.Faults.{Tells, unpacked};
+ghost use Rattle.image_pack.specs.fault.ImageFault.{ImageFault};
 ghost use Rattle.dma_tables.specs.DmaFile.{dma_file};
 ghost use Rattle.dma_tables.specs.Tables.{IsDmaFile};
 ghost use Rattle.muen_num.specs.declared.limits.TheConstants.{IMAGE_MOST};

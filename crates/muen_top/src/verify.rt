@@ -1,7 +1,7 @@
 // The command `verify`: an image and a policy are read, with the files that its contents name, and it is
 // told whether the image is sound for them.
 ghost use Rattle.std.specs.Prelude.{◌≡◌, [], ◌∷◌, List, ℕ, Ok, Some, IfOk, IfErr};
-ghost use Rattle.binary_form.specs.Faults.{unpacked};
+ghost use Rattle.image_pack.specs.Faults.{unpacked};
 ghost use Rattle.image_pack.specs.Image.{image as image_form};
 ghost use Rattle.image_pack.specs.Parts.{IsImage};
 ghost use Rattle.image_verify.specs.Verdict.{AreOfFiles};

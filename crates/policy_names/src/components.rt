@@ -6,7 +6,6 @@ ghost use Rattle.policy_lawful.specs.Rules.{component_references, entry_referenc
 ghost use Rattle.policy_lawful.specs.Keeps.{Keeps};
 ghost use Rattle.policy_lawful.specs.Offences.{broken};
 ghost use Rattle.policy_names.specs.Entries.{EntriesStand, EntryStands, entries_offence, entry_offence};
-ghost use Rattle.policy_names.specs.Indexes.{StandsFor};
 ghost use Rattle.policy_names.specs.Outline.{outline};
 
 use crate::declared::{find, not_declared, refer};

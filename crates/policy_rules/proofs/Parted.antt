@@ -2,7 +2,7 @@
 use Rattle.std.proofs.Common.{◌≡◌, ℕ, zero, suc, ◌+◌, ◌<◌, ◌⊎◌, inl, inr, get_or, Bool, true, false, List, [], ◌∷◌, ◌++◌, length, map, Option, Some, None, refl, sym, ap, ◌∙◌, subst, arith, length-append}
 use Rattle.std.specs.Prelude.{◌&&◌, ◌||◌, nat_lt, slice_get, IfSome, IsSomeAnd}
 use Rattle.std.specs.Option.{option_map_or, option_or}
-use Rattle.std.specs.List.{cons_option, enumerate_from, filter_map, list_all, list_any}
+use Rattle.std.specs.List.{enumerate_from, filter_map, list_all, list_any}
 use Rattle.std.specs.Str.{bytes_eq}
 use Rattle.std.proofs.lemmas.Bool.{and_from, and_parts}
 use Rattle.std.proofs.lemmas.List.{append-nil, length-map, map-append}
@@ -16,7 +16,6 @@ use Rattle.policy_lawful.specs.Offences.{two}
 use Rattle.policy_lawful.specs.Resolution.{Resolution}
 use Rattle.policy_lawful.specs.Rules.{first_overlap, is_guest}
 use Rattle.policy_lawful.specs.Views.{provided_view, view_extent, views_of}
-use Rattle.policy_lawful.specs.declared.offence.Offence.{Offence}
 use Rattle.policy_lawful.specs.declared.resolved.ComponentUse.{ComponentUse}
 use Rattle.policy_lawful.specs.declared.resolved.Subject.{Subject}
 use Rattle.policy_lawful.specs.declared.view.View.{View}

@@ -1,6 +1,6 @@
 // Rules 5 and 18: windows of a subject, and blocks and devices' memory, that share no address.
 ghost use Rattle.std.specs.Prelude.{◌≡◌, ◌++◌, true, nat_lt, None, map, IfOk, IsSomeAnd, IsTrue};
-ghost use Rattle.std.specs.List.{flat_map, list_all};
+ghost use Rattle.std.specs.List.{list_all};
 ghost use Rattle.policy_lawful.specs.ByIndex.{block_extent};
 ghost use Rattle.policy_lawful.specs.Resolution.{source_of};
 ghost use Rattle.policy_lawful.specs.Rules.{first_overlap, offence_4, offence_5, offence_18};

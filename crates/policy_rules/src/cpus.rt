@@ -1,5 +1,5 @@
 // Rule 3: CPUs.
-ghost use Rattle.std.specs.Prelude.{◌≡◌, ◌&&◌, nat_lt, nat_le, codes};
+ghost use Rattle.std.specs.Prelude.{◌≡◌, ◌&&◌, nat_lt};
 ghost use Rattle.std.specs.List.{enumerate_from};
 ghost use Rattle.muen_num.specs.Search.{first_in, unless};
 ghost use Rattle.policy_lawful.specs.Offences.{alone, two};

@@ -5,7 +5,7 @@ ghost use Rattle.muen_num.specs.Search.{first_in};
 ghost use Rattle.policy_lawful.specs.Resolution.{source_of};
 ghost use Rattle.policy_lawful.specs.Rules.{device_limit, offence_20};
 ghost use Rattle.policy_lawful.specs.ByIndex.{is_short};
-ghost use Rattle.policy_rules.specs.Limits.{blocks_limit, count_limit, declared_limit, device_memory_limit, devices_limit, limits_offence, major_limit, majors_limit, msrs_in, name_limit, names_limit, regions_limit, regions_of_subject, subject_limit_at, subject_limit_with, subjects_limit};
+ghost use Rattle.policy_rules.specs.Limits.{blocks_limit, declared_limit, device_memory_limit, devices_limit, major_limit, majors_limit, msrs_in, name_limit, names_limit, regions_limit, regions_of_subject, subject_limit_at, subject_limit_with, subjects_limit};
 
 use crate::apart::device_extents;
 use crate::keys::Key;

@@ -1,5 +1,5 @@
 // The rules by their numbers.
-ghost use Rattle.std.specs.Prelude.{◌≡◌, ⊤, None};
+ghost use Rattle.std.specs.Prelude.{◌≡◌, ⊤, None, true};
 ghost use Rattle.std.specs.Option.{option_or};
 ghost use Rattle.muen_num.specs.Answers.{Answers};
 ghost use Rattle.muen_num.specs.Search.{as_refusal};
@@ -7,7 +7,7 @@ ghost use Rattle.policy_lawful.specs.refusal.Refusal.TheVariants.{NoMemory as Ou
 ghost use Rattle.policy_lawful.specs.Keeps.{Keeps};
 ghost use Rattle.policy_lawful.specs.Lawful.{kept_or, unlawful};
 ghost use Rattle.policy_lawful.specs.Offences.{broken};
-ghost use Rattle.policy_lawful.specs.Resolution.{kept_source, source_of};
+ghost use Rattle.policy_lawful.specs.Resolution.{IsResolved, kept_source, source_of};
 ghost use Rattle.policy_lawful.specs.Rules.{offence_4};
 ghost use Rattle.policy_rules.specs.InTurn.{domains_broken, grants_broken, memory_broken, plan_broken};
 
@@ -99,13 +99,21 @@ fn all_rules(alloc: Global, policy: &Linked) -> Result<(), Refusal>
     domains_rules(alloc, policy)
 }
 
+// Whether each name refers to what is there: it does, since the policy's type says so.
+fn is_resolved(policy: &Linked) -> bool
+    ensures is { IsResolved policy.now }
+    ensures holds { result ≡ true }
+{
+    policy.subjects().len() <= usize::MAX
+}
+
 /// The policy, where it keeps every rule; else the least rule that is broken, with its two names, or
 /// `NoMemory`. A refused policy is dropped.
 #[tactic(auto, using(crate::proofs::RulesJoined::rules_joined, policy_lawful::proofs::Keeps::refused))]
 pub fn check(alloc: Global, policy: Linked) -> Result<Lawful, Refusal>
     ensures { Answers OutOfMemory (kept_or (source_of policy) (unlawful (source_of policy))) (kept_source result) }
 {
-    let _subjects = policy.subjects();
+    prove!(is_resolved(&policy));
     match all_rules(alloc, &policy) {
         Ok(()) => Ok(Lawful::make(policy.resolved(alloc)?)),
         Err(refusal) => Err(refusal),

@@ -1,5 +1,5 @@
 // Rule 16, its end: the subject that chooses the major frames, and the region by which it does.
-ghost use Rattle.std.specs.Prelude.{◌≡◌, ◌&&◌, ◌==◌, length};
+ghost use Rattle.std.specs.Prelude.{◌≡◌, ◌&&◌, ◌==◌};
 ghost use Rattle.std.specs.List.{list_any};
 ghost use Rattle.std.specs.Str.{bytes_eq};
 ghost use Rattle.policy_lawful.specs.Resolution.{source_of};

@@ -1,5 +1,5 @@
 //! The windows of a subject, in order.
-ghost use Rattle.std.specs.Prelude.{◌≡◌, map, IfOk, option_copied};
+ghost use Rattle.std.specs.Prelude.{◌≡◌, map, IfOk};
 ghost use Rattle.std.specs.List.{filter_map, flat_map, enumerate_from};
 ghost use Rattle.policy_lawful.specs.Windows.{role_rights};
 ghost use Rattle.std.specs.BTreeMap.{IsOrdered};

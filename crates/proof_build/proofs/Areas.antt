@@ -21,8 +21,8 @@ use Rattle.image_soundness.specs.Memory.{bytes_at}
 use Rattle.image_soundness.specs.Sound.{ForEachSubject, HasArea}
 use Rattle.machine_layout.proofs.AreaLaws.{areas_are_read_back}
 use Rattle.machine_layout.specs.Exits.{AreaEntry, area_bytes, area_index, area_value, entry_bytes}
-use Rattle.msrbm_emit.specs.Area.{area_of, count_of, entries_of, entry_of, size_of}
-use Rattle.msrbm_emit.specs.Msrs.{is_covered}
+use Rattle.subject_emit.specs.Area.{area_of, count_of, entries_of, entry_of, size_of}
+use Rattle.subject_emit.specs.Msrs.{is_covered}
 use Rattle.muen_num.proofs.Lists.{map-map}
 use Rattle.muen_num.proofs.NumbersBelow.{length_numbers}
 use Rattle.muen_num.specs.Range.{numbers_below}

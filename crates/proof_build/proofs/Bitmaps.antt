@@ -13,9 +13,9 @@ use Rattle.image_emit.proofs.SpansOfKernel.{kernel_bytes_at}
 use Rattle.proof_build.proofs.BitmapsOfPorts.{any_port}
 use Rattle.image_soundness.specs.Memory.{bytes_at, page_at}
 use Rattle.image_soundness.specs.Sound.{ForEachSubject, HasBitmaps}
-use Rattle.iobm_emit.specs.Ports.{is_granted as is_port_granted, is_granted_access}
+use Rattle.subject_emit.specs.Ports.{is_granted as is_port_granted, is_granted_access}
 use Rattle.machine_layout.specs.Exits.{msr_exits, port_exits}
-use Rattle.msrbm_emit.specs.Msrs.{allows, has_msr, is_granted as is_msr_granted}
+use Rattle.subject_emit.specs.Msrs.{allows, has_msr, is_granted as is_msr_granted}
 use Rattle.muen_num.proofs.Lists.{list_any-map}
 use Rattle.muen_num.specs.Range.{numbers_below}
 use Rattle.muen_num.specs.declared.limits.TheConstants.{LAST_PORT, PAGE}

@@ -26,3 +26,4 @@ pub mod ThingBytes
 pub mod ThingsInOrder
 pub mod Walks
 pub mod WalksByWindow
+pub use Rattle.region_alloc.proofs.EachInTurn

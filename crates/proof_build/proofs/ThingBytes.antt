@@ -28,7 +28,6 @@ use Rattle.policy_lawful.specs.source.DeviceMemory.{DeviceMemory}
 use Rattle.policy_lawful.specs.source.Provided.{Provided}
 use Rattle.policy_lawful.specs.source.Region.{Region}
 use Rattle.policy_lawful.specs.source.Source.{Source}
-use Rattle.policy_lawful.specs.source.Subject.{Subject as NamedSubject}
 use Rattle.span_emit.specs.Spans.{memories_of}
 
 -- the logical names of what a component brings along are unique

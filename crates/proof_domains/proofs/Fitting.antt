@@ -9,11 +9,11 @@ use Rattle.dma_emit.specs.Domains.{place_of as region_place}
 use Rattle.dma_emit.specs.Reached.{kind_of, placed_at}
 use Rattle.dma_tables.specs.DmaWalk.{dma_walk}
 use Rattle.dma_tables.specs.declared.file.DmaFile.{DmaFile}
-use Rattle.image_pack.proofs.PartsKeep.{parts_keep}
-use Rattle.image_pack.specs.ImageConditions.{KeepsConditions}
-use Rattle.image_pack.specs.declared.parts.Image.{Image}
-use Rattle.image_soundness.specs.Sound.{IsSound, address_of}
-use Rattle.muen_num.specs.declared.access.AccessKind.TheVariants.{Write}
+use Rattle.dma_tables.proofs.PartsKeep.{parts_keep}
+use Rattle.dma_tables.specs.ImageConditions.{KeepsConditions}
+use Rattle.dma_tables.specs.parts.Image.{Image}
+use Rattle.proof_build.specs.Sound.{IsSound, address_of}
+use Rattle.dma_emit.specs.access.AccessKind.TheVariants.{Write}
 use Rattle.policy_lawful.specs.Contents.{Held}
 use Rattle.policy_lawful.specs.Dma.{dma_access}
 use Rattle.policy_lawful.specs.Resolution.{source_of}

@@ -3,12 +3,12 @@ use Rattle.std.proofs.Common.{◌≡◌, ◌∙◌, ℕ, zero, suc, ◌+◌, ◌
 use Rattle.std.specs.Prelude.{not, option_map, slice_get}
 use Rattle.std.specs.List.{enumerate_from, flat_map}
 use Rattle.std.proofs.lemmas.Option.{slice_get-map}
-use Rattle.expand_kernel.specs.Regions.{kernel_regions_of, regions_of}
-use Rattle.image_pack.specs.ImageConditions.{KeepsConditions}
-use Rattle.image_pack.specs.declared.parts.Image.{Image}
-use Rattle.image_pack.specs.declared.parts.SpanPart.{SpanPart}
-use Rattle.image_soundness.specs.Memory.{Span, by_number}
-use Rattle.image_soundness.specs.Sound.{IsSound, address_of, is_kernel, thing_spans}
+use Rattle.dma_emit.specs.Regions.{kernel_regions_of, regions_of}
+use Rattle.dma_tables.specs.ImageConditions.{KeepsConditions}
+use Rattle.dma_tables.specs.parts.Image.{Image}
+use Rattle.dma_tables.specs.parts.SpanPart.{SpanPart}
+use Rattle.proof_build.specs.Memory.{Span, by_number}
+use Rattle.proof_build.specs.Sound.{IsSound, address_of, is_kernel, thing_spans}
 use Rattle.policy_lawful.specs.Contents.{Held}
 use Rattle.policy_lawful.specs.Resolution.{source_of}
 use Rattle.policy_lawful.specs.Thing.{channel, component_by, device_memory, region, same_thing, things_of}
@@ -19,11 +19,11 @@ use Rattle.proof_start.proofs.ListFacts.{any_at, from_some, other_at, same_at, z
 use Rattle.proof_start.proofs.OnceFacts.{thing_once}
 use Rattle.proof_start.proofs.SpansOfThings.{listed_span}
 use Rattle.dma_emit.specs.Placed.{IsPlaced, Placement}
-use Rattle.span_emit.specs.Spans.{device_spans, region_span, region_spans}
-use Rattle.subject_model.proofs.KeyLaws.{same_thing_self}
-use Rattle.expand_kernel.specs.ByIndex.{channel_region, own_region, provided_regions}
+use Rattle.proof_build.specs.Spans.{device_spans, region_span, region_spans}
+use Rattle.proof_start.proofs.KeyLaws.{same_thing_self}
+use Rattle.dma_emit.specs.ByIndex.{channel_region, own_region, provided_regions}
 use Rattle.policy_lawful.proofs.Items.{provided_by, things_are}
-use Rattle.expand_kernel.proofs.ByKind.{regions_are}
+use Rattle.dma_emit.proofs.ByKind.{regions_are}
 
 -- ---- lists
 

@@ -6,7 +6,7 @@ use Rattle.std.specs.Option.{IfSome, option_map_or}
 use Rattle.std.specs.Str.{bytes_eq}
 use Rattle.std.proofs.lemmas.Bool.{and_parts, false_from_ne_true, true_from_ne_false}
 use Rattle.std.proofs.lemmas.Slice.Eq.{bytes_eq-Decides}
-use Rattle.guest_isa.specs.Step.{Stored}
+use Rattle.subject_model.specs.Step.{Stored}
 use Rattle.subject_model.specs.Memory.{over}
 use Rattle.muen_num.proofs.Members.{In, any_in, any_some, find_in}
 use Rattle.muen_num.proofs.SearchLaws.{none_both, unless_none}

@@ -6,8 +6,8 @@ use Rattle.std.specs.Option.{IfSome, option_map_or}
 use Rattle.std.specs.Str.{bytes_eq}
 use Rattle.std.proofs.lemmas.Bool.{and_parts, cases_eq, eqb-true, false_from_ne_true}
 use Rattle.std.proofs.lemmas.Slice.Eq.{bytes_eq-Decides}
-use Rattle.guest_isa.specs.Step.{Answer, Stored, step}
-use Rattle.guest_isa.specs.declared.reach.Reach.TheVariants.{Reached}
+use Rattle.subject_model.specs.Step.{Answer, Stored, step}
+use Rattle.subject_model.specs.reach.Reach.TheVariants.{Reached}
 use Rattle.muen_num.proofs.ChangeLaws.{element_changes, others_stay}
 use Rattle.muen_num.specs.ListChange.{change_at}
 use Rattle.subject_model.specs.Pending.{without}
@@ -35,7 +35,7 @@ use Rattle.subject_model.proofs.SystemLaws.{raised_alone}
 use Rattle.subject_model.specs.System.{System, happens, happens_as, named, pends_now, raised_by, took, with_active}
 use Rattle.subject_model.specs.SubjectState.{SubjectState}
 use Rattle.subject_model.specs.Alone.{Inbox, Own, OwnState, alone, reach_by, solo_turn, stepped, unless_delivered, vector_for, waits}
-use Rattle.guest_isa.proofs.StepLaws.{step_stored}
+use Rattle.subject_model.proofs.StepLaws.{step_stored}
 use Rattle.muen_num.proofs.Each.{if_some}
 use Rattle.proof_views.proofs.OwnLines.{listed_passes}
 use Rattle.proof_views.specs.Members.{lists}

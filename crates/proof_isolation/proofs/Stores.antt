@@ -1,6 +1,6 @@
 -- What a store leaves: all but the bytes of things.
 use Rattle.std.proofs.Common.{◌≡◌, Option, Some, None, refl}
-use Rattle.guest_isa.specs.Step.{Stored}
+use Rattle.subject_model.specs.Step.{Stored}
 use Rattle.policy_lawful.specs.Thing.{Thing}
 use Rattle.subject_model.specs.System.{System, with_store}
 

@@ -7,7 +7,7 @@
 //! proved by them.
 #![tactic(auto)]
 
-ghost use Rattle.std.specs.Prelude.{◌≡◌, ℕ, List, Some, All, IsTrue, false, min, true};
+ghost use Rattle.std.specs.Prelude.{◌≡◌, ℕ, List, Some, false, true};
 ghost use Rattle.policy_flows.specs.Flows.{IsClosed, closure_of, is_member};
 ghost use Rattle.subject_model.specs.Slot.{Slot};
 ghost use Rattle.policy_lawful.specs.Lawful.{IsLawful};
@@ -15,10 +15,7 @@ ghost use Rattle.policy_lawful.specs.Contents.{Held};
 ghost use Rattle.policy_lawful.specs.source.Source.{Source};
 ghost use Rattle.policy_lawful.specs.source.Subject.{Subject};
 ghost use Rattle.subject_model.specs.DeviceRecord.{DeviceRecord};
-ghost use Rattle.subject_model.specs.Reading.{are_distinct};
-ghost use Rattle.subject_model.specs.Clock.{run_of};
-ghost use Rattle.subject_model.specs.System.{System, subject_named, system_turn};
-ghost use Rattle.proof_views.specs.LinesOf.{lines_of};
+ghost use Rattle.subject_model.specs.System.{System, system_turn};
 ghost use Rattle.proof_views.specs.Members.{AreListed, HasTurn};
 ghost use Rattle.proof_isolation.specs.Agree.{Agree};
 ghost use Rattle.proof_isolation.specs.Alike.{AreAlike};

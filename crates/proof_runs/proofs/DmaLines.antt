@@ -6,13 +6,13 @@ use Rattle.std.proofs.lemmas.Bool.{and_from, and_left, and_right, cases_lt}
 use Rattle.std.proofs.lemmas.List.{append-nil, length-drop, length-take, map-append, take-append-drop}
 use Rattle.std.proofs.lemmas.List.Elements.{All-drop, All-take}
 use Rattle.std.proofs.lemmas.List.Folds.{list_all-append}
-use Rattle.device_bench.specs.declared.effect.Effect.TheVariants.{Mem as ToMem}
+use Rattle.proof_turns.specs.effect.Effect.TheVariants.{Mem as ToMem}
 use Rattle.dma_tables.specs.LineWrites.{one_write, two_writes}
 use Rattle.dma_tables.specs.Lowered.{goes, in_spans, is_in_spans, is_line, landing, left_in_page, line_writes as machine_writes}
 use Rattle.dma_tables.specs.declared.file.DmaFile.{DmaFile}
 use Rattle.dma_tables.proofs.ByPages.{IsByPage, goes_by_page}
 use Rattle.dma_tables.proofs.Lines.{has_two, line_in_one, line_in_two, line_length, numbered_append}
-use Rattle.guest_isa.specs.Words.{IsByte}
+use Rattle.proof_start.specs.Words.{IsByte}
 use Rattle.image_pack.specs.ImageConditions.{KeepsConditions}
 use Rattle.image_pack.specs.declared.parts.DevicePart.{DevicePart}
 use Rattle.image_pack.specs.declared.parts.Image.{Image}

@@ -2,7 +2,7 @@
 use Rattle.std.proofs.Common.{◌≡◌, ◌∙◌, refl, ap, ℕ, zero, suc, ◌/◌, ◌==◌, Bool, true, false, List, [], ◌∷◌, ◌++◌, length, map, Option, Some, None, sym}
 use Rattle.std.specs.Prelude.{not, option_map, slice_get, if◌then◌else◌}
 use Rattle.std.specs.List.{AllZip, find, flat_map}
-use Rattle.sha2.specs.Sha256.{sha256}
+use Rattle.subject_model.specs.Sha256.{sha256}
 use Rattle.muen_num.specs.Range.{numbers_below}
 use Rattle.muen_num.specs.declared.limits.TheConstants.{PAGE}
 use Rattle.muen_num.specs.declared.tag.Tag.{Tag}
@@ -23,9 +23,9 @@ use Rattle.policy_lawful.specs.source.Component.{Component}
 use Rattle.policy_lawful.specs.source.Source.{Source}
 use Rattle.policy_lawful.specs.source.Subject.{Subject}
 use Rattle.subject_model.specs.ViewText.{rows_text, region_text}
-use Rattle.kernel_core.specs.Machine.{page_at}
-use Rattle.kernel_core.specs.Control.{Control}
-use Rattle.kernel_core.specs.declared.setup.Setup.{Setup}
+use Rattle.proof_turns.specs.Machine.{page_at}
+use Rattle.proof_turns.specs.Control.{Control}
+use Rattle.proof_turns.specs.setup.Setup.{Setup}
 use Rattle.subject_model.specs.Alone.{bytes_in}
 use Rattle.subject_model.specs.System.{System, state_of}
 use Rattle.subject_model.specs.Trace.{final_text as system_text, state_text, subject_text, thing_text}

@@ -17,7 +17,7 @@ use Rattle.record_text.specs.Words.{hex_bytes, number_below, tick_of, words_of}
 use Rattle.record_text.specs.declared.fault.LineWant.{LineWant}
 use Rattle.record_text.specs.declared.fault.RecordFault.TheVariants.{NoEnd}
 use Rattle.record_text.proofs.Rules.{IsFew, IsRuled, entry_at-Ok, hex_bytes-Ok, hex_bytes-within, number_below-Ok, passed, then_ok}
-use Rattle.guest_isa.specs.Words.{IsByte}
+use Rattle.proof_start.specs.Words.{IsByte}
 
 -- ---- what is read are bytes, and of those that a device writes by itself there are a few
 

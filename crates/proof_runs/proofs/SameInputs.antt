@@ -28,7 +28,7 @@ use Rattle.muen_num.specs.declared.devices.PortSpan.{PortSpan}
 use Rattle.image_pack.specs.declared.parts.SpanPart.{SpanPart}
 use Rattle.image_pack.specs.declared.parts.SubjectPart.{SubjectPart}
 use Rattle.image_pack.specs.declared.parts.WindowPart.{WindowPart}
-use Rattle.kernel_core.specs.Ticks.{tick_inputs, tick_order}
+use Rattle.proof_turns.specs.Ticks.{tick_inputs, tick_order}
 use Rattle.muen_num.specs.declared.access.AccessKind.TheVariants.{Write}
 use Rattle.policy_lawful.specs.Contents.{Held}
 use Rattle.policy_lawful.specs.Dma.{dma_access}
@@ -46,14 +46,14 @@ use Rattle.record_text.specs.declared.record.Input.TheVariants.{Port, Mem, Idle,
 use Rattle.record_text.specs.declared.record.Record.{Record}
 use Rattle.record_text.specs.declared.record.TickInput.{TickInput}
 use Rattle.record_text.proofs.Rules.{IsFew}
-use Rattle.device_bench.specs.declared.effect.Effect.{Effect}
-use Rattle.device_bench.specs.declared.effect.Effect.TheVariants.{Mem as ToMem}
+use Rattle.proof_turns.specs.effect.Effect.{Effect}
+use Rattle.proof_turns.specs.effect.Effect.TheVariants.{Mem as ToMem}
 use Rattle.dma_tables.specs.Lowered.{goes, in_tick, is_line, line_writes as machine_writes, lowered, lowered_at, lowered_input}
 use Rattle.dma_tables.specs.declared.file.DmaFile.{DmaFile}
 use Rattle.proof_start.proofs.StartSets.{name_by}
 use Rattle.proof_start.specs.GroundOf.{ground_of}
 use Rattle.proof_turns.specs.Ground.{Ground, IsSubject, name_at}
-use Rattle.guest_isa.specs.Words.{IsByte}
+use Rattle.proof_start.specs.Words.{IsByte}
 use Rattle.proof_turns.specs.Inputs.{AreInput, AreLine, SameIrq, nobody, somebody}
 use Rattle.proof_turns.proofs.Groups.{joined}
 use Rattle.image_soundness.specs.Bench.{devices_of}

@@ -12,11 +12,11 @@ use Rattle.image_soundness.specs.Sound.{IsSound, is_kernel, kind_of, thing_spans
 use Rattle.image_pack.specs.ImageConditions.{KeepsConditions}
 use Rattle.image_pack.specs.declared.parts.Image.{Image}
 use Rattle.image_pack.specs.declared.parts.SubjectPart.{SubjectPart}
-use Rattle.kernel_core.specs.Kernel.{Live}
-use Rattle.kernel_core.specs.Ticks.{ended, kernel_run_to, live_started, tick_inputs, tick_order}
+use Rattle.proof_turns.specs.Kernel.{Live}
+use Rattle.proof_turns.specs.Ticks.{ended, kernel_run_to, live_started, tick_inputs, tick_order}
 use Rattle.subject_model.specs.Memory.{Page}
 use Rattle.muen_num.specs.declared.limits.TheConstants.{PAGE}
-use Rattle.device_bench.specs.declared.effect.Effect.{Effect}
+use Rattle.proof_turns.specs.effect.Effect.{Effect}
 use Rattle.dma_tables.specs.Lowered.{lowered}
 use Rattle.dma_tables.specs.declared.file.DmaFile.{DmaFile}
 use Rattle.muen_run.specs.RunText.{bytes_from, final_text, image_text, run_text}
@@ -27,11 +27,11 @@ use Rattle.record_text.specs.DeviceRecord.{DeviceRecord}
 use Rattle.record_text.specs.Reading.{record_of}
 use Rattle.record_text.specs.declared.record.Record.{Record}
 use Rattle.image_soundness.specs.Bench.{devices_of}
-use Rattle.frame_clock.specs.Run.{Ran, run_to}
-use Rattle.frame_clock.specs.Alike.{AreAlikeRuns}
+use Rattle.proof_turns.specs.Run.{Ran, run_to}
+use Rattle.proof_turns.specs.Alike.{AreAlikeRuns}
 use Rattle.subject_model.specs.StatePage.{state_in}
-use Rattle.kernel_core.specs.Machine.{page_at}
-use Rattle.kernel_core.specs.Control.{Control}
+use Rattle.proof_turns.specs.Machine.{page_at}
+use Rattle.proof_turns.specs.Control.{Control}
 use Rattle.subject_model.specs.ViewText.{turn_text}
 use Rattle.subject_model.specs.TurnLine.{TurnLine}
 use Rattle.subject_model.specs.Alone.{thing_in}

@@ -2,7 +2,7 @@
 use Rattle.std.proofs.Common.{ℕ, zero, suc, arith, List, [], ◌∷◌}
 use Rattle.std.specs.List.{All, AllZip}
 use Rattle.std.proofs.lemmas.List.Elements.{All-cons, All-nil}
-use Rattle.binary_form.specs.Form.{IsBytes}
+use Rattle.image_pack.specs.Form.{IsBytes}
 use Rattle.guest_isa.specs.Words.{IsByte}
 use Rattle.image_pack.specs.ImageConditions.{IsContent, KeepsConditions}
 use Rattle.image_pack.specs.declared.parts.Image.{Image}

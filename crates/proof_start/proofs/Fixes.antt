@@ -13,7 +13,7 @@ use Rattle.image_soundness.proofs.SoundFacts.{names_of, subjects_of}
 use Rattle.image_soundness.specs.Named.{raised, subject_name}
 use Rattle.image_soundness.specs.Sound.{IsSound, IsSubjectOf}
 use Rattle.image_soundness.specs.Targets.{entry_event, event_index}
-use Rattle.kernel_core.specs.Kernel.{entry}
+use Rattle.proof_turns.specs.Kernel.{entry}
 use Rattle.muen_num.specs.declared.access.AccessKind.{AccessKind}
 use Rattle.muen_num.specs.declared.limits.TheConstants.{MOST_CALLS}
 use Rattle.policy_lawful.specs.Contents.{Held, initial_bytes}

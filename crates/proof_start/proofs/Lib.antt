@@ -22,3 +22,4 @@ pub mod StartAreas
 pub mod StartSets
 pub mod Starts
 pub mod OnceFacts
+pub use Rattle.subject_model.proofs.KeyLaws

@@ -5,9 +5,9 @@ use Rattle.std.specs.List.{find, flat_map, list_all, list_any}
 use Rattle.std.specs.Str.{bytes_eq}
 use Rattle.std.proofs.lemmas.Bool.{and_parts, ltb-true, ne_eqb}
 use Rattle.std.proofs.lemmas.Option.{slice_get-map}
-use Rattle.frame_clock.specs.Frames.{slot_in}
-use Rattle.frame_clock.specs.declared.frame_at.FrameAt.{FrameAt}
-use Rattle.frame_clock.specs.Slot.{frame_slots}
+use Rattle.subject_model.specs.Frames.{slot_in}
+use Rattle.subject_model.specs.frame_at.FrameAt.{FrameAt}
+use Rattle.subject_model.specs.Slot.{frame_slots}
 use Rattle.muen_num.proofs.Lists.{found}
 use Rattle.muen_num.proofs.SearchLaws.{none_both, unless_none}
 use Rattle.muen_num.specs.Frame.{Frame}

@@ -7,26 +7,26 @@ use Rattle.std.proofs.lemmas.Bool.{and_parts, cases_lt, eqb-true}
 use Rattle.std.proofs.lemmas.List.Folds.{list_all-map}
 use Rattle.std.proofs.lemmas.Option.{slice_get-map}
 use Rattle.subject_model.specs.Clock.{ticks_of_majors}
-use Rattle.frame_clock.specs.Frames.{slot_in, ticks_of_majors as ticks_in_plan}
-use Rattle.frame_clock.specs.declared.frame_at.FrameAt.{FrameAt}
+use Rattle.subject_model.specs.Frames.{slot_in, ticks_of_majors as ticks_in_plan}
+use Rattle.subject_model.specs.frame_at.FrameAt.{FrameAt}
 use Rattle.image_soundness.specs.Sound.{IsSound}
 use Rattle.image_pack.specs.ImageConditions.{KeepsConditions}
 use Rattle.image_pack.specs.declared.parts.Image.{Image}
 use Rattle.image_pack.specs.declared.parts.SubjectPart.{SubjectPart}
-use Rattle.frame_clock.proofs.SlotLaws.{frames_at, frames_there, has_majors, major_ticks, ticks_of}
-use Rattle.frame_clock.specs.Plan.{cpus_of, frame_of, frames_in, is_group_on, is_major, is_minor, is_plan}
-use Rattle.frame_clock.specs.Slot.{Slot, frame_slots}
-use Rattle.frame_clock.specs.declared.plan.GroupPart.{GroupPart}
-use Rattle.frame_clock.specs.declared.plan.Major.{Major}
-use Rattle.frame_clock.specs.declared.plan.Minor.{Minor}
-use Rattle.frame_clock.specs.declared.plan.Plan.{Plan}
+use Rattle.subject_model.proofs.SlotLaws.{frames_at, frames_there, has_majors, major_ticks, ticks_of}
+use Rattle.image_pack.specs.Plan.{cpus_of, frame_of, frames_in, is_group_on, is_major, is_minor, is_plan}
+use Rattle.subject_model.specs.Slot.{Slot, frame_slots}
+use Rattle.image_pack.specs.plan.GroupPart.{GroupPart}
+use Rattle.image_pack.specs.plan.Major.{Major}
+use Rattle.image_pack.specs.plan.Minor.{Minor}
+use Rattle.image_pack.specs.plan.Plan.{Plan}
 use Rattle.muen_num.proofs.Lists.{each_from, passes_at}
 use Rattle.muen_num.specs.Frame.{Frame}
 use Rattle.policy_lawful.specs.Contents.{Held}
 use Rattle.policy_lawful.specs.Frames.{frames_of}
 use Rattle.policy_lawful.specs.source.Source.{Source}
 use Rattle.proof_start.proofs.PlanFacts.{no_slots}
-use Rattle.frame_clock.proofs.SlotGroups.{at_slot}
+use Rattle.subject_model.proofs.SlotGroups.{at_slot}
 use Rattle.proof_start.proofs.SubjectFacts.{subject_kept}
 
 -- ---- CPUs and slots

@@ -7,13 +7,13 @@ use Rattle.std.proofs.lemmas.List.{get_or-replicate, length-replicate}
 use Rattle.std.proofs.lemmas.List.Elements.{All-replicate}
 use Rattle.std.proofs.lemmas.Option.{slice_get-map, unwrap_or-slice_get}
 use Rattle.subject_model.specs.System.{named, start_of, subject_named}
-use Rattle.event_router.specs.Router.{started as router_started}
-use Rattle.event_router.specs.Vectors.{no_marks, no_vectors}
+use Rattle.proof_turns.specs.Router.{started as router_started}
+use Rattle.proof_turns.specs.Vectors.{no_marks, no_vectors}
 use Rattle.image_soundness.specs.Sound.{IsSound}
 use Rattle.image_pack.specs.ImageConditions.{IsGroup, KeepsConditions, IsSubject as IsImageSubject}
 use Rattle.image_pack.specs.declared.parts.Image.{Image}
 use Rattle.image_pack.specs.declared.parts.SubjectPart.{SubjectPart}
-use Rattle.frame_clock.specs.declared.plan.GroupPart.{GroupPart}
+use Rattle.image_pack.specs.plan.GroupPart.{GroupPart}
 use Rattle.muen_num.proofs.Lists.{passes_at, there}
 use Rattle.policy_lawful.specs.Contents.{Held}
 use Rattle.policy_lawful.specs.Frames.{first_member}

@@ -7,7 +7,7 @@ use Rattle.std.proofs.lemmas.List.{length-replicate}
 use Rattle.std.proofs.lemmas.List.Elements.{All-replicate}
 use Rattle.subject_model.specs.Alone.{MsrValues, Things, msr_value, thing_in}
 use Rattle.subject_model.specs.System.{Named, first_inputs, first_page, named, start_of, subject_named}
-use Rattle.kernel_core.specs.Devices.{no_inputs, zeros}
+use Rattle.proof_turns.specs.Devices.{no_inputs, zeros}
 use Rattle.expand_grants.specs.Resources.{msrs_of}
 use Rattle.image_load.specs.Loaded.{memory_of as loaded_memory, setup_of}
 use Rattle.image_soundness.proofs.SoundFacts.{areas_of}
@@ -16,7 +16,7 @@ use Rattle.image_soundness.specs.Sound.{HasArea, IsSound, is_kernel}
 use Rattle.image_pack.specs.ImageConditions.{KeepsConditions, IsSubject as IsImageSubject}
 use Rattle.image_pack.specs.declared.parts.Image.{Image}
 use Rattle.image_pack.specs.declared.parts.SubjectPart.{SubjectPart}
-use Rattle.kernel_core.specs.Ticks.{live_started}
+use Rattle.proof_turns.specs.Ticks.{live_started}
 use Rattle.vmx_machine.specs.Memory.{page_of}
 use Rattle.muen_num.specs.declared.limits.TheConstants.{LAST_PORT}
 use Rattle.policy_lawful.specs.Contents.{Held as HeldFiles, initial_bytes}

@@ -9,7 +9,7 @@ ghost use Rattle.subject_model.specs.System.{start_of};
 ghost use Rattle.image_load.specs.Loaded.{memory_of, setup_of};
 ghost use Rattle.image_soundness.specs.Sound.{ForEachSubject, IsSound};
 ghost use Rattle.image_pack.specs.declared.parts.Image.{Image};
-ghost use Rattle.kernel_core.specs.Ticks.{live_started};
+ghost use Rattle.proof_turns.specs.Ticks.{live_started};
 ghost use Rattle.policy_lawful.specs.Contents.{Held};
 ghost use Rattle.policy_lawful.specs.source.Source.{Source};
 ghost use Rattle.proof_turns.specs.Fixed.{IsFixed};

@@ -6,8 +6,8 @@ use Rattle.std.specs.Str.{bytes_eq}
 use Rattle.std.proofs.lemmas.Bool.{cases_eq, eq-eqb}
 use Rattle.machine_layout.specs.Memory.{Page, page_of, change, over}
 use Rattle.machine_layout.proofs.PageLaws.{page_of-change_same, page_of-change_other}
-use Rattle.policy_meaning.specs.Thing.{Thing, state, same_thing}
-use Rattle.policy_types.specs.declared.source.Subject.{Subject}
+use Rattle.policy_lawful.specs.Thing.{Thing, state, same_thing}
+use Rattle.policy_lawful.specs.source.Subject.{Subject}
 use Rattle.image_pack.specs.declared.parts.SubjectPart.{SubjectPart}
 use Rattle.muen_num.specs.ListChange.{change_at}
 use Rattle.muen_num.proofs.ChangeLaws.{element_changes}

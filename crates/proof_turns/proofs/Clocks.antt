@@ -7,11 +7,11 @@ use Rattle.std.proofs.lemmas.List.Folds.{list_all-append}
 use Rattle.std.proofs.lemmas.List.Elements.{All-nil, All-cons, All-head, All-tail, All-set}
 use Rattle.frame_clock.specs.Frames.{frame_at_tick}
 use Rattle.machine_layout.specs.Memory.{Page, page_of, change, over, store_of}
-use Rattle.policy_meaning.specs.Thing.{Thing, region, device_memory, same_thing}
-use Rattle.policy_types.specs.declared.source.Tau0.{Tau0}
+use Rattle.policy_lawful.specs.Thing.{Thing, region, device_memory, same_thing}
+use Rattle.policy_lawful.specs.source.Tau0.{Tau0}
 use Rattle.subject_model.specs.DeviceRecord.{NamedInput, port_input, memory_input, irq_input, dma_input}
-use Rattle.device_bench.specs.declared.effect.Effect.{Effect}
-use Rattle.device_bench.specs.declared.effect.Effect.TheVariants.{Irq}
+use Rattle.kernel_core.specs.effect.Effect.{Effect}
+use Rattle.kernel_core.specs.effect.Effect.TheVariants.{Irq}
 use Rattle.frame_clock.specs.Run.{all_taken}
 use Rattle.vmx_machine.specs.Machine.{written}
 use Rattle.kernel_core.specs.Kernel.{Live}

@@ -16,12 +16,12 @@ use Rattle.machine_layout.proofs.StoreLaws.{length-over}
 use Rattle.guest_isa.specs.Step.{Stored}
 use Rattle.image_pack.specs.declared.parts.SubjectPart.{SubjectPart}
 use Rattle.frame_clock.specs.Slot.{Slot}
-use Rattle.policy_meaning.specs.Events.{Raised, Target, event_of, irq_of}
-use Rattle.policy_meaning.specs.Frames.{frames_of}
-use Rattle.policy_meaning.specs.Thing.{Thing, device_memory, same_thing, state}
-use Rattle.policy_types.specs.declared.source.Source.{Source}
-use Rattle.policy_types.specs.declared.source.SourceWay.{SourceWay}
-use Rattle.policy_types.specs.declared.source.Subject.{Subject}
+use Rattle.policy_lawful.specs.Events.{Raised, Target, event_of, irq_of}
+use Rattle.policy_lawful.specs.Frames.{frames_of}
+use Rattle.policy_lawful.specs.Thing.{Thing, device_memory, same_thing, state}
+use Rattle.policy_lawful.specs.source.Source.{Source}
+use Rattle.policy_lawful.specs.source.SourceWay.{SourceWay}
+use Rattle.policy_lawful.specs.source.Subject.{Subject}
 use Rattle.subject_model.specs.DeviceRecord.{NamedInput, port_input, memory_input, irq_input, dma_input}
 use Rattle.frame_clock.specs.Frames.{slot_in}
 use Rattle.subject_model.specs.StatePage.{page_bytes, state_in}

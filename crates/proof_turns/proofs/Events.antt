@@ -6,16 +6,16 @@ use Rattle.std.proofs.lemmas.Bool.{cases_Bool, cases_eq}
 use Rattle.machine_layout.specs.Pending.{without as without_in, with_vector as with_in}
 use Rattle.muen_num.specs.declared.mode.EventMode.{EventMode}
 use Rattle.muen_num.specs.declared.mode.EventMode.TheVariants.{Asap, Async, Own, Switch}
-use Rattle.policy_types.specs.declared.source.SourceWay.TheVariants.{Call, Trap}
-use Rattle.policy_types.specs.declared.source.Subject.{Subject}
+use Rattle.policy_lawful.specs.source.SourceWay.TheVariants.{Call, Trap}
+use Rattle.policy_lawful.specs.source.Subject.{Subject}
 use Rattle.image_pack.specs.declared.parts.EventPart.{EventPart}
 use Rattle.image_pack.specs.declared.parts.SubjectPart.{SubjectPart}
 use Rattle.muen_num.specs.ListChange.{change_at}
 use Rattle.muen_num.proofs.ChangeLaws.{element_changes, others_stay}
-use Rattle.event_router.specs.Vectors.{with_vector, without_vector}
-use Rattle.event_router.specs.Router.{RouterState, hands_over, pends, pends_now as kernel_pends_now, pends_later as kernel_pends_later, raised_as, taken}
+use Rattle.kernel_core.specs.Vectors.{with_vector, without_vector}
+use Rattle.kernel_core.specs.Router.{RouterState, hands_over, pends, pends_now as kernel_pends_now, pends_later as kernel_pends_later, raised_as, taken}
 use Rattle.kernel_core.specs.Kernel.{Live, entry, raised_by as kernel_raised_by}
-use Rattle.policy_meaning.specs.Frames.{group_of}
+use Rattle.policy_lawful.specs.Frames.{group_of}
 use Rattle.vmx_machine.specs.declared.control.Control.{Control}
 use Rattle.subject_model.specs.System.{Named, System, change_named, happens, happens_as, named, pends_now, pends_later, raised_by, took, with_active}
 use Rattle.proof_turns.specs.Ground.{Ground, IsSubject, Joined, name_at, raised_of}

@@ -15,7 +15,7 @@ use Rattle.muen_num.specs.declared.access.AccessKind.{AccessKind}
 use Rattle.muen_num.specs.declared.access.AccessSize.{AccessSize}
 use Rattle.muen_num.specs.declared.access.AccessSize.TheVariants.{One, Two, Four, Eight}
 use Rattle.muen_num.specs.declared.limits.TheConstants.{GUEST_END}
-use Rattle.policy_meaning.specs.Thing.{Thing, same_thing}
+use Rattle.policy_lawful.specs.Thing.{Thing, same_thing}
 use Rattle.guest_isa.specs.Step.{word_at}
 use Rattle.vmx_machine.specs.Machine.{look_in, msr_exits_in, ports_exit, page_at, reach_by}
 use Rattle.vmx_machine.specs.declared.control.Control.{Control}

@@ -7,8 +7,8 @@ use Rattle.subject_model.specs.System.{Named, named}
 use Rattle.image_pack.specs.declared.parts.SubjectPart.{SubjectPart}
 use Rattle.muen_num.specs.ListChange.{change_at}
 use Rattle.muen_num.proofs.ChangeLaws.{element_changes, others_stay}
-use Rattle.policy_meaning.specs.Thing.{state}
-use Rattle.policy_types.specs.declared.source.Subject.{Subject}
+use Rattle.policy_lawful.specs.Thing.{state}
+use Rattle.policy_lawful.specs.source.Subject.{Subject}
 use Rattle.vmx_machine.specs.declared.control.Control.{Control}
 use Rattle.vmx_machine.specs.declared.cpu.Cpu.{Cpu}
 use Rattle.proof_turns.specs.Ground.{Ground, Joined}

@@ -7,8 +7,8 @@ use Rattle.muen_num.specs.Range.{numbers_below}
 use Rattle.machine_layout.specs.Exits.{AreaEntry}
 use Rattle.machine_layout.specs.Memory.{Page, page_of, is_there, change}
 use Rattle.machine_layout.proofs.PageLaws.{page_of-change_same, page_of-change_other, is_there-change}
-use Rattle.policy_meaning.specs.Thing.{Thing, state}
-use Rattle.policy_types.specs.declared.source.Subject.{Subject}
+use Rattle.policy_lawful.specs.Thing.{Thing, state}
+use Rattle.policy_lawful.specs.source.Subject.{Subject}
 use Rattle.image_pack.specs.declared.parts.SubjectPart.{SubjectPart}
 use Rattle.muen_num.specs.ListChange.{change_at}
 use Rattle.muen_num.proofs.ChangeLaws.{element_changes, changes_join}

@@ -1,6 +1,6 @@
 -- Runs of the machine are runs of the system, as long as ticks are words.
 use Rattle.std.proofs.Common.{◌≡◌, ℕ, ◌^◌, ◌≤◌, List, subst}
-use Rattle.device_bench.specs.declared.effect.Effect.{Effect}
+use Rattle.kernel_core.specs.effect.Effect.{Effect}
 use Rattle.subject_model.specs.DeviceRecord.{NamedInput}
 use Rattle.frame_clock.specs.Run.{run_to}
 use Rattle.frame_clock.specs.Alike.{AreAlike, AreAlikeRuns, AreAlikeTicks, AreAlikeTurns}

@@ -5,8 +5,8 @@ use Rattle.std.specs.List.{list_any}
 use Rattle.std.proofs.lemmas.Bool.{cases_eq, eq-eqb, ne_eqb, cases_Bool}
 use Rattle.std.proofs.lemmas.List.{get_or-set_other, get_or-set_same, length-set}
 use Rattle.machine_layout.specs.Pending.{with_vector as with_in, without as without_in}
-use Rattle.event_router.specs.Vectors.{delivered as delivered_marks, greatest as greatest_mark, has, with_vector, without_vector}
-use Rattle.event_router.specs.Router.{delivered_by}
+use Rattle.kernel_core.specs.Vectors.{delivered as delivered_marks, greatest as greatest_mark, has, with_vector, without_vector}
+use Rattle.kernel_core.specs.Router.{delivered_by}
 use Rattle.subject_model.specs.Alone.{delivered, greatest, is_in}
 use Rattle.proof_turns.specs.Held.{IsSameSet, SameSet}
 

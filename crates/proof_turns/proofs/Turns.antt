@@ -11,18 +11,18 @@ use Rattle.muen_num.specs.declared.access.AccessSize.TheVariants.{One, Two, Four
 use Rattle.guest_isa.specs.declared.reach.Reach.TheVariants.{Reached}
 use Rattle.muen_num.specs.declared.limits.TheConstants.{EXIT_HLT, EXIT_VMCALL}
 use Rattle.machine_layout.specs.Memory.{Page, le_number}
-use Rattle.policy_meaning.specs.Events.{traps_of}
-use Rattle.policy_meaning.specs.Frames.{frames_of}
-use Rattle.policy_meaning.specs.Thing.{Thing}
-use Rattle.policy_meaning.specs.Windows.{Access, access_of, byte, violation, windows_of}
-use Rattle.policy_types.specs.declared.source.Subject.{Subject}
+use Rattle.policy_lawful.specs.Events.{traps_of}
+use Rattle.policy_lawful.specs.Frames.{frames_of}
+use Rattle.policy_lawful.specs.Thing.{Thing}
+use Rattle.policy_lawful.specs.Windows.{Access, access_of, byte, violation, windows_of}
+use Rattle.policy_lawful.specs.source.Subject.{Subject}
 use Rattle.image_pack.specs.declared.parts.SubjectPart.{SubjectPart}
 use Rattle.frame_clock.specs.Plan.{frames_in}
 use Rattle.frame_clock.specs.Slot.{Slot}
 use Rattle.muen_num.specs.ListChange.{change_at}
 use Rattle.muen_num.proofs.ChangeLaws.{changes_join}
 use Rattle.frame_clock.specs.Frames.{slot_in}
-use Rattle.event_router.specs.Router.{taken}
+use Rattle.kernel_core.specs.Router.{taken}
 use Rattle.guest_isa.specs.Finish.{finished, finish_of, injected}
 use Rattle.guest_isa.specs.declared.finish.Finish.{Finish}
 use Rattle.kernel_core.specs.Devices.{value_of_ports}
@@ -34,9 +34,9 @@ use Rattle.guest_isa.specs.declared.end.StepEnd.TheVariants as ends
 use Rattle.subject_model.specs.SubjectState.{SubjectState}
 use Rattle.frame_clock.specs.Run.{Turned}
 use Rattle.frame_clock.specs.Alike.{AreAlikeTurns}
-use Rattle.view_text.specs.declared.TurnLine.{TurnLine}
-use Rattle.view_text.specs.declared.TurnAction.{TurnAction}
-use Rattle.view_text.specs.declared.TurnAction.TheVariants.{Ran, Inject, Exit}
+use Rattle.subject_model.specs.TurnLine.{TurnLine}
+use Rattle.subject_model.specs.TurnAction.{TurnAction}
+use Rattle.subject_model.specs.TurnAction.TheVariants.{Ran, Inject, Exit}
 use Rattle.vmx_machine.specs.Machine.{CpuStepped, Stepped, answered as cpu_answered, cpu_step, exit_finished, machine_step, machine_world, ports_exit, state_on, step_by, step_on, vector_injected, with_state, with_store as with_page, with_write as with_file}
 use Rattle.vmx_machine.specs.declared.control.Control.{Control}
 use Rattle.vmx_machine.specs.declared.cpu.Cpu.{Cpu}

@@ -13,9 +13,9 @@ use Rattle.muen_num.specs.declared.access.AccessSize.{AccessSize}
 use Rattle.muen_num.specs.declared.limits.TheConstants.{LAST_PORT}
 use Rattle.kernel_core.specs.Devices.{value_of_ports}
 use Rattle.subject_model.specs.Resources.{are_granted, is_granted, msrs_of, ports_of}
-use Rattle.policy_meaning.specs.Thing.{Thing, same_thing}
-use Rattle.policy_meaning.specs.Windows.{Access, byte, violation, access_of, windows_of}
-use Rattle.policy_types.specs.declared.source.Subject.{Subject}
+use Rattle.policy_lawful.specs.Thing.{Thing, same_thing}
+use Rattle.policy_lawful.specs.Windows.{Access, byte, violation, access_of, windows_of}
+use Rattle.policy_lawful.specs.source.Subject.{Subject}
 use Rattle.guest_isa.specs.Named.{AreAlike}
 use Rattle.guest_isa.specs.Step.{word_at}
 use Rattle.guest_isa.specs.declared.reach.Reach.TheVariants.{Reached}

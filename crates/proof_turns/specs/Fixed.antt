@@ -13,11 +13,11 @@ use Rattle.kernel_core.specs.Kernel.{entry}
 use Rattle.machine_layout.specs.Walks.{addresses_read}
 use Rattle.muen_num.specs.declared.access.AccessKind.{AccessKind}
 use Rattle.muen_num.specs.declared.limits.TheConstants.{GUEST_END}
-use Rattle.policy_meaning.specs.Frames.{frames_of}
-use Rattle.policy_meaning.specs.Thing.{Thing, region, state}
-use Rattle.policy_meaning.specs.Windows.{access_of, byte, windows_of}
-use Rattle.policy_types.specs.declared.source.Subject.{Subject}
-use Rattle.policy_types.specs.declared.source.Tau0.{Tau0}
+use Rattle.policy_lawful.specs.Frames.{frames_of}
+use Rattle.policy_lawful.specs.Thing.{Thing, region, state}
+use Rattle.policy_lawful.specs.Windows.{access_of, byte, windows_of}
+use Rattle.policy_lawful.specs.source.Subject.{Subject}
+use Rattle.policy_lawful.specs.source.Tau0.{Tau0}
 use Rattle.vmx_machine.specs.MsrFile.{slot_of}
 use Rattle.vmx_machine.specs.declared.control.Control.{Control}
 use Rattle.subject_model.specs.System.{is_shown}

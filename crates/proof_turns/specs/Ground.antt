@@ -11,13 +11,13 @@ use Rattle.kernel_core.specs.declared.setup.Setup.{Setup}
 use Rattle.machine_layout.specs.Memory.{Page}
 use Rattle.muen_num.specs.declared.access.AccessKind.{AccessKind}
 use Rattle.muen_num.specs.declared.limits.TheConstants.{GUEST_END}
-use Rattle.policy_meaning.specs.Events.{Raised, event_of, traps_of}
-use Rattle.policy_meaning.specs.Thing.{Thing}
-use Rattle.policy_meaning.specs.Windows.{access_of, windows_of}
-use Rattle.policy_types.specs.declared.source.Source.{Source}
-use Rattle.policy_types.specs.declared.source.SourceWay.TheVariants.{Call, Trap}
-use Rattle.policy_types.specs.declared.source.Subject.{Subject}
-use Rattle.policy_meaning.specs.Frames.{group_of}
+use Rattle.policy_lawful.specs.Events.{Raised, event_of, traps_of}
+use Rattle.policy_lawful.specs.Thing.{Thing}
+use Rattle.policy_lawful.specs.Windows.{access_of, windows_of}
+use Rattle.policy_lawful.specs.source.Source.{Source}
+use Rattle.policy_lawful.specs.source.SourceWay.TheVariants.{Call, Trap}
+use Rattle.policy_lawful.specs.source.Subject.{Subject}
+use Rattle.policy_lawful.specs.Frames.{group_of}
 use Rattle.vmx_machine.specs.Machine.{look_in, msr_exits_in, ports_exit}
 use Rattle.vmx_machine.specs.declared.control.Control.{Control}
 

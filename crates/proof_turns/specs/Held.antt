@@ -4,14 +4,14 @@ use Rattle.std.specs.List.{All}
 use Rattle.guest_isa.specs.Words.{IsWord}
 use Rattle.subject_model.specs.Alone.{MsrValues, Things, is_in, msr_value, thing_in}
 use Rattle.subject_model.specs.System.{Named, named}
-use Rattle.event_router.specs.Vectors.{has}
+use Rattle.kernel_core.specs.Vectors.{has}
 use Rattle.subject_model.specs.Resources.{is_granted, msrs_of}
 use Rattle.image_pack.specs.declared.parts.SubjectPart.{SubjectPart}
 use Rattle.kernel_core.specs.Kernel.{Live}
 use Rattle.machine_layout.specs.Exits.{AreaEntry}
 use Rattle.machine_layout.specs.Memory.{page_of}
-use Rattle.policy_meaning.specs.Thing.{state}
-use Rattle.policy_types.specs.declared.source.Subject.{Subject}
+use Rattle.policy_lawful.specs.Thing.{state}
+use Rattle.policy_lawful.specs.source.Subject.{Subject}
 use Rattle.subject_model.specs.StatePage.{page_bytes}
 use Rattle.vmx_machine.specs.Machine.{entries_in}
 use Rattle.vmx_machine.specs.MsrFile.{most, value_in}

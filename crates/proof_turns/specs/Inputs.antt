@@ -1,10 +1,10 @@
 -- When what reaches the machine, by numbers, is an input of the system, by names.
 use Rattle.std.specs.Prelude.{◌≡◌, ℕ, ◌+◌, ◌*◌, ◌≤◌, false, List, [], ◌∷◌, length, map, Option, Some, None, is_some}
 use Rattle.std.specs.List.{All, AllZip, enumerate_from, flat_map, list_all}
-use Rattle.device_bench.specs.declared.effect.Effect.{Effect}
-use Rattle.device_bench.specs.declared.effect.Effect.TheVariants.{Port, Mem, Irq}
-use Rattle.policy_meaning.specs.Events.{irq_of}
-use Rattle.policy_meaning.specs.Thing.{Thing, device_memory}
+use Rattle.kernel_core.specs.effect.Effect.{Effect}
+use Rattle.kernel_core.specs.effect.Effect.TheVariants.{Port, Mem, Irq}
+use Rattle.policy_lawful.specs.Events.{irq_of}
+use Rattle.policy_lawful.specs.Thing.{Thing, device_memory}
 use Rattle.subject_model.specs.DeviceRecord.{NamedInput, port_input, memory_input, irq_input, dma_input}
 use Rattle.subject_model.specs.Clock.{ByteWrite, line_writes}
 use Rattle.proof_turns.specs.Ground.{Ground, IsSubject, name_at}

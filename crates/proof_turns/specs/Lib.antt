@@ -3,3 +3,14 @@ pub mod Fixed
 pub mod Held
 pub mod Stands
 pub mod Inputs
+pub use Rattle.frame_clock.specs.Alike
+pub use Rattle.kernel_core.specs.Control
+pub use Rattle.kernel_core.specs.Kernel
+pub use Rattle.kernel_core.specs.Machine
+pub use Rattle.kernel_core.specs.Run
+pub use Rattle.kernel_core.specs.Ticks
+pub use Rattle.kernel_core.specs.declared.setup
+pub use Rattle.kernel_core.specs.effect
+pub use Rattle.kernel_core.specs.Devices
+pub use Rattle.kernel_core.specs.Router
+pub use Rattle.kernel_core.specs.Vectors

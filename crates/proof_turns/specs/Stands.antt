@@ -3,13 +3,13 @@ use Rattle.std.specs.Prelude.{◌≡◌, ℕ, ◌+◌, ◌*◌, ◌<◌, ◌≤�
 use Rattle.std.specs.List.{All}
 use Rattle.subject_model.specs.Alone.{Things, thing_in}
 use Rattle.subject_model.specs.System.{Named, System, named}
-use Rattle.event_router.specs.Router.{RouterState}
+use Rattle.kernel_core.specs.Router.{RouterState}
 use Rattle.image_pack.specs.declared.parts.SubjectPart.{SubjectPart}
 use Rattle.kernel_core.specs.Kernel.{Live}
 use Rattle.machine_layout.specs.Memory.{Page, is_there, page_of}
 use Rattle.muen_num.specs.declared.limits.TheConstants.{LAST_PORT}
-use Rattle.policy_meaning.specs.Thing.{Thing, state}
-use Rattle.policy_types.specs.declared.source.Subject.{Subject}
+use Rattle.policy_lawful.specs.Thing.{Thing, state}
+use Rattle.policy_lawful.specs.source.Subject.{Subject}
 use Rattle.subject_model.specs.StatePage.{state_in}
 use Rattle.vmx_machine.specs.Machine.{entries_in}
 use Rattle.vmx_machine.specs.MsrFile.{value_in}

@@ -12,7 +12,7 @@ ghost use Rattle.subject_model.specs.System.{System, system_turn};
 ghost use Rattle.kernel_core.specs.Kernel.{Live, turn_of};
 ghost use Rattle.kernel_core.specs.Ticks.{begins, ended, kernel};
 ghost use Rattle.subject_model.specs.DeviceRecord.{NamedInput};
-ghost use Rattle.device_bench.specs.declared.effect.Effect.{Effect};
+ghost use Rattle.kernel_core.specs.effect.Effect.{Effect};
 ghost use Rattle.frame_clock.specs.Alike.{AreAlikeTurns};
 ghost use Rattle.frame_clock.specs.Run.{all_taken};
 ghost use Rattle.proof_turns.specs.Fixed.{IsFixed};

@@ -6,7 +6,7 @@ use Rattle.std.specs.Str.{bytes_eq}
 use Rattle.std.proofs.lemmas.Bool.{and_parts, cases_eq, ltb-true, or_left}
 use Rattle.std.proofs.lemmas.List.Quantifiers.{position-Some}
 use Rattle.std.proofs.lemmas.Option.{get_or_from_slice_get, slice_get-map}
-use Rattle.guest_isa.specs.Step.{Stored}
+use Rattle.subject_model.specs.Step.{Stored}
 use Rattle.muen_num.proofs.ChangeLaws.{element_changes, others_stay}
 use Rattle.muen_num.specs.ListChange.{change_at}
 use Rattle.muen_num.proofs.Lists.{passes_at}
@@ -26,7 +26,7 @@ use Rattle.subject_model.specs.DeviceRecord.{NamedInput, port_input, memory_inpu
 use Rattle.policy_lawful.proofs.KeptMembers.{MembersKept}
 use Rattle.proof_views.specs.Members.{AreListed, lists}
 use Rattle.proof_views.proofs.Kept.{begun_keeps, run_keeps, turn_keeps}
-use Rattle.frame_clock.specs.Run.{begun, run_to}
+use Rattle.subject_model.specs.Run.{begun, run_to}
 use Rattle.subject_model.specs.SubjectState.{SubjectState}
 use Rattle.subject_model.specs.Alone.{MsrValues, TurnAnswer, own_of, solo_turn}
 use Rattle.subject_model.specs.Clock.{irq_reaches, line_writes, system, takes}

@@ -21,8 +21,8 @@ use Rattle.subject_model.specs.DeviceRecord.{DeviceRecord}
 use Rattle.subject_model.specs.Law.{NamesEachOnce}
 use Rattle.subject_model.specs.Reading.{are_distinct}
 use Rattle.subject_model.specs.SubjectState.{SubjectState}
-use Rattle.frame_clock.specs.Run.{Turned, begun, run_to, turns}
-use Rattle.view_text.specs.declared.TurnLine.{TurnLine}
+use Rattle.subject_model.specs.Run.{Turned, begun, run_to, turns}
+use Rattle.subject_model.specs.TurnLine.{TurnLine}
 use Rattle.subject_model.specs.Alone.{MsrValues, OwnState, TurnAnswer, own_of, solo_turn}
 use Rattle.subject_model.specs.Clock.{inputs_at, order_at, system}
 use Rattle.subject_model.specs.System.{System, idle, inbox_of, line_at, start_of, state_of, subject_named, system_turn}

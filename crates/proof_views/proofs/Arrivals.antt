@@ -5,16 +5,16 @@ use Rattle.std.specs.List.{list_any}
 use Rattle.std.specs.Str.{bytes_eq}
 use Rattle.std.proofs.lemmas.Bool.{true≢false}
 use Rattle.std.proofs.lemmas.Slice.Eq.{bytes_eq-Decides}
-use Rattle.frame_clock.specs.Frames.{slot_in}
-use Rattle.frame_clock.specs.Run.{Turned}
-use Rattle.frame_clock.specs.Slot.{Slot}
+use Rattle.subject_model.specs.Frames.{slot_in}
+use Rattle.subject_model.specs.Run.{Turned}
+use Rattle.subject_model.specs.Slot.{Slot}
 use Rattle.policy_lawful.specs.Frames.{frames_of}
 use Rattle.policy_lawful.specs.source.Source.{Source}
 use Rattle.policy_lawful.specs.source.Subject.{Subject}
 use Rattle.subject_model.specs.Alone.{Inbox, MsrValues, OwnState}
 use Rattle.subject_model.specs.SubjectState.{SubjectState}
 use Rattle.subject_model.specs.System.{System, idle, inbox_of, named, pending, shown_to, state_of, subject_named, system_turn, turn_from, turn_in_slot, turn_of_member, turn_of_subject}
-use Rattle.view_text.specs.declared.TurnLine.{TurnLine}
+use Rattle.subject_model.specs.TurnLine.{TurnLine}
 use Rattle.proof_views.specs.AloneRun.{Arrival, nothing, at_turn, alters, left_there, reaching, reaching_member, reaching_slot, reaching_subject}
 use Rattle.proof_views.proofs.Kept.{acted}
 use Rattle.proof_views.proofs.OwnLines.{found_so}

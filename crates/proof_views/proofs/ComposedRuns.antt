@@ -4,9 +4,9 @@ use Rattle.std.specs.Prelude.{◌==◌, IsTrue, not, slice_get}
 use Rattle.std.specs.List.{All, cons_option, find, list_any}
 use Rattle.std.proofs.lemmas.Bool.{and_from, and_parts, eq-eqb, eqb-true, false_from_ne_true, not-true, or_from, or_left, or_parts, or_right, true≢false}
 use Rattle.std.proofs.lemmas.List.Elements.{recursion_from_All}
-use Rattle.frame_clock.specs.Frames.{slot_in}
-use Rattle.frame_clock.specs.Run.{Ran, Turned, after_lines, all_taken, begun, run_to, tick_ran, turns}
-use Rattle.frame_clock.specs.Slot.{Slot}
+use Rattle.subject_model.specs.Frames.{slot_in}
+use Rattle.subject_model.specs.Run.{Ran, Turned, after_lines, all_taken, begun, run_to, tick_ran, turns}
+use Rattle.subject_model.specs.Slot.{Slot}
 use Rattle.muen_num.proofs.Each.{found}
 use Rattle.policy_lawful.proofs.KeptMajors.{MajorsKept, majors_kept}
 use Rattle.policy_lawful.proofs.KeptMembers.{MembersKept, members_kept}
@@ -22,7 +22,7 @@ use Rattle.subject_model.specs.Reading.{are_distinct}
 use Rattle.subject_model.specs.Alone.{OwnState, own_of}
 use Rattle.subject_model.specs.Clock.{begins, inputs_at, order_at, run_of, system, takes}
 use Rattle.subject_model.specs.System.{System, start_of, subject_named, system_turn, turn_from, turn_in_slot, turn_of_member, turn_of_subject}
-use Rattle.view_text.specs.declared.TurnLine.{TurnLine}
+use Rattle.subject_model.specs.TurnLine.{TurnLine}
 use Rattle.proof_views.specs.AloneRun.{after_tick, alone_to, before, reaching, reaching_at, started_alone}
 use Rattle.proof_views.specs.Composed.{AreFed, alone_in_run, composed, composed_in_slot, composed_of_member, composed_of_subject, composed_turn, fed_at}
 use Rattle.proof_views.specs.Members.{AreListed}

@@ -5,7 +5,7 @@ use Rattle.std.specs.List.{All, find}
 use Rattle.std.proofs.lemmas.List.Elements.{recursion_from_All}
 use Rattle.std.proofs.lemmas.List.{length-map}
 use Rattle.std.proofs.lemmas.Option.{slice_get-map, slice_get_within}
-use Rattle.frame_clock.specs.Run.{begun, run_to, tick_ran, turns}
+use Rattle.subject_model.specs.Run.{begun, run_to, tick_ran, turns}
 use Rattle.muen_num.proofs.Each.{found}
 use Rattle.muen_num.proofs.NumbersBelow.{length_numbers, number_at}
 use Rattle.muen_num.specs.Range.{numbers_below}

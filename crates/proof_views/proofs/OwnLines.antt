@@ -6,7 +6,7 @@ use Rattle.std.specs.List.{list_all, list_any}
 use Rattle.std.specs.Str.{bytes_eq}
 use Rattle.std.proofs.lemmas.Bool.{and_parts, eqb-false, eqb-true, false_from_ne_true, or_cases}
 use Rattle.std.proofs.lemmas.Slice.Eq.{bytes_eq-Decides}
-use Rattle.frame_clock.specs.Slot.{Slot}
+use Rattle.subject_model.specs.Slot.{Slot}
 use Rattle.muen_num.proofs.Lists.{passes_at}
 use Rattle.policy_lawful.proofs.KeptMajors.{MajorsKept}
 use Rattle.policy_lawful.proofs.KeptMembers.{MembersKept}
@@ -14,8 +14,8 @@ use Rattle.policy_lawful.specs.Rules.{is_group, is_on, subject_cpu}
 use Rattle.policy_lawful.specs.source.Group.{Group}
 use Rattle.policy_lawful.specs.source.Source.{Source}
 use Rattle.policy_lawful.specs.source.Subject.{Subject}
-use Rattle.view_text.specs.declared.TurnLine.{TurnLine}
-use Rattle.view_text.specs.declared.TurnAction.{TurnAction}
+use Rattle.subject_model.specs.TurnLine.{TurnLine}
+use Rattle.subject_model.specs.TurnAction.{TurnAction}
 use Rattle.subject_model.proofs.PolicyFacts.{found_passes}
 use Rattle.subject_model.specs.Alone.{own_of, solo_turn}
 use Rattle.subject_model.specs.System.{System, inbox_of, line_at, subject_named, system_turn}

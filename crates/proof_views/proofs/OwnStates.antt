@@ -5,7 +5,7 @@ use Rattle.std.specs.List.{list_any}
 use Rattle.std.specs.Option.{IfSome}
 use Rattle.std.specs.Str.{bytes_eq}
 use Rattle.std.proofs.lemmas.Bool.{eqb-false}
-use Rattle.guest_isa.specs.Step.{Stored}
+use Rattle.subject_model.specs.Step.{Stored}
 use Rattle.machine_layout.specs.Memory.{over}
 use Rattle.policy_lawful.proofs.KeptMajors.{MajorsKept}
 use Rattle.policy_lawful.proofs.KeptMembers.{MembersKept}
@@ -18,8 +18,8 @@ use Rattle.subject_model.specs.DeviceRecord.{NamedInput, port_input, memory_inpu
 use Rattle.subject_model.specs.Resources.{msrs_of}
 use Rattle.subject_model.specs.StatePage.{page_bytes, state_in}
 use Rattle.subject_model.specs.SubjectState.{SubjectState}
-use Rattle.frame_clock.specs.Run.{Turned, all_taken, begun}
-use Rattle.view_text.specs.declared.TurnLine.{TurnLine}
+use Rattle.subject_model.specs.Run.{Turned, all_taken, begun}
+use Rattle.subject_model.specs.TurnLine.{TurnLine}
 use Rattle.subject_model.specs.Alone.{MsrValues, OwnState, TurnAnswer, own_of, solo_turn, thing_in}
 use Rattle.subject_model.specs.Clock.{begins, line_writes, system, takes}
 use Rattle.subject_model.specs.Laws.{StoresElsewhere}

@@ -5,8 +5,8 @@ use Rattle.std.specs.List.{find, list_any}
 use Rattle.std.specs.Str.{bytes_eq}
 use Rattle.std.proofs.lemmas.Bool.{cases_Bool, eqb-true, or_cases, or_left, or_right}
 use Rattle.std.proofs.lemmas.Slice.Eq.{bytes_eq-Decides}
-use Rattle.frame_clock.specs.Run.{begun, run_to, turns}
-use Rattle.guest_isa.specs.Step.{Stored}
+use Rattle.subject_model.specs.Run.{begun, run_to, turns}
+use Rattle.subject_model.specs.Step.{Stored}
 use Rattle.machine_layout.specs.Pending.{with_vector, without}
 use Rattle.muen_num.specs.declared.mode.EventMode.{EventMode}
 use Rattle.muen_num.specs.declared.mode.EventMode.TheVariants.{Asap, Async, Own as OwnMode, Switch}

@@ -7,7 +7,7 @@ use Rattle.std.specs.Str.{bytes_eq}
 use Rattle.std.proofs.lemmas.Bool.{not-true, or_from, true≢false, false_from_ne_true}
 use Rattle.std.proofs.lemmas.List.Elements.{recursion_from_All}
 use Rattle.std.proofs.lemmas.Slice.Eq.{bytes_eq-Decides}
-use Rattle.frame_clock.specs.Run.{Turned, run_to, turns}
+use Rattle.subject_model.specs.Run.{Turned, run_to, turns}
 use Rattle.muen_num.proofs.Members.{any_in, find_in, passes_in}
 use Rattle.policy_lawful.proofs.KeptMajors.{MajorsKept, majors_kept}
 use Rattle.policy_lawful.proofs.KeptMembers.{MembersKept, members_kept}
@@ -28,7 +28,7 @@ use Rattle.subject_model.specs.Reading.{are_distinct}
 use Rattle.subject_model.specs.SubjectState.{SubjectState}
 use Rattle.subject_model.specs.System.{System, idle, inbox_of, is_shown, start_of, state_of, subject_named, system_turn}
 use Rattle.subject_model.specs.View.{Seen, through, ran_through, view_of}
-use Rattle.view_text.specs.declared.TurnLine.{TurnLine}
+use Rattle.subject_model.specs.TurnLine.{TurnLine}
 use Rattle.proof_views.specs.AloneRun.{Arrival, at_turn, alone_to, before, left_there, reaching, reaching_at, started_alone}
 use Rattle.proof_views.specs.Changes.{after_store, are_writable, input_changes, may_change}
 use Rattle.proof_views.specs.LastViews.{behind}

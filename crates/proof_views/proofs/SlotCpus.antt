@@ -7,9 +7,9 @@ use Rattle.std.specs.Str.{bytes_eq}
 use Rattle.std.proofs.lemmas.Bool.{and_from, and_parts, eqb-true}
 use Rattle.std.proofs.lemmas.List.Folds.{find_at}
 use Rattle.std.proofs.lemmas.Option.{slice_get-map}
-use Rattle.frame_clock.specs.Frames.{slot_in}
-use Rattle.frame_clock.specs.declared.frame_at.FrameAt.{FrameAt}
-use Rattle.frame_clock.specs.Slot.{Slot, frame_slots}
+use Rattle.subject_model.specs.Frames.{slot_in}
+use Rattle.subject_model.specs.frame_at.FrameAt.{FrameAt}
+use Rattle.subject_model.specs.Slot.{Slot, frame_slots}
 use Rattle.muen_num.proofs.Lists.{found_among, passes_at}
 use Rattle.muen_num.specs.Frame.{Frame}
 use Rattle.muen_num.specs.Range.{numbers_below}
@@ -22,7 +22,7 @@ use Rattle.policy_lawful.specs.source.MajorFrame.{MajorFrame}
 use Rattle.policy_lawful.specs.source.MinorFrame.{MinorFrame}
 use Rattle.policy_lawful.specs.source.Source.{Source}
 use Rattle.subject_model.proofs.PolicyFacts.{found_passes}
-use Rattle.frame_clock.proofs.SlotGroups.{at_slot}
+use Rattle.subject_model.proofs.SlotGroups.{at_slot}
 
 -- whether this group is there, and on this CPU
 abbrev pub is_here : Source → ℕ → ℕ → Bool

@@ -1,7 +1,7 @@
 -- Where no monitor may write it, the state page of a subject is that of a state in each state of a run.
 use Rattle.std.proofs.Common.{◌≡◌, ℕ, Bool, List, map, Option, Some, None, ap, subst, ◌∙◌, inl, inr, false, sym, refl}
 use Rattle.std.specs.Prelude.{option_map}
-use Rattle.guest_isa.specs.Step.{Stored}
+use Rattle.subject_model.specs.Step.{Stored}
 use Rattle.machine_layout.specs.Memory.{over}
 use Rattle.policy_lawful.specs.Contents.{Held, initial_bytes}
 use Rattle.policy_lawful.specs.Events.{irq_of}
@@ -12,7 +12,7 @@ use Rattle.subject_model.specs.DeviceRecord.{NamedInput, port_input, memory_inpu
 use Rattle.subject_model.specs.StatePage.{page_bytes}
 use Rattle.subject_model.specs.States.{started}
 use Rattle.subject_model.specs.SubjectState.{SubjectState}
-use Rattle.frame_clock.specs.Run.{run_to}
+use Rattle.subject_model.specs.Run.{run_to}
 use Rattle.subject_model.specs.Alone.{MsrValues, Things, TurnAnswer, own_of, solo_turn, thing_in}
 use Rattle.subject_model.specs.Clock.{system, takes}
 use Rattle.subject_model.specs.System.{System, answered, change_thing, first_page, inbox_of, start_of, subject_named, took, with_own, with_store}

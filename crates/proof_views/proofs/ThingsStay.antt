@@ -5,9 +5,9 @@ use Rattle.std.specs.List.{cons_option, find, list_any}
 use Rattle.std.specs.Option.{IfSome}
 use Rattle.std.specs.Str.{bytes_eq}
 use Rattle.std.proofs.lemmas.Bool.{and_from, cases_Bool, cases_eq, eq-eqb, false_from_ne_true, or_left, or_parts, or_right, true≢false}
-use Rattle.guest_isa.proofs.StepLaws.{step_stored}
-use Rattle.guest_isa.specs.Step.{Answer, Stored, step}
-use Rattle.guest_isa.specs.declared.reach.Reach.TheVariants.{Reached}
+use Rattle.subject_model.proofs.StepLaws.{step_stored}
+use Rattle.subject_model.specs.Step.{Answer, Stored, step}
+use Rattle.subject_model.specs.reach.Reach.TheVariants.{Reached}
 use Rattle.machine_layout.specs.Memory.{over}
 use Rattle.muen_num.proofs.Each.{if_some}
 use Rattle.muen_num.proofs.Members.{In, any_in, find_in}
@@ -21,8 +21,8 @@ use Rattle.policy_lawful.specs.Thing.{Thing, device_memory, same_thing, state}
 use Rattle.policy_lawful.specs.Windows.{Window, access_by, byte, holds, violation, windows_of}
 use Rattle.policy_lawful.specs.source.Source.{Source}
 use Rattle.policy_lawful.specs.source.Subject.{Subject}
-use Rattle.frame_clock.specs.Run.{Turned, all_taken, begun, run_to, turns}
-use Rattle.frame_clock.specs.Slot.{Slot}
+use Rattle.subject_model.specs.Run.{Turned, all_taken, begun, run_to, turns}
+use Rattle.subject_model.specs.Slot.{Slot}
 use Rattle.subject_model.proofs.DeviceWrites.{IsWritable, unwritten_stays}
 use Rattle.subject_model.proofs.KeyLaws.{same_thing_self, same_things, things_apart, value_changed, value_other}
 use Rattle.subject_model.specs.Alone.{Inbox, Own, OwnState, Things, TurnAnswer, alone, own_of, reach_by, solo_turn, stepped, thing_in, unless_delivered, vector_for, waits}
@@ -32,7 +32,7 @@ use Rattle.subject_model.specs.Laws.{IsTurnOf}
 use Rattle.subject_model.specs.StatePage.{page_bytes}
 use Rattle.subject_model.specs.SubjectState.{SubjectState}
 use Rattle.subject_model.specs.System.{System, answered, change_thing, inbox_of, is_shown, named, shown_to, start_of, subject_named, system_turn, took, turn_answered, turn_from, turn_in_slot, turn_of_member, turn_of_subject, with_own, with_store}
-use Rattle.view_text.specs.declared.TurnLine.{TurnLine}
+use Rattle.subject_model.specs.TurnLine.{TurnLine}
 use Rattle.proof_views.specs.Changes.{IsSpared, acting, after_store, are_writable, input_changes, may_change, may_change_on, whose_turn}
 use Rattle.proof_views.specs.Members.{AreListed, HasTurn}
 use Rattle.proof_views.proofs.ActiveMembers.{turn_listed}

@@ -3,7 +3,7 @@ use Rattle.std.proofs.Common.{◌≡◌, ℕ, Bool, true, false, cond, List, [],
 use Rattle.std.specs.Prelude.{◌==◌, ◌||◌, not}
 use Rattle.std.specs.List.{list_any}
 use Rattle.std.proofs.lemmas.Bool.{and_from, and_parts, eqb-true, not-true, or_from, or_parts}
-use Rattle.frame_clock.specs.Run.{turns}
+use Rattle.subject_model.specs.Run.{turns}
 use Rattle.policy_lawful.proofs.KeptMajors.{MajorsKept}
 use Rattle.policy_lawful.proofs.KeptMembers.{MembersKept}
 use Rattle.policy_lawful.specs.source.Source.{Source}

@@ -7,8 +7,8 @@ use Rattle.std.specs.Option.{IfSome}
 use Rattle.std.specs.Str.{bytes_eq}
 use Rattle.std.proofs.lemmas.Bool.{and_from, cases_Bool, or_parts, true≢false}
 use Rattle.std.proofs.lemmas.Slice.Eq.{bytes_eq-Decides}
-use Rattle.guest_isa.specs.Step.{Answer, Stored, step}
-use Rattle.guest_isa.specs.declared.reach.Reach.TheVariants.{Reached}
+use Rattle.subject_model.specs.Step.{Answer, Stored, step}
+use Rattle.subject_model.specs.reach.Reach.TheVariants.{Reached}
 use Rattle.muen_num.specs.declared.access.AccessKind.TheVariants.{Write}
 use Rattle.policy_lawful.specs.Thing.{Thing, channel, component_by, device_memory, provided, region, same_thing, state, things_of}
 use Rattle.policy_lawful.specs.Windows.{Access, Window, access_by, access_of, byte, channel_window, component_channel_window, component_windows, device_window, entry_of, holds, monitor_window, region_window, required_window, role_rights, violation, window, windows_of}
@@ -36,7 +36,7 @@ use Rattle.subject_model.specs.Alone.{Inbox, Own, OwnState, alone, own_of, reach
 use Rattle.subject_model.specs.Laws.{StoresElsewhere}
 use Rattle.subject_model.specs.System.{subject_named}
 use Rattle.subject_model.proofs.KeyLaws.{same_things}
-use Rattle.guest_isa.proofs.StepLaws.{step_stored}
+use Rattle.subject_model.proofs.StepLaws.{step_stored}
 use Rattle.muen_num.proofs.Each.{chained, each_append, each_flat, each_map, each_some, found, mapped}
 use Rattle.proof_views.specs.AloneRun.{alters, is_altered}
 use Rattle.policy_lawful.proofs.Items.{provided_by, things_are}

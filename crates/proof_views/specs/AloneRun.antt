@@ -3,8 +3,8 @@ use Rattle.std.specs.Prelude.{ℕ, zero, suc, ◌==◌, ◌&&◌, Bool, List, []
 use Rattle.std.specs.List.{list_any}
 use Rattle.std.specs.Str.{bytes_eq}
 use Rattle.subject_model.specs.Resources.{msrs_of}
-use Rattle.frame_clock.specs.Frames.{slot_in}
-use Rattle.frame_clock.specs.Slot.{Slot}
+use Rattle.subject_model.specs.Frames.{slot_in}
+use Rattle.subject_model.specs.Slot.{Slot}
 use Rattle.muen_num.specs.Range.{numbers_below}
 use Rattle.muen_num.specs.declared.access.AccessKind.TheVariants.{Write}
 use Rattle.policy_lawful.specs.Contents.{Held}
@@ -17,9 +17,9 @@ use Rattle.subject_model.specs.DeviceRecord.{DeviceRecord}
 use Rattle.subject_model.specs.StatePage.{page_bytes, state_in}
 use Rattle.subject_model.specs.States.{started}
 use Rattle.subject_model.specs.SubjectState.{SubjectState}
-use Rattle.frame_clock.specs.Run.{run_to, tick_ran}
-use Rattle.view_text.specs.declared.TurnLine.{TurnLine}
-use Rattle.view_text.specs.declared.TurnAction.{TurnAction}
+use Rattle.subject_model.specs.Run.{run_to, tick_ran}
+use Rattle.subject_model.specs.TurnLine.{TurnLine}
+use Rattle.subject_model.specs.TurnAction.{TurnAction}
 use Rattle.subject_model.specs.Alone.{Inbox, MsrValues, Own, OwnState, solo_turn}
 use Rattle.subject_model.specs.Clock.{inputs_at, order_at, system}
 use Rattle.subject_model.specs.System.{System, inbox_of, line_at, start_of, state_of, subject_named, turn_of_subject, with_write}

@@ -1,9 +1,9 @@
 -- Who changes what a thing holds: whose turn it is, where a turn may store, and what an input may write (this project's own).
 use Rattle.std.specs.Prelude.{◌≡◌, ℕ, ◌==◌, ◌&&◌, ◌||◌, Bool, false, List, [], ◌∷◌, Option, Some, None, slice_get, option_and_then, if◌then◌else◌}
 use Rattle.std.specs.List.{cons_option, list_any}
-use Rattle.frame_clock.specs.Frames.{slot_in}
-use Rattle.frame_clock.specs.Run.{begun, run_to}
-use Rattle.guest_isa.specs.Step.{Stored}
+use Rattle.subject_model.specs.Frames.{slot_in}
+use Rattle.subject_model.specs.Run.{begun, run_to}
+use Rattle.subject_model.specs.Step.{Stored}
 use Rattle.machine_layout.specs.Memory.{over}
 use Rattle.muen_num.specs.declared.access.AccessKind.TheVariants.{Write}
 use Rattle.policy_lawful.specs.Contents.{Held}

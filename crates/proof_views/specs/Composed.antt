@@ -1,9 +1,9 @@
 -- The whole put together of its parts (this project's own): the turns are those of subjects alone, each by its own state of its run
 -- alone; what a turn sends (its store, the events that it raises, a handover) is put into the whole.
 use Rattle.std.specs.Prelude.{◌≡◌, ℕ, Bool, List, Option, Some, None, slice_get}
-use Rattle.frame_clock.specs.Frames.{slot_in}
-use Rattle.frame_clock.specs.Run.{Clocked, Turned, run_to, tick_ran}
-use Rattle.frame_clock.specs.Slot.{Slot}
+use Rattle.subject_model.specs.Frames.{slot_in}
+use Rattle.subject_model.specs.Run.{Clocked, Turned, run_to, tick_ran}
+use Rattle.subject_model.specs.Slot.{Slot}
 use Rattle.policy_lawful.specs.Contents.{Held}
 use Rattle.policy_lawful.specs.Frames.{frames_of}
 use Rattle.policy_lawful.specs.source.Source.{Source}
@@ -12,7 +12,7 @@ use Rattle.subject_model.specs.DeviceRecord.{DeviceRecord, NamedInput}
 use Rattle.subject_model.specs.Alone.{OwnState, own_of, solo_turn}
 use Rattle.subject_model.specs.Clock.{begins, inputs_at, order_at, takes}
 use Rattle.subject_model.specs.System.{System, idle, inbox_of, start_of, subject_named, turn_answered}
-use Rattle.view_text.specs.declared.TurnLine.{TurnLine}
+use Rattle.subject_model.specs.TurnLine.{TurnLine}
 use Rattle.proof_views.specs.AloneRun.{Arrival, alone_to, before, reaching, reaching_at, started_alone}
 
 -- a subject alone after so many ticks of a run, by what reaches it there

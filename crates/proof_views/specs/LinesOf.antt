@@ -1,7 +1,7 @@
 -- The lines of one subject.
 use Rattle.std.specs.Prelude.{ℕ, List, filter}
 use Rattle.std.specs.Str.{bytes_eq}
-use Rattle.view_text.specs.declared.TurnLine.{TurnLine}
+use Rattle.subject_model.specs.TurnLine.{TurnLine}
 
 -- those of the subject with this name, in their order
 abbrev pub lines_of : List ℕ → List TurnLine → List TurnLine

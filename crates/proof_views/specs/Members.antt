@@ -2,8 +2,8 @@
 use Rattle.std.specs.Prelude.{◌≡◌, ℕ, Bool, true, List, Some, slice_get}
 use Rattle.std.specs.List.{list_any}
 use Rattle.std.specs.Str.{bytes_eq}
-use Rattle.frame_clock.specs.Frames.{slot_in}
-use Rattle.frame_clock.specs.Slot.{Slot}
+use Rattle.subject_model.specs.Frames.{slot_in}
+use Rattle.subject_model.specs.Slot.{Slot}
 use Rattle.policy_lawful.specs.Frames.{frames_of}
 use Rattle.policy_lawful.specs.source.Group.{Group}
 use Rattle.policy_lawful.specs.source.Source.{Source}

@@ -2,7 +2,7 @@
 use Rattle.std.specs.Prelude.{◌≡◌, ℕ, zero, suc, ◌||◌, not, true, false, List, Option, None}
 use Rattle.std.specs.List.{list_all, list_any}
 use Rattle.std.specs.Str.{bytes_eq}
-use Rattle.guest_isa.specs.Step.{Stored}
+use Rattle.subject_model.specs.Step.{Stored}
 use Rattle.policy_lawful.specs.Dma.{domain_windows}
 use Rattle.policy_lawful.specs.Thing.{Thing, is_device, same_thing, state}
 use Rattle.policy_lawful.specs.source.Source.{Source}

@@ -21,7 +21,7 @@ ghost use Rattle.policy_lawful.specs.source.Subject.{Subject};
 ghost use Rattle.subject_model.specs.DeviceRecord.{DeviceRecord, NamedInput, dma_input};
 ghost use Rattle.subject_model.specs.Law.{NamesEachOnce};
 ghost use Rattle.subject_model.specs.Reading.{are_distinct};
-ghost use Rattle.frame_clock.specs.Run.{run_to};
+ghost use Rattle.subject_model.specs.Run.{run_to};
 ghost use Rattle.subject_model.specs.Alone.{Inbox, OwnState, is_in, own_of, solo_turn, thing_in};
 ghost use Rattle.subject_model.specs.Clock.{inputs_at, order_at, run_of, system, takes};
 ghost use Rattle.subject_model.specs.Laws.{IsTurnOf};

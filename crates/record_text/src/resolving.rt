@@ -3,7 +3,7 @@ ghost use Rattle.std.specs.Prelude.{◌≡◌, ◌<◌, IfSome, length, option_m
 ghost use Rattle.std.specs.List.{find, list_any};
 ghost use Rattle.std.specs.Str.{bytes_eq};
 ghost use Rattle.record_text.specs.DeviceRecord.{dma_input, irq_input, memory_input, port_input};
-ghost use Rattle.record_text.specs.Resolving.{bytes_in, irq_of, is_in_span, memory_of, resolved_input, port_of, raised};
+ghost use Rattle.record_text.specs.Resolving.{bytes_in, irq_of, is_in_span, memory_of, resolved_input, raised};
 
 use crate::devices::{Devices, RecordDevice, RecordIrq, RecordMemory};
 use crate::record::Input;

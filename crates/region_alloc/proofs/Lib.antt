@@ -10,3 +10,4 @@ pub mod Rooms
 pub mod Sized
 pub mod Sizes
 pub mod Spots
+pub use Rattle.expand_kernel.proofs.PageCounts

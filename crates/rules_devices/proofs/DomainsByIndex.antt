@@ -11,7 +11,7 @@ use Rattle.muen_num.proofs.Lists.{all_true, list_any-map, map-map}
 use Rattle.muen_num.proofs.SameAnswers.{first_after-map}
 use Rattle.muen_num.proofs.SearchLaws.{first_over-map, option_or-None, option_or_assoc}
 use Rattle.policy_lawful.specs.Domains as rules
-use Rattle.policy_lawful.specs.Domains.{device_has_bdf, is_bdf, same_bdf, listed_devices, listed_regions, offence_21, offence_23}
+use Rattle.policy_lawful.specs.Domains.{offence_21, offence_23}
 use Rattle.policy_lawful.specs.Offences.{alone, two}
 use Rattle.policy_lawful.specs.Resolution.{Resolution, IsResolved, source_of}
 use Rattle.policy_lawful.specs.Rules.{is_declared, repeated}

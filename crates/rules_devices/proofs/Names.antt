@@ -1,22 +1,15 @@
 -- Names that are listed in domains, and one domain more.
 use Rattle.std.proofs.Common.{◌≡◌, ℕ, ◌+◌, ◌<◌, Bool, true, false, cond, List, [], ◌∷◌, ◌++◌, length, map, get_or, take, Option, Some, None, refl, sym, ap, ◌∙◌}
-use Rattle.std.specs.Prelude.{if◌then◌else◌, not, ◌||◌, nat_lt, position, slice_get}
-use Rattle.std.specs.List.{find, flat_map, list_any, position_or_len}
+use Rattle.std.specs.Prelude.{if◌then◌else◌, not, ◌||◌}
+use Rattle.std.specs.List.{flat_map, list_any}
 use Rattle.std.specs.Option.{option_or}
 use Rattle.std.specs.Str.{bytes_eq}
-use Rattle.std.specs.Cmp.Lexicographic.{nat_list_eq_equiv}
-use Rattle.std.proofs.lemmas.List.{append-nil, length-map, map_push, take_more}
+use Rattle.std.proofs.lemmas.List.{append-nil, map_push, take_more}
 use Rattle.std.proofs.lemmas.List.Concat.{flat_map-cons}
-use Rattle.std.proofs.lemmas.List.Folds.{find_at}
 use Rattle.std.proofs.lemmas.Grind.{flat_map-append}
-use Rattle.muen_num.specs.Search.{first_after, first_in, unless}
-use Rattle.muen_num.proofs.Lists.{list_any-map, position-map}
-use Rattle.policy_lawful.specs.Offences.{alone}
-use Rattle.policy_lawful.specs.Rules.{is_declared, repeated}
-use Rattle.policy_lawful.specs.declared.offence.Offence.{Offence}
-use Rattle.policy_lawful.specs.source.Device.{Device}
+use Rattle.muen_num.specs.Search.{first_after, unless}
+use Rattle.muen_num.proofs.Lists.{list_any-map}
 use Rattle.policy_lawful.specs.source.Domain.{Domain}
-use Rattle.policy_lawful.specs.source.Region.{Region}
 use Rattle.rules_devices.specs.Domains.{first_repeat}
 use Rattle.rules_devices.specs.declared.listed.Listed.{Listed}
 use Rattle.policy_lawful.proofs.NameSets.{declared_is}

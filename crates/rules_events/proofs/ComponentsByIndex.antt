@@ -10,7 +10,7 @@ use Rattle.std.proofs.lemmas.List.Folds.{list_all-map}
 use Rattle.muen_num.specs.Search.{first_in, unless}
 use Rattle.muen_num.proofs.SameAnswers.{both_numbered, first_in-map, first_numbered_same}
 use Rattle.policy_lawful.specs.MoreRules as rules
-use Rattle.policy_lawful.specs.MoreRules.{are_within, entries_for, offence_7}
+use Rattle.policy_lawful.specs.MoreRules.{are_within, offence_7}
 use Rattle.policy_lawful.specs.Offences.{two}
 use Rattle.policy_lawful.specs.Resolution.{Resolution, IsResolved, component_named, component_in_range, entry_named, entry_in_range, source_of, subject_named, subject_in_range}
 use Rattle.policy_lawful.specs.Rules.{logical_names, repeated}

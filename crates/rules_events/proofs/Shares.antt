@@ -1,7 +1,6 @@
 -- Two lists share an index in either order.
 use Rattle.std.proofs.Common.{◌≡◌, ℕ, Bool, true, false, List, [], ◌∷◌, refl, sym, ap, ◌∙◌, inl, inr, arith}
 use Rattle.std.specs.Prelude.{◌==◌, ◌||◌}
-use Rattle.std.specs.List.{list_any}
 use Rattle.std.proofs.lemmas.Bool.{cases_eq, eq-eqb, ne_eqb}
 use Rattle.rules_events.specs.Listings.{AreKnown, share, stands_in}
 use Rattle.rules_events.specs.declared.listings.Shared.{Shared}

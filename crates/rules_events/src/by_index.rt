@@ -1,7 +1,6 @@
 //! Lists of what is noted at each index.
-ghost use Rattle.std.specs.Prelude.{◌≡◌, ℕ, ◌<◌, ◌==◌, ◌++◌, [], ◌∷◌, List, length, slice_index_or, if◌then◌else◌, IfOk};
-ghost use Rattle.std.specs.Result.{OnOk};
-ghost use Rattle.rules_events.specs.ByIndex.{AreItems, AreEmpty, items_at};
+ghost use Rattle.std.specs.Prelude.{◌≡◌, ◌<◌, ◌==◌, ◌++◌, [], ◌∷◌, slice_index_or, if◌then◌else◌, IfOk};
+ghost use Rattle.rules_events.specs.ByIndex.{AreItems, AreEmpty};
 
 use muen_num::{NoMemory, Seq};
 use std::alloc::Global;

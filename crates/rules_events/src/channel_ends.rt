@@ -1,10 +1,9 @@
 //! Who writes each channel, and who reads it.
 ghost use Rattle.std.specs.Prelude.{◌≡◌, ◌++◌, filter, length, map, not, IfOk};
-ghost use Rattle.std.specs.List.{enumerate_from, flat_map};
 ghost use Rattle.policy_lawful.specs.MoreRules.{is_writer};
 ghost use Rattle.policy_lawful.specs.Resolution.{IsResolved};
 ghost use Rattle.rules_events.specs.ByIndex.{AreItems};
-ghost use Rattle.rules_events.specs.ChannelEnds.{met, met_channel_ends, all_channel_ends, all_writers, all_readers};
+ghost use Rattle.rules_events.specs.ChannelEnds.{met, all_channel_ends, all_writers, all_readers};
 ghost use Rattle.rules_events.specs.Parties.{party};
 
 use crate::by_index::by_index;

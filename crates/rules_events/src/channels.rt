@@ -1,6 +1,6 @@
 //! Rule 6: each channel has one writer and some readers, other subjects than the writer, whose calls
 //! and vectors fit the mode of the channel's event.
-ghost use Rattle.std.specs.Prelude.{◌≡◌, ◌==◌, ◌&&◌, ◌||◌, [], length, not, slice_index_or, IfOk};
+ghost use Rattle.std.specs.Prelude.{◌≡◌, ◌==◌, ◌&&◌, ◌||◌, [], IfOk};
 ghost use Rattle.std.specs.List.{enumerate_from, list_all};
 ghost use Rattle.muen_num.specs.Search.{first_in, unless};
 ghost use Rattle.policy_lawful.specs.MoreRules.{is_switch, offence_6};

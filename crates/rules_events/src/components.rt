@@ -1,10 +1,8 @@
 //! Rule 7: each logical name of a subject's component has one entry, that gives what it asks for.
-ghost use Rattle.std.specs.Prelude.{◌≡◌, ◌==◌, ◌&&◌, [], length, slice_get, slice_index_or, IfOk};
-ghost use Rattle.std.specs.Option.{option_or};
+ghost use Rattle.std.specs.Prelude.{◌≡◌, ◌==◌, ◌&&◌, [], IfOk};
 ghost use Rattle.std.specs.List.{enumerate_from, filter_map, list_all};
 ghost use Rattle.muen_num.specs.Search.{first_in, unless};
 ghost use Rattle.policy_lawful.specs.MoreRules.{are_within, offence_7};
-ghost use Rattle.policy_lawful.specs.Offences.{two};
 ghost use Rattle.policy_lawful.specs.Resolution.{source_of};
 ghost use Rattle.rules_events.specs.Components.{memory_grant, channel_grant, gives_region, gives_channel, is_memory_mapped, is_channel_mapped, memory_fault, channel_fault, memory_offence, channel_offence, component_offence, use_offence, subject_offence};
 

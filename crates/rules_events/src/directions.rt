@@ -1,10 +1,9 @@
 //! Rule 13: which subjects an event may join, by its mode.
-ghost use Rattle.std.specs.Prelude.{◌≡◌, ◌==◌, ◌&&◌, ◌++◌, [], length, map, not, slice_index_or, IfOk};
+ghost use Rattle.std.specs.Prelude.{◌≡◌, ◌==◌, ◌&&◌, ◌++◌, [], map, IfOk};
 ghost use Rattle.std.specs.Option.{option_or};
-ghost use Rattle.std.specs.List.{enumerate_from, flat_map, list_all, list_any};
+ghost use Rattle.std.specs.List.{enumerate_from, list_all};
 ghost use Rattle.muen_num.specs.Search.{first_in, unless};
 ghost use Rattle.policy_lawful.specs.MoreRules.{offence_13};
-ghost use Rattle.policy_lawful.specs.Offences.{two};
 ghost use Rattle.policy_lawful.specs.Resolution.{source_of};
 ghost use Rattle.rules_events.specs.Directions.{fits_mode, source_fault, mode_fault, channel_mode, channel_fault, event_fault, parties_of, channels_fault, events_fault};
 

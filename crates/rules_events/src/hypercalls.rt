@@ -1,11 +1,11 @@
 //! Rule 14: the numbers of a subject's calls, those of its channels among them, and of its traps.
-ghost use Rattle.std.specs.Prelude.{◌≡◌, ◌&&◌, ◌++◌, IfOk, map};
+ghost use Rattle.std.specs.Prelude.{◌≡◌, ◌&&◌, ◌++◌, IfOk};
 ghost use Rattle.std.specs.List.{filter_map};
 ghost use Rattle.muen_num.specs.Search.{first_in};
 ghost use Rattle.policy_lawful.specs.Events.{trap_number};
 ghost use Rattle.policy_lawful.specs.MoreRules.{call_number, are_numbers, offence_14};
 ghost use Rattle.policy_lawful.specs.Resolution.{IsResolved, source_of};
-ghost use Rattle.rules_events.specs.Calls.{call_offence, calls_with, has_numbers_with, traps_at};
+ghost use Rattle.rules_events.specs.Calls.{call_offence, calls_with, has_numbers_with};
 
 use crate::numbers::are_distinct_in;
 use muen_num::NoMemory;

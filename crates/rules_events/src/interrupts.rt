@@ -4,7 +4,7 @@ ghost use Rattle.std.specs.List.{filter_map, flat_map, list_all};
 ghost use Rattle.muen_num.specs.Search.{first_in};
 ghost use Rattle.policy_lawful.specs.MoreRules.{is_switch, are_vectors, offence_15};
 ghost use Rattle.policy_lawful.specs.Resolution.{IsResolved, source_of};
-ghost use Rattle.rules_events.specs.Vectors.{has_vector, has_vectors_with, irq_vectors, switches, vector_offence, vectors_with};
+ghost use Rattle.rules_events.specs.Vectors.{has_vector, has_vectors_with, switches, vector_offence, vectors_with};
 
 use crate::numbers::are_distinct_in;
 use muen_num::limits::{FIRST_VECTOR, LAST_VECTOR};

@@ -1,11 +1,9 @@
 //! Rule 24: a subject monitors other subjects of its CPU, each once, and executes nothing there.
-ghost use Rattle.std.specs.Prelude.{◌≡◌, ℕ, ◌<◌, ◌&&◌, [], not, false, length, slice_get, slice_index_or, IfOk, IfNone};
-ghost use Rattle.std.specs.Option.{option_and_then};
-ghost use Rattle.muen_num.specs.Search.{first_in, first_after, unless};
+ghost use Rattle.std.specs.Prelude.{◌≡◌, ℕ, ◌<◌, ◌&&◌, [], not, false, length, slice_index_or, IfOk, IfNone};
+ghost use Rattle.muen_num.specs.Search.{first_in, unless};
 ghost use Rattle.policy_lawful.specs.Domains.{offence_24};
-ghost use Rattle.policy_lawful.specs.Offences.{two};
 ghost use Rattle.policy_lawful.specs.Resolution.{source_of};
-ghost use Rattle.rules_events.specs.Monitors.{is_monitor_of, is_monitored, monitor_fault, monitor_offence, monitors_offence, AreMarks};
+ghost use Rattle.rules_events.specs.Monitors.{is_monitor_of, is_monitored, monitor_fault, monitors_offence, AreMarks};
 
 use crate::marks::{is_marked, mark, no_marks};
 use muen_num::NoMemory;

@@ -1,5 +1,5 @@
 //! The subjects that raise each event, and those that it reaches.
-ghost use Rattle.std.specs.Prelude.{◌≡◌, ◌++◌, map, IfOk};
+ghost use Rattle.std.specs.Prelude.{◌≡◌, ◌++◌, IfOk};
 ghost use Rattle.std.specs.List.{enumerate_from, flat_map};
 ghost use Rattle.rules_events.specs.ByIndex.{AreItems};
 ghost use Rattle.rules_events.specs.Parties.{source_parties, target_parties};

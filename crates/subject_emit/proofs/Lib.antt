@@ -10,3 +10,4 @@ pub mod SamePages
 pub mod ShownViews
 pub mod Suited
 pub mod TablesReady
+pub use Rattle.msrbm_emit.proofs.AreaLaws

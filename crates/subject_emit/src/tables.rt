@@ -1,5 +1,5 @@
 //! The EPT tables of a subject.
-ghost use Rattle.std.specs.Prelude.{◌≡◌, ◌*◌, ◌<◌, All, IfOk, Some, length, slice_get};
+ghost use Rattle.std.specs.Prelude.{◌≡◌, ◌*◌, ◌<◌, IfOk, Some, length, slice_get};
 ghost use Rattle.region_alloc.specs.Placed.{IsPlaced};
 ghost use Rattle.subject_emit.specs.Mapped.{mapped_windows};
 ghost use Rattle.ept_emit.specs.Pages.{ept_pages, ranges_of};

@@ -20,3 +20,7 @@ pub mod Clock
 pub mod Trace
 pub mod View
 pub mod Laws
+pub use Rattle.view_text.specs.declared.TurnAction
+pub use Rattle.guest_isa.specs.Step
+pub use Rattle.guest_isa.specs.declared.reach
+pub use Rattle.sha2.specs.Sha256

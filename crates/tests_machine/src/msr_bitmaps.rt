@@ -1,6 +1,5 @@
 //! Bytes at offsets that were computed by hand.
-use msrbm_emit::{emit, emit_area};
-use policy_types::MsrGrant;
+use msrbm_emit::{MsrGrant, emit, emit_area};
 use std::test::Fail;
 
 // The three MSRs of SYSENTER, to be read and written.

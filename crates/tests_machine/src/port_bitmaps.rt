@@ -1,6 +1,5 @@
 //! Bits of I/O bitmaps that were computed by hand.
-use iobm_emit::emit;
-use policy_types::PortRange;
+use iobm_emit::{PortRange, emit};
 use std::test::Fail;
 
 #[test]

@@ -4,9 +4,8 @@ ghost use Rattle.ept_emit.specs.Pages.{AreApart, IsMapped, range_of, ranges_of};
 ghost use Rattle.ept_emit.specs.Entries.{IsEmittable, level_of};
 ghost use Rattle.machine_layout.specs.Walks.{entry_size};
 
-use ept_emit::{GuestRange, Leaf, Window, emit, eptp, pages};
+use ept_emit::{Caching, GuestRange, Leaf, Rights, Window, emit, eptp, pages};
 use muen_num::limits::{GUEST_END, LARGE_PAGE, PAGE, PHYSICAL_END};
-use policy_types::{Caching, Rights};
 use std::alloc::{AllocError, Global};
 use std::test::Fail;
 

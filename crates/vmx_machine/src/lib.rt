@@ -17,5 +17,6 @@ mod step;
 
 pub use control::Control;
 pub use cpu::{Cpu, Entered};
+pub use ept_walk::{PhysMem, Translate};
 pub use machine::Machine;
 pub use msr_file::MsrFile;

@@ -1,5 +1,5 @@
 //! The machine-specific registers of a CPU.
-ghost use Rattle.std.specs.Prelude.{◌≡◌, slice_get, length, IfOk};
+ghost use Rattle.std.specs.Prelude.{◌≡◌, IfOk};
 ghost use Rattle.muen_num.specs.ListChange.{change_at};
 ghost use Rattle.vmx_machine.specs.MsrFile.{slot_of, value_in, with_msr, most, zeros};
 

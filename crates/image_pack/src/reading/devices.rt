@@ -1,7 +1,7 @@
 //! Reads devices.
 #![tactic(auto, unfolding(binary_form::specs::Form::only, binary_form::specs::Form::field, binary_form::specs::Form::gap, binary_form::specs::Form::done))]
 
-ghost use Rattle.std.specs.Prelude.{◌≡◌, ◌==◌, ◌++◌, ◌∷◌, [], nat_le, not, option_to_list, OnOk, Some, option_map};
+ghost use Rattle.std.specs.Prelude.{◌≡◌, ◌==◌, ◌++◌, ◌∷◌, [], nat_le, not, Some, option_map};
 ghost use Rattle.std.specs.List.{find};
 ghost use Rattle.binary_form.specs.Form.{Form, Gives, only, byte};
 ghost use Rattle.binary_form.specs.Name.{name};

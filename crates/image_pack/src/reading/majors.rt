@@ -2,8 +2,8 @@
 #![tactic(auto, unfolding(binary_form::specs::Form::only, binary_form::specs::Form::field, binary_form::specs::Form::gap, binary_form::specs::Form::done))]
 
 ghost use Rattle.std.specs.Prelude.{◌≡◌};
-ghost use Rattle.binary_form.specs.Form.{Form, Gives, items};
-ghost use Rattle.image_pack.specs.Image.{is_between, is_ticks, add_ticks, minor, frames, next_cpu, major, no_frames_before, nothing_left};
+ghost use Rattle.binary_form.specs.Form.{Form, items};
+ghost use Rattle.image_pack.specs.Image.{is_between, is_ticks, add_ticks, minor, frames, next_cpu, major, nothing_left};
 
 use crate::items::{Item, items_of};
 use crate::outline::Outline;

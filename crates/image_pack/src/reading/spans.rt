@@ -3,7 +3,7 @@
 
 ghost use Rattle.std.specs.Prelude.{◌≡◌, ◌+◌, ◌*◌, ◌<◌, ◌≤◌, IfOk, IsTrue, length};
 ghost use Rattle.binary_form.specs.Form.{Form, Gives, items};
-ghost use Rattle.image_pack.specs.Image.{after, sum32, pages_with, device_pages_with, is_address, is_size, is_new, suits_tau0, has_room, is_kind, title, span, no_spans_before};
+ghost use Rattle.image_pack.specs.Image.{after, pages_with, device_pages_with, is_address, is_size, is_new, suits_tau0, has_room, is_kind, title, span, no_spans_before};
 
 use crate::codes::{is_part, kind_byte_of, part_of};
 use crate::items::{Item, items_of};

@@ -1,8 +1,7 @@
 //! Files of tables for direct memory access that are spelled byte by byte: what unpacking says of them
 //! and of damaged ones, where a device reaches, and what a record's lines become.
 use super::spelled::{CHOSEN, spelled};
-use device_bench::Effect;
-use dma_tables::{DmaTables, dma_fault_pieces, lower, pack, unpack};
+use dma_tables::{DmaTables, Effect, dma_fault_pieces, lower, pack, unpack};
 use itoa::Buffer;
 use muen_num::{Name, Seq};
 use record_text::{Input, Record, TickInput};

@@ -1,5 +1,5 @@
 use Rattle.std.proofs.Common.{◌∙◌, ap, subst, [], ◌∷◌, ◌++◌}
-use Rattle.binary_form.specs.Form.{IsBytes}
+use Rattle.image_pack.specs.Form.{IsBytes}
 use Rattle.image_emit.proofs.Takes.{one_taken}
 use Rattle.image_emit.proofs.span_bytes.contents.Goals as goal
 

@@ -1,4 +1,4 @@
-use Rattle.std.proofs.Common.{◌≡◌, ◌++◌, map, sym, ap, subst, ◌∙◌}
+use Rattle.std.proofs.Common.{◌≡◌, ◌++◌, map, ap, subst, ◌∙◌}
 use Rattle.std.specs.Prelude.{IfOk, IsSomeAnd, nat_lt}
 use Rattle.std.specs.List.{list_all}
 use Rattle.policy_lawful.specs.Rules.{first_overlap}

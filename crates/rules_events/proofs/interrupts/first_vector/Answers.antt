@@ -1,4 +1,4 @@
-use Rattle.std.proofs.Common.{◌≡◌, Some, None, sym, ap, ◌∙◌}
+use Rattle.std.proofs.Common.{Some, sym, ap, ◌∙◌}
 use Rattle.muen_num.specs.Search.{unless}
 use Rattle.policy_lawful.specs.Offences.{alone}
 use Rattle.policy_lawful.proofs.SeenAtIndex.{channel_ends_read}

@@ -1,4 +1,4 @@
-use Rattle.std.proofs.Common.{◌≡◌, ◌++◌, None, subst, sym, ◌∙◌}
+use Rattle.std.proofs.Common.{◌≡◌, ◌++◌, None, subst, ◌∙◌}
 use Rattle.std.specs.List.{All}
 use Rattle.policy_lawful.specs.Rules.{first_overlap}
 use Rattle.rules_extents.specs.AddressRange.{IsApart, range_of}
