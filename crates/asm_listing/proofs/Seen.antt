@@ -21,7 +21,7 @@ use Rattle.asm_text.specs.declared.mnemonic.Shape.{Shape}
 use Rattle.asm_text.specs.declared.mnemonic.Shape.TheVariants.{Alone, Immediate, Pair, Memory, PortRead, PortWrite, Destination, Source, Jump, JumpIf, JumpBelow}
 use Rattle.asm_listing.specs.Source.{byte_text, data_text, displacement_text, instruction_text, operands_text, parts_of, register_text, size_text}
 use Rattle.asm_listing.specs.declared.parts.Parts.{Parts}
-use Rattle.asm_listing.proofs.Digits.{digits_alone}
+use Rattle.text_words.proofs.Numerals.{digits_alone}
 use Rattle.asm_listing.proofs.Instructions.{immediate}
 use Rattle.asm_listing.proofs.Values.{below_zero, small}
 use Rattle.asm_listing.proofs.Words.{all_from, byte_seen, is_seen}

@@ -18,7 +18,7 @@ use Rattle.asm_text.specs.Tokens.{end_with, token, begins_comment, goes_on, is_b
 use Rattle.asm_text.specs.Words.{behind, below, by_mark, number_in, register_of, symbol_of}
 use Rattle.asm_text.specs.declared.statement.Atom.TheVariants.{Number as NumberAtom, Name as NameAtom}
 use Rattle.asm_listing.specs.Source.{byte_text, register_text}
-use Rattle.asm_listing.proofs.Digits.{decimal_read, digits_alone, first_digit}
+use Rattle.text_words.proofs.Numerals.{decimal_read, digits_alone, first_digit}
 
 infixr 66 ◌⧺◌
 -- one text before others

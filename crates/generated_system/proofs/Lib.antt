@@ -8,7 +8,6 @@ pub mod Lawful
 pub mod LinesRead
 pub mod Lines
 pub mod Lists
-pub mod Numerals
 pub mod PolicyRead
 pub mod PolicyText
 pub mod RecordRead

@@ -3,7 +3,7 @@ use Rattle.std.proofs.Common.{◌≡◌, ℕ, zero, suc, ◌+◌, ◌*◌, ◌%�
 use Rattle.std.specs.Prelude.{◌&&◌, ◌||◌, ◌==◌, codes, decimal, if◌then◌else◌}
 use Rattle.std.specs.Fmt.{digits}
 use Rattle.std.specs.List.{flat_map, list_all, list_any}
-use Rattle.std.proofs.lemmas.Bool.{and_from, le-ltb}
+use Rattle.std.proofs.lemmas.Bool.{and_from, le-ltb, lt-ltb}
 use Rattle.std.proofs.lemmas.Bool.Decides.{nat_tests}
 use Rattle.std.proofs.lemmas.List.Folds.{list_all-append, list_any-append}
 use Rattle.muen_num.specs.Range.{numbers_below}
@@ -15,12 +15,16 @@ use Rattle.record_text.specs.Steps.{◌>>=◌, ◌>>◌}
 use Rattle.record_text.specs.Table.{Entry, input_entry, order_entry, end_entry, as_many, cpu_numbers, kind_of, read_words, end_line as said_end, irq_line as said_irq, order_line as said_order, port_line as said_port}
 use Rattle.record_text.specs.Words.{number_below, tick_of}
 use Rattle.record_text.specs.declared.fault.RecordFault.{RecordFault}
+use Rattle.record_text.proofs.Numerals.{digits_alone, number_read}
 use Rattle.generated_system.proofs.LinesRead.{ascii_lines, digits_word, is_plain, is_word, line_plain, lines_back, words_back}
-use Rattle.generated_system.proofs.Numerals.{below_read, digits_alone}
 use Rattle.generated_system.proofs.Shapes.{below_four}
 use Rattle.generated_system.specs.Record.{generated_record, inputs_at}
 use Rattle.generated_system.specs.RecordText.{end_line, irq_line, lines_in, order_line, orders_in, port_line, record_lines, record_text}
 use Rattle.generated_system.specs.System.{cpus_for}
+
+below_read : (end n : ℕ) → n < end → n < 2 ^ 64 → number_below end (decimal n) ≡ Ok n
+unfolding number_below
+below_read end n less h = rw (number_read n h, lt-ltb n end less) refl
 
 -- ---- what the generated record names
 

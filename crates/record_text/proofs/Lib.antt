@@ -7,3 +7,4 @@ pub mod Orders
 pub mod Rules
 pub mod Ticks
 pub use Rattle.text_words.proofs.Cuts
+pub use Rattle.text_words.proofs.Numerals

@@ -1,15 +1,15 @@
 -- A number in decimal digits is read back.
-use Rattle.std.proofs.Common.{◌≡◌, ℕ, zero, suc, ◌+◌, ◌-◌, ◌*◌, ◌/◌, ◌%◌, ◌^◌, ◌<◌, ◌≤◌, true, false, cond, List, [], ◌∷◌, ◌++◌, length, Some, None, Ok, nat_lt, refl, subst, arith}
-use Rattle.std.specs.Prelude.{◌&&◌, ◌||◌, ◌==◌, decimal, slice_index}
+use Rattle.std.proofs.Common.{◌≡◌, ℕ, zero, suc, ◌+◌, ◌-◌, ◌*◌, ◌/◌, ◌%◌, ◌^◌, ◌<◌, ◌≤◌, Bool, true, false, cond, List, [], ◌∷◌, ◌++◌, length, Some, None, Ok, Err, nat_lt, refl, ap, subst, ◌∙◌, arith}
+use Rattle.std.specs.Prelude.{◌&&◌, ◌||◌, ◌==◌, decimal, if◌then◌else◌, slice_index}
 use Rattle.std.specs.Char.{is_ascii_digit}
 use Rattle.std.specs.Fmt.{digits}
 use Rattle.std.specs.List.{list_all}
-use Rattle.std.proofs.lemmas.Bool.{lt-ltb}
+use Rattle.std.proofs.lemmas.Bool.{and_parts, lt-ltb}
 use Rattle.std.proofs.lemmas.Bool.Decides.{nat_tests}
 use Rattle.std.proofs.lemmas.Fmt.{decimal_by_steps, decimal_nonempty, first_decimal}
 use Rattle.std.proofs.lemmas.List.Folds.{list_all-append}
-use Rattle.record_text.specs.Numbers.{digits_from, is_badly_begun, number_of}
-use Rattle.record_text.specs.Words.{number_below}
+use Rattle.text_words.specs.Numbers.{decimal as number_below, digits_from, is_badly_begun, number_of, or_why}
+use Rattle.text_words.specs.declared.number.NumberError.TheVariants.{TooLarge}
 
 -- digits that spell this number
 record Spells (m : ℕ) (ds : List ℕ) : Type 0 where
@@ -45,6 +45,10 @@ more m ds le h =
 spelled : (n : ℕ) → n < 2 ^ 64 → Spells n (decimal n)
 spelled n h = decimal_by_steps Spells one more n h
 
+first_of : (p : ℕ → Bool) (xs : List ℕ) → 0 < length xs → list_all p xs ≡ true → p (slice_index xs 0) ≡ true
+first_of p [] some h = absurd (omega arith)
+first_of p (x ∷ xs) some h = (and_parts (p x) (list_all p xs) h).0
+
 pub digits_alone : (n : ℕ) → n < 2 ^ 64 → list_all is_ascii_digit (decimal n) ≡ true
 digits_alone n h = (spelled n h).alone
 
@@ -60,6 +64,9 @@ well_begun (suc n) h =
 pub number_read : (n : ℕ) → n < 2 ^ 64 → number_of (decimal n) ≡ Some n
 number_read n h = rw (well_begun n h) (spelled n h).value
 
-pub below_read : (end n : ℕ) → n < end → n < 2 ^ 64 → number_below end (decimal n) ≡ Ok n
+pub decimal_read : (n : ℕ) → n < 2 ^ 64 → number_below (decimal n) ≡ Ok n
 unfolding number_below
-below_read end n less h = rw (number_read n h, lt-ltb n end less) refl
+decimal_read n h = ap or_why (number_read n h) ∙ ap (λ b. if b then Ok n else Err TooLarge) (lt-ltb n (2 ^ 64) h)
+
+pub first_digit : (n : ℕ) → n < 2 ^ 64 → is_ascii_digit (slice_index (decimal n) 0) ≡ true
+first_digit n h = first_of is_ascii_digit (decimal n) (decimal_nonempty n h) (digits_alone n h)
