@@ -1,5 +1,5 @@
 mod Examples
-mod Spelled
+pub mod Spelled
 pub mod Alike
 pub mod StateLaws
 pub mod StepLaws

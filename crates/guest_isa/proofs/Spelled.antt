@@ -76,7 +76,7 @@ size_unset f n named e =
 
 -- ---- rows
 
-at_test : {A : Type 0} (P : A → Type 0) (t : Bool) {x y : A} → (t ≡ true → P x) → P y → P (if t then x else y)
+pub at_test : {A : Type 0} (P : A → Type 0) (t : Bool) {x y : A} → (t ≡ true → P x) → P y → P (if t then x else y)
 at_test P true held other = held refl
 at_test P false held other = other
 
