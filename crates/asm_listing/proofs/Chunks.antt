@@ -1,19 +1,19 @@
 -- Bytes in pieces of eight, and what such a piece spells.
-use Rattle.std.proofs.Common.{◌≡◌, ℕ, zero, suc, ◌+◌, ◌-◌, ◌*◌, ◌/◌, ◌%◌, ◌^◌, ◌<◌, Bool, true, false, ltb, ℤ, pos, negsuc, List, [], ◌∷◌, ◌++◌, length, get_or, Option, Some, None, refl, ap, sym, ◌∙◌, w32, to_z-of_z, arith}
-use Rattle.std.specs.Prelude.{◌==◌, ◌&&◌, ◌||◌, if◌then◌else◌, option_and_then}
+use Rattle.std.proofs.Common.{◌≡◌, ℕ, zero, suc, ◌+◌, ◌-◌, ◌*◌, ◌/◌, ◌%◌, ◌^◌, ◌<◌, Bool, true, false, ltb, ℤ, pos, negsuc, List, [], ◌∷◌, ◌++◌, length, get_or, Option, Some, None, refl, ap, ◌∙◌, w32, to_z-of_z, arith}
+use Rattle.std.specs.Prelude.{◌==◌, if◌then◌else◌, option_and_then}
 use Rattle.std.specs.Int.{cast_signed, cast_unsigned, from_le_bytes, to_le_bytes}
 use Rattle.std.specs.Int.RustNames.{FitsSigned}
 use Rattle.std.specs.List.{All}
-use Rattle.std.proofs.lemmas.Bool.{and_parts, eqb-true, ltb-true, ltb-false}
-use Rattle.std.proofs.lemmas.Int.{of_z-to_z}
-use Rattle.std.proofs.lemmas.Nat.{from_le_bytes-to_le_bytes_4, le_bytes_4}
+use Rattle.std.proofs.lemmas.Bool.{ltb-true, ltb-false}
+use Rattle.std.proofs.lemmas.Nat.{from_le_bytes-to_le_bytes_4}
 use lib.Signed.{mag}
 use mir.Val.{sel}
 use Rattle.muen_num.specs.declared.access.AccessSize.{AccessSize}
 use Rattle.muen_num.specs.declared.access.AccessSize.TheVariants.{One, Two, Four, Eight}
 use Rattle.guest_isa.specs.declared.instr.Instr.{Instr}
 use Rattle.guest_isa.specs.declared.instr.Instr.TheVariants.{Nop, Li, Lih, Mov, Add, Sub, And, Or, Xor, Shl, Shr, Load, Store, Jmp, Jz, Jnz, Jb, In, Out, Rdmsr, Wrmsr, Rdtsc, Vmcall, Hlt, Sti, Cli, Setv, Reti}
-use Rattle.guest_isa.specs.GuestIsa.{IsSmall, IsValid, access, are_unset, code_of, decode_of, encoding_of, fields, fields_for, fields_of, imm_of, instruction_of, names, port_row, row, sized_row, spelled, system_instruction_of}
+use Rattle.guest_isa.specs.GuestIsa.{AreSpelled, IsSmall, IsValid, access, are_unset, code_of, decode_of, encoding_of, fields, fields_for, fields_of, imm_of, instruction_of, names, port_row, row, sized_row, spelled, system_instruction_of}
+use Rattle.guest_isa.proofs.Spelled.{at_test, eight, spelled_by, word_bytes}
 use Rattle.asm_listing.specs.Source.{chunks_of}
 use Rattle.asm_listing.proofs.Instructions.{immediate}
 
@@ -67,48 +67,14 @@ signed_fits n h = record { sfits = by (ltb n (2 ^ 31)) refl }
 word_low : (a b c d : ℕ) → a < 256 → b < 256 → c < 256 → d < 256 → from_le_bytes w32 (a ∷ b ∷ c ∷ d ∷ []) < 2 ^ 32
 word_low a b c d p q r s = omega arith
 
-word_bytes : (a b c d : ℕ) → a < 256 → b < 256 → c < 256 → d < 256 → to_le_bytes w32 (from_le_bytes w32 (a ∷ b ∷ c ∷ d ∷ [])) ≡ a ∷ b ∷ c ∷ d ∷ []
-word_bytes a b c d p q r s = le_bytes_4 (a ∷ b ∷ c ∷ d ∷ []) _ refl below refl
-  where
-    below : (k : ℕ) → get_or (a ∷ b ∷ c ∷ d ∷ []) k 0 < 256
-    below zero = p
-    below (suc zero) = q
-    below (suc (suc zero)) = r
-    below (suc (suc (suc zero))) = s
-    below (suc (suc (suc (suc k)))) = omega arith
+-- an instruction of the table, with a number of 32 bits
+record IsRead (i : Instr) : Type 0 where
+  valid : IsValid i
+  fits : FitsSigned w32 (immediate i)
 
--- where a test was passed, and where it wasn't
-at_test : {X : Type 0} (P : X → Type 0) (t : Bool) {x y : X} → (t ≡ true → P x) → P y → P (if t then x else y)
-at_test P true held other = held refl
-at_test P false held other = other
-
--- a field, where it is named
-keep : Bool → ℕ → ℕ
-keep true x = x
-keep false x = 0
-
-keep_signed : Bool → ℤ → ℤ
-keep_signed true z = z
-keep_signed false z = pos 0
-
-kept : (t : Bool) (x : ℕ) → (t || (x == 0)) ≡ true → keep t x ≡ x
-unfolding keep
-kept true x e = refl
-kept false x e = sym (eqb-true x 0 e)
-
-kept_signed : (t : Bool) (n : ℕ) → n < 2 ^ 32 → (t || (n == 0)) ≡ true → cast_unsigned w32 (keep_signed t (cast_signed w32 n)) ≡ n
-unfolding keep_signed
-kept_signed true n low e = of_z-to_z w32 n low
-kept_signed false n low e = sym (eqb-true n 0 e)
-
--- eight bytes are those of their fields
-eight : (b : List ℕ) (opcode rd rs size blank : ℕ) (word : List ℕ) → length b ≡ 8 → opcode ≡ get_or b 0 0 → rd ≡ get_or b 1 0 / 16 → rs ≡ get_or b 1 0 % 16
-    → size ≡ get_or b 2 0 → blank ≡ get_or b 3 0 → word ≡ get_or b 4 0 ∷ get_or b 5 0 ∷ get_or b 6 0 ∷ get_or b 7 0 ∷ []
-    → opcode ∷ (rd * 16 + rs) ∷ size ∷ blank ∷ word ≡ b
-eight (a ∷ n ∷ c ∷ d ∷ e ∷ f ∷ g ∷ h ∷ []) opcode rd rs size blank word l o p q s z w =
-    let nibbles : rd * 16 + rs ≡ n = omega arith in
-    λ i. o i ∷ nibbles i ∷ s i ∷ z i ∷ w i
-eight _ opcode rd rs size blank word l o p q s z w = absurd (omega arith)
+abbrev AreRead : Option Instr → Type 0
+AreRead None = Unit {0}
+AreRead (Some i) = IsRead i
 
 module _ (b : List ℕ) (l : length b ≡ 8) (all : All (λ x. x < 256) b) where
   byte_low : (k : ℕ) → k < 8 → get_or b k 0 < 256
@@ -129,123 +95,77 @@ module _ (b : List ℕ) (l : length b ≡ 8) (all : All (λ x. x < 256) b) where
   imm_fits : FitsSigned w32 (imm_of (fields_of b))
   imm_fits = signed_fits (fields_of b).imm imm_low
 
-  row_spelled : (nrd nrs nsize nimm : Bool) (opcode code : ℕ) (i : Instr)
-      → fields_for i ≡ fields opcode (keep nrd (fields_of b).rd) (keep nrs (fields_of b).rs) code (keep_signed nimm (imm_of (fields_of b)))
-      → ((fields_of b).opcode == opcode) ≡ true → (are_unset (fields_of b) (names nrd nrs nsize nimm) ≡ true → (fields_of b).size ≡ code)
-      → are_unset (fields_of b) (names nrd nrs nsize nimm) ≡ true → encoding_of i ≡ b
-  unfolding encoding_of
-  row_spelled nrd nrs nsize nimm opcode code i same o s unset =
-      let f = fields_of b in
-      let four = and_parts ((nrd || (f.rd == 0)) && (nrs || (f.rs == 0)) && (nsize || (f.size == 0)) && (nimm || (f.imm == 0))) (f.zero == 0) unset in
-      let three = and_parts ((nrd || (f.rd == 0)) && (nrs || (f.rs == 0)) && (nsize || (f.size == 0))) (nimm || (f.imm == 0)) four.0 in
-      let two = and_parts ((nrd || (f.rd == 0)) && (nrs || (f.rs == 0))) (nsize || (f.size == 0)) three.0 in
-      let one = and_parts (nrd || (f.rd == 0)) (nrs || (f.rs == 0)) two.0 in
-      ap spelled same
-      ∙ eight b opcode (keep nrd f.rd) (keep nrs f.rs) code 0 (to_le_bytes w32 (cast_unsigned w32 (keep_signed nimm (imm_of f)))) l
-      (sym (eqb-true f.opcode opcode o)) (kept nrd f.rd one.0) (kept nrs f.rs one.1) (sym (s unset)) (sym (eqb-true f.zero 0 four.1))
-      (ap (to_le_bytes w32) (kept_signed nimm f.imm imm_low three.1) ∙ imm_bytes)
-
-  size_unset : (nrd nrs nimm : Bool) → are_unset (fields_of b) (names nrd nrs false nimm) ≡ true → (fields_of b).size ≡ 0
-  size_unset nrd nrs nimm unset =
-      let f = fields_of b in
-      let four = and_parts ((nrd || (f.rd == 0)) && (nrs || (f.rs == 0)) && (false || (f.size == 0)) && (nimm || (f.imm == 0))) (f.zero == 0) unset in
-      let three = and_parts ((nrd || (f.rd == 0)) && (nrs || (f.rs == 0)) && (false || (f.size == 0))) (nimm || (f.imm == 0)) four.0 in
-      let two = and_parts ((nrd || (f.rd == 0)) && (nrs || (f.rs == 0))) (false || (f.size == 0)) three.0 in
-      eqb-true f.size 0 two.1
-
-  -- a row without a size
-  of_row : (nrd nrs nimm : Bool) (opcode : ℕ) (i : Instr)
-      → fields_for i ≡ fields opcode (keep nrd (fields_of b).rd) (keep nrs (fields_of b).rs) 0 (keep_signed nimm (imm_of (fields_of b)))
-      → IsValid i → FitsSigned w32 (immediate i) → ((fields_of b).opcode == opcode) ≡ true → AreDecoded b (row (fields_of b) (names nrd nrs false nimm) i)
-  of_row nrd nrs nimm opcode i same valid fits o =
-      at_test (AreDecoded b) (are_unset (fields_of b) (names nrd nrs false nimm)) (λ unset. record {
-        valid = valid;
-        fits = fits;
-        spelled = row_spelled nrd nrs false nimm opcode 0 i same o (size_unset nrd nrs nimm) unset;
-      }) tt
-
-  -- a row with this size
-  of_size : (opcode : ℕ) (i : AccessSize → Instr) (size : AccessSize)
-      → fields_for (i size) ≡ fields opcode (fields_of b).rd (fields_of b).rs (code_of size) (imm_of (fields_of b))
-      → IsValid (i size) → FitsSigned w32 (immediate (i size)) → ((fields_of b).opcode == opcode) ≡ true → ((fields_of b).size == code_of size) ≡ true
-      → AreDecoded b (row (fields_of b) access (i size))
-  unfolding keep keep_signed
-  of_size opcode i size same valid fits o s =
-      at_test (AreDecoded b) (are_unset (fields_of b) access) (λ unset. record {
-        valid = valid;
-        fits = fits;
-        spelled = row_spelled true true true true opcode (code_of size) (i size) same o (λ _. eqb-true (fields_of b).size (code_of size) s) unset;
-      }) tt
+  of_row : (nrd nrs nsize nimm : Bool) (i : Instr) → IsValid i → FitsSigned w32 (immediate i) → AreRead (row (fields_of b) (names nrd nrs nsize nimm) i)
+  of_row nrd nrs nsize nimm i valid fits =
+      at_test AreRead (are_unset (fields_of b) (names nrd nrs nsize nimm)) (λ _. record { valid = valid; fits = fits }) tt
 
   abbrev sized : (AccessSize → Instr) → Option AccessSize → Type 0
-  sized i o = AreDecoded b (option_and_then (λ size. row (fields_of b) access (i size)) o)
+  sized i o = AreRead (option_and_then (λ size. row (fields_of b) access (i size)) o)
 
-  of_sized_row : (opcode : ℕ) (i : AccessSize → Instr)
-      → ((size : AccessSize) → fields_for (i size) ≡ fields opcode (fields_of b).rd (fields_of b).rs (code_of size) (imm_of (fields_of b)))
-      → ((size : AccessSize) → IsValid (i size)) → ((size : AccessSize) → FitsSigned w32 (immediate (i size))) → ((fields_of b).opcode == opcode) ≡ true
-      → AreDecoded b (sized_row (fields_of b) access i)
-  of_sized_row opcode i same valid fits o =
+  of_sized_row : (i : AccessSize → Instr) → ((size : AccessSize) → IsValid (i size)) → ((size : AccessSize) → FitsSigned w32 (immediate (i size)))
+      → AreRead (sized_row (fields_of b) access i)
+  of_sized_row i valid fits =
       let P = sized i in
       let code = (fields_of b).size in
-      let of = λ (size : AccessSize) (s : (code == code_of size) ≡ true). of_size opcode i size (same size) (valid size) (fits size) o s in
+      let of = λ (size : AccessSize) (s : (code == code_of size) ≡ true). of_row true true true true (i size) (valid size) (fits size) in
       at_test P (code == 0) (of One) (at_test P (code == 1) (of Two) (at_test P (code == 2) (of Four) (at_test P (code == 3) (of Eight) tt)))
 
-  of_port_row : (opcode : ℕ) (i : AccessSize → Instr)
-      → ((size : AccessSize) → fields_for (i size) ≡ fields opcode (fields_of b).rd (fields_of b).rs (code_of size) (imm_of (fields_of b)))
-      → ((size : AccessSize) → IsSmall size → IsValid (i size)) → ((size : AccessSize) → FitsSigned w32 (immediate (i size))) → ((fields_of b).opcode == opcode) ≡ true
-      → AreDecoded b (port_row (fields_of b) access i)
-  of_port_row opcode i same valid fits o =
+  of_port_row : (i : AccessSize → Instr) → ((size : AccessSize) → IsSmall size → IsValid (i size)) → ((size : AccessSize) → FitsSigned w32 (immediate (i size)))
+      → AreRead (port_row (fields_of b) access i)
+  of_port_row i valid fits =
       let P = sized i in
       let code = (fields_of b).size in
-      let of = λ (size : AccessSize) (small : IsSmall size) (s : (code == code_of size) ≡ true). of_size opcode i size (same size) (valid size small) (fits size) o s in
+      let of = λ (size : AccessSize) (small : IsSmall size) (s : (code == code_of size) ≡ true). of_row true true true true (i size) (valid size small) (fits size) in
       at_test P (code == 0) (of One tt) (at_test P (code == 1) (of Two tt) (at_test P (code == 2) (of Four tt) tt))
 
-  of_system_instruction : AreDecoded b (system_instruction_of (fields_of b))
-  unfolding keep keep_signed
+  of_system_instruction : AreRead (system_instruction_of (fields_of b))
   of_system_instruction =
       let f = fields_of b in
-      let P = AreDecoded b in
+      let P = AreRead in
       let o = λ (opcode : ℕ). f.opcode == opcode in
-      at_test P (o 17) (of_port_row 17 (λ size. In f.rd f.rs size (imm_of f)) (λ size. refl) (λ size small. ((rd_low, rs_low), small)) (λ size. imm_fits))
-      (at_test P (o 18) (of_port_row 18 (λ size. Out f.rd f.rs size (imm_of f)) (λ size. refl) (λ size small. ((rd_low, rs_low), small)) (λ size. imm_fits))
-      (at_test P (o 19) (of_row true true false 19 (Rdmsr f.rd f.rs) refl (rd_low, rs_low) none_fits)
-      (at_test P (o 20) (of_row true true false 20 (Wrmsr f.rd f.rs) refl (rd_low, rs_low) none_fits)
-      (at_test P (o 21) (of_row true false false 21 (Rdtsc f.rd) refl rd_low none_fits)
-      (at_test P (o 22) (of_row false true false 22 (Vmcall f.rs) refl rs_low none_fits)
-      (at_test P (o 23) (of_row false false false 23 Hlt refl tt none_fits)
-      (at_test P (o 24) (of_row false false false 24 Sti refl tt none_fits)
-      (at_test P (o 25) (of_row false false false 25 Cli refl tt none_fits)
-      (at_test P (o 26) (of_row false true false 26 (Setv f.rs) refl rs_low none_fits)
-      (at_test P (o 27) (of_row false false false 27 Reti refl tt none_fits) tt))))))))))
+      at_test P (o 17) (of_port_row (λ size. In f.rd f.rs size (imm_of f)) (λ size small. ((rd_low, rs_low), small)) (λ size. imm_fits))
+      (at_test P (o 18) (of_port_row (λ size. Out f.rd f.rs size (imm_of f)) (λ size small. ((rd_low, rs_low), small)) (λ size. imm_fits))
+      (at_test P (o 19) (of_row true true false false (Rdmsr f.rd f.rs) (rd_low, rs_low) none_fits)
+      (at_test P (o 20) (of_row true true false false (Wrmsr f.rd f.rs) (rd_low, rs_low) none_fits)
+      (at_test P (o 21) (of_row true false false false (Rdtsc f.rd) rd_low none_fits)
+      (at_test P (o 22) (of_row false true false false (Vmcall f.rs) rs_low none_fits)
+      (at_test P (o 23) (of_row false false false false Hlt tt none_fits)
+      (at_test P (o 24) (of_row false false false false Sti tt none_fits)
+      (at_test P (o 25) (of_row false false false false Cli tt none_fits)
+      (at_test P (o 26) (of_row false true false false (Setv f.rs) rs_low none_fits)
+      (at_test P (o 27) (of_row false false false false Reti tt none_fits) tt))))))))))
 
-  of_instruction : AreDecoded b (instruction_of (fields_of b))
-  unfolding keep keep_signed
+  of_instruction : AreRead (instruction_of (fields_of b))
   of_instruction =
       let f = fields_of b in
-      let P = AreDecoded b in
+      let P = AreRead in
       let o = λ (opcode : ℕ). f.opcode == opcode in
-      at_test P (o 0) (of_row false false false 0 Nop refl tt none_fits)
-      (at_test P (o 1) (of_row true false true 1 (Li f.rd (imm_of f)) refl rd_low imm_fits)
-      (at_test P (o 2) (of_row true false true 2 (Lih f.rd (imm_of f)) refl rd_low imm_fits)
-      (at_test P (o 3) (of_row true true false 3 (Mov f.rd f.rs) refl (rd_low, rs_low) none_fits)
-      (at_test P (o 4) (of_row true true false 4 (Add f.rd f.rs) refl (rd_low, rs_low) none_fits)
-      (at_test P (o 5) (of_row true true false 5 (Sub f.rd f.rs) refl (rd_low, rs_low) none_fits)
-      (at_test P (o 6) (of_row true true false 6 (And f.rd f.rs) refl (rd_low, rs_low) none_fits)
-      (at_test P (o 7) (of_row true true false 7 (Or f.rd f.rs) refl (rd_low, rs_low) none_fits)
-      (at_test P (o 8) (of_row true true false 8 (Xor f.rd f.rs) refl (rd_low, rs_low) none_fits)
-      (at_test P (o 9) (of_row true true false 9 (Shl f.rd f.rs) refl (rd_low, rs_low) none_fits)
-      (at_test P (o 10) (of_row true true false 10 (Shr f.rd f.rs) refl (rd_low, rs_low) none_fits)
-      (at_test P (o 11) (of_sized_row 11 (λ size. Load f.rd f.rs size (imm_of f)) (λ size. refl) (λ size. (rd_low, rs_low)) (λ size. imm_fits))
-      (at_test P (o 12) (of_sized_row 12 (λ size. Store f.rd f.rs size (imm_of f)) (λ size. refl) (λ size. (rd_low, rs_low)) (λ size. imm_fits))
-      (at_test P (o 13) (of_row false false true 13 (Jmp (imm_of f)) refl tt imm_fits)
-      (at_test P (o 14) (of_row true false true 14 (Jz f.rd (imm_of f)) refl rd_low imm_fits)
-      (at_test P (o 15) (of_row true false true 15 (Jnz f.rd (imm_of f)) refl rd_low imm_fits)
-      (at_test P (o 16) (of_row true true true 16 (Jb f.rd f.rs (imm_of f)) refl (rd_low, rs_low) imm_fits) of_system_instruction))))))))))))))))
+      at_test P (o 0) (of_row false false false false Nop tt none_fits)
+      (at_test P (o 1) (of_row true false false true (Li f.rd (imm_of f)) rd_low imm_fits)
+      (at_test P (o 2) (of_row true false false true (Lih f.rd (imm_of f)) rd_low imm_fits)
+      (at_test P (o 3) (of_row true true false false (Mov f.rd f.rs) (rd_low, rs_low) none_fits)
+      (at_test P (o 4) (of_row true true false false (Add f.rd f.rs) (rd_low, rs_low) none_fits)
+      (at_test P (o 5) (of_row true true false false (Sub f.rd f.rs) (rd_low, rs_low) none_fits)
+      (at_test P (o 6) (of_row true true false false (And f.rd f.rs) (rd_low, rs_low) none_fits)
+      (at_test P (o 7) (of_row true true false false (Or f.rd f.rs) (rd_low, rs_low) none_fits)
+      (at_test P (o 8) (of_row true true false false (Xor f.rd f.rs) (rd_low, rs_low) none_fits)
+      (at_test P (o 9) (of_row true true false false (Shl f.rd f.rs) (rd_low, rs_low) none_fits)
+      (at_test P (o 10) (of_row true true false false (Shr f.rd f.rs) (rd_low, rs_low) none_fits)
+      (at_test P (o 11) (of_sized_row (λ size. Load f.rd f.rs size (imm_of f)) (λ size. (rd_low, rs_low)) (λ size. imm_fits))
+      (at_test P (o 12) (of_sized_row (λ size. Store f.rd f.rs size (imm_of f)) (λ size. (rd_low, rs_low)) (λ size. imm_fits))
+      (at_test P (o 13) (of_row false false false true (Jmp (imm_of f)) tt imm_fits)
+      (at_test P (o 14) (of_row true false false true (Jz f.rd (imm_of f)) rd_low imm_fits)
+      (at_test P (o 15) (of_row true false false true (Jnz f.rd (imm_of f)) rd_low imm_fits)
+      (at_test P (o 16) (of_row true true false true (Jb f.rd f.rs (imm_of f)) (rd_low, rs_low) imm_fits) of_system_instruction))))))))))))))))
 
   -- what eight bytes decode to is an instruction of the table, and they are its spelling
   pub decoded : AreDecoded b (decode_of b)
   unfolding decode_of
-  decoded = of_instruction
+  decoded = both (instruction_of (fields_of b)) of_instruction (spelled_by b (fields_of b) imm_low (eight b (fields_of b).imm l imm_bytes))
+    where
+      both : (o : Option Instr) → AreRead o → AreSpelled o b → AreDecoded b o
+      both None read is = tt
+      both (Some i) read is = record { valid = read.valid; fits = read.fits; spelled = is }
 
 -- ---- the spelling of an instruction decodes to it
 

@@ -42,6 +42,10 @@ pub record Ends : Type 0 where
   pub err' : SinkState
   pub status : Status
 
+abbrev pub ends : History → History → SinkState → SinkState → SinkState → SinkState → Status → Ends
+ends before after out out' err err' status =
+    record { before = before; after = after; out = out; out' = out'; err = err; err' = err'; status = status }
+
 -- nothing is put on the output, and there is one line that tells why
 pub record Stops (e : Ends) (status : Status) (text : List ℕ) : Type 0 where
   pub ended : e.status ≡ status

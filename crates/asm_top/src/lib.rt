@@ -1,9 +1,9 @@
 //! The commands of the assembler `muen_asm`.
 #![tactic(auto)]
 
-ghost use Rattle.std.specs.Prelude.{◌≡◌, IfSome, map, string_bytes};
+ghost use Rattle.std.specs.Prelude.{IfSome, map, string_bytes};
 ghost use Rattle.muen_outside.specs.Looks.{HeldAfter, ShowAll, looks_since, writes_since};
-ghost use Rattle.asm_top.specs.Calls.{IsCall};
+ghost use Rattle.asm_top.specs.Calls.{IsCall, ends};
 
 mod command;
 mod limits;
@@ -41,7 +41,7 @@ pub fn muen_asm<F: Files, S: Sink, E: Sink>(
 ) -> Status
     // One look at the file that the words name, and exactly what is answered to what it gave: a text, a write, or the
     // reason why not; each failed call, and refused memory, with its status.
-    ensures call { IsCall (map string_bytes words.now) (record { before = F.history files.old; after = F.history files.new; out = S.state out.old; out' = S.state out.new; err = E.state err.old; err' = E.state err.new; status = result }) }
+    ensures call { IsCall (map string_bytes words.now) (ends (F.history files.old) (F.history files.new) (S.state out.old) (S.state out.new) (E.state err.old) (E.state err.new) result) }
     // What files tell of what they hold agrees with that look, and changes as the write has it.
     ensures agrees { IfSome (F.held files.old) (λ m. ShowAll m (looks_since (F.history files.old) (F.history files.new))) }
     ensures held { HeldAfter (writes_since (F.history files.old) (F.history files.new)) (F.held files.old) (F.held files.new) }

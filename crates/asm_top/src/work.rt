@@ -1,12 +1,12 @@
 //! The commands: a file is read, and what follows from it is put or written.
-ghost use Rattle.std.specs.Prelude.{◌≡◌, ◌∷◌, [], IfErr, IfOk, IfSome, Ok, map, string_bytes};
+ghost use Rattle.std.specs.Prelude.{◌≡◌, IfErr, IfOk, IfSome, Ok, map, string_bytes};
 ghost use Rattle.asm_listing.specs.Listing.{listing_of};
 ghost use Rattle.asm_listing.specs.Source.{source_of};
 ghost use Rattle.muen_outside.specs.Looks.{HeldAfter, ShowAll, looks_since, writes_since};
 ghost use Rattle.muen_outside.specs.States.{SinkState};
 ghost use Rattle.muen_outside.specs.Store.{whole};
 ghost use Rattle.asm_top.specs.Answers.{hex_text};
-ghost use Rattle.asm_top.specs.Calls.{IsCall};
+ghost use Rattle.asm_top.specs.Calls.{IsCall, ends};
 ghost use Rattle.asm_top.specs.Commands.{bin, command_of, hex, lines, text};
 ghost use Rattle.asm_top.specs.Outcomes.{ComesOf, ComesTo, PutsTo, WritesTo};
 ghost use Rattle.asm_top.specs.Reads.{NotAssembled, NotRead, Saw, SawSource};
@@ -208,7 +208,7 @@ pub(crate) fn call<F: Files, S: Sink, E: Sink>(
     out: &mut S,
     err: &mut E,
 ) -> Status
-    ensures call { IsCall (map string_bytes words.now) (record { before = F.history files.old; after = F.history files.new; out = S.state out.old; out' = S.state out.new; err = E.state err.old; err' = E.state err.new; status = result }) }
+    ensures call { IsCall (map string_bytes words.now) (ends (F.history files.old) (F.history files.new) (S.state out.old) (S.state out.new) (E.state err.old) (E.state err.new) result) }
     ensures agrees { IfSome (F.held files.old) (λ m. ShowAll m (looks_since (F.history files.old) (F.history files.new))) }
     ensures held { HeldAfter (writes_since (F.history files.old) (F.history files.new)) (F.held files.old) (F.held files.new) }
 {

@@ -1,16 +1,14 @@
 //! The tables of a placed policy.
-ghost use Rattle.std.specs.Prelude.{◌≡◌, ◌*◌, ◌<◌, ℕ, Bool, List, length, IfOk};
+ghost use Rattle.std.specs.Prelude.{◌≡◌, ◌*◌, ◌<◌, length, IfOk};
 ghost use Rattle.dma_tables.specs.Form.{IsBytes};
 ghost use Rattle.dma_emit.specs.Base.{IsBase};
 ghost use Rattle.dma_emit.specs.Domains.{domains_of};
 ghost use Rattle.dma_emit.specs.Emitted.{IsFileOf};
 ghost use Rattle.dma_emit.specs.Layout.{page_count};
 ghost use Rattle.dma_emit.specs.MadeFor.{IsMadeFor};
-ghost use Rattle.dma_emit.specs.Reached.{kind_of, placed_at};
-ghost use Rattle.dma_tables.specs.DmaWalk.{dma_walk};
+ghost use Rattle.dma_emit.specs.Reached.{LeadAsDeclared};
 ghost use Rattle.dma_tables.specs.declared.file.TheConstants.{MOST_DMA_PAGES};
 ghost use Rattle.muen_num.specs.declared.limits.TheConstants.{PAGE};
-ghost use Rattle.policy_lawful.specs.Dma.{dma_access};
 ghost use Rattle.policy_lawful.specs.Resolution.{source_of};
 
 use crate::base::base_of;
@@ -56,7 +54,7 @@ fn file_of(alloc: Global, placed: &Placed) -> Result<DmaFile, NoMemory>
 /// Memory is refused.
 pub fn emit(alloc: Global, placed: &Placed) -> Result<DmaTables, NoMemory>
     // **Each device reaches what the policy declares**, and nothing else.
-    ensures walk { IfOk result (λ t. (device : List ℕ) (addr : ℕ) (write : Bool) → dma_walk t device addr write ≡ placed_at placed.now (dma_access (source_of placed.now.expanded.lawful) device addr (kind_of write))) }
+    ensures walk { IfOk result (LeadAsDeclared placed.now) }
     // Which file it is,
     ensures file { IfOk result (IsFileOf (domains_of placed.now)) }
     // of how many pages,

@@ -1,9 +1,10 @@
 -- The writes of a line, page by page and byte by byte.
-use Rattle.std.specs.Prelude.{ℕ, ◌+◌, ◌-◌, ◌/◌, ◌%◌, ◌≤◌, List, [], ◌∷◌, length, Option, Some, None, unwrap_or}
-use Rattle.std.specs.List.{enumerate_from}
+use Rattle.std.specs.Prelude.{ℕ, ◌+◌, ◌-◌, ◌/◌, ◌%◌, ◌≤◌, List, [], ◌∷◌, length, Option, Some, None, unwrap_or, ◌≡◌, map}
+use Rattle.std.specs.List.{All, enumerate_from, flat_map}
 use Rattle.device_bench.specs.declared.effect.Effect.{Effect}
 use Rattle.device_bench.specs.declared.effect.Effect.TheVariants.{Mem as ToMem}
 use Rattle.muen_num.specs.declared.limits.TheConstants.{PAGE}
+use Rattle.dma_tables.specs.Lowered.{line_writes}
 
 -- the write of bytes in one page, if they go somewhere, and the writes in two, if both parts do
 abbrev pub one_write : Option ℕ → List ℕ → List Effect
@@ -31,3 +32,13 @@ pages_touched addr bytes = (addr + length bytes - 1) / PAGE - addr / PAGE + 1
 abbrev pub IsInPage : Effect → Type 0
 IsInPage (ToMem at bytes) = at % PAGE + length bytes ≤ PAGE
 IsInPage effect = Unit {0}
+
+-- of a line that is written: each byte is written where it goes, and no other is
+abbrev pub WritesBytes : (ℕ → Option ℕ) → ℕ → List ℕ → List Effect → Type 0
+WritesBytes go addr bytes writes =
+    line_writes go addr bytes ≡ Some writes → flat_map bytes_written writes ≡ map (byte_going go) (enumerate_from addr bytes)
+
+-- .. there is a write for each page that is touched
+abbrev pub AreByPages : (ℕ → Option ℕ) → ℕ → List ℕ → List Effect → Type 0
+AreByPages go addr bytes writes =
+    line_writes go addr bytes ≡ Some writes → (length writes ≡ pages_touched addr bytes) × All IsInPage writes

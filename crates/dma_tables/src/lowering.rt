@@ -1,7 +1,7 @@
 //! A record as it reaches a machine: with writes of memory in place of its lines of direct memory
 //! access.
-ghost use Rattle.std.specs.Prelude.{◌≡◌, ◌++◌, ◌∷◌, [], ℕ, IfOk, List, OnOk, Option, Some, length, map, option_map, unwrap_or};
-ghost use Rattle.std.specs.List.{All, enumerate_from, flat_map};
+ghost use Rattle.std.specs.Prelude.{◌≡◌, ◌++◌, ◌∷◌, [], ℕ, IfOk, List, OnOk, Option, Some, map, option_map, unwrap_or};
+ghost use Rattle.std.specs.List.{flat_map};
 ghost use Rattle.image_pack.specs.Parts.{IsParts};
 ghost use Rattle.image_pack.specs.declared.parts.Image.{Image};
 ghost use Rattle.device_bench.specs.Devices.{CanRun};
@@ -10,7 +10,7 @@ ghost use Rattle.record_text.specs.Law.{IsOrderly, IsRecordOf};
 ghost use Rattle.record_text.specs.declared.devices.Devices.{Devices};
 ghost use Rattle.record_text.specs.declared.record.Input.{Input};
 ghost use Rattle.record_text.specs.declared.record.Record.{Record};
-ghost use Rattle.dma_tables.specs.LineWrites.{IsInPage, byte_going, bytes_written, one_write, pages_touched, two_writes};
+ghost use Rattle.dma_tables.specs.LineWrites.{AreByPages, WritesBytes, one_write, two_writes};
 ghost use Rattle.dma_tables.specs.Lowered.{goes, in_tick, is_in_spans, is_line, line_writes, lowered, lowered_at};
 ghost use Rattle.dma_tables.specs.LoweredRecord.{HaveMemoriesIn, IsRecordIn};
 ghost use Rattle.dma_tables.specs.declared.file.DmaFile.{DmaFile};
@@ -247,7 +247,7 @@ pub fn lowered_records()
     // The ticks stay in order, and no write goes past what addresses have room for.
     ensures can_run { (t : Option DmaFile) (i : Image) (r : Record Input) → IsParts i → IsOrderly r → CanRun (lowered t i r) }
     // Each byte of a line is written where the tables lead, and no other byte is.
-    ensures each_byte { (t : Option DmaFile) (i : Image) (device addr : ℕ) (bytes : List ℕ) (writes : List Effect) → IsParts i → line_writes (goes t i device) addr bytes ≡ Some writes → flat_map bytes_written writes ≡ map (byte_going (goes t i device)) (enumerate_from addr bytes) }
+    ensures each_byte { (t : Option DmaFile) (i : Image) (device addr : ℕ) (bytes : List ℕ) (writes : List Effect) → IsParts i → WritesBytes (goes t i device) addr bytes writes }
     // There is a write for each page that a line touches, and each stays in one page.
-    ensures each_page { (t : Option DmaFile) (i : Image) (device addr : ℕ) (bytes : List ℕ) (writes : List Effect) → IsParts i → line_writes (goes t i device) addr bytes ≡ Some writes → (length writes ≡ pages_touched addr bytes) × All IsInPage writes }
+    ensures each_page { (t : Option DmaFile) (i : Image) (device addr : ℕ) (bytes : List ℕ) (writes : List Effect) → IsParts i → AreByPages (goes t i device) addr bytes writes }
 {}

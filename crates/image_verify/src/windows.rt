@@ -1,12 +1,8 @@
 //! Each subject's windows, where an image has what they show.
-ghost use Rattle.std.specs.Prelude.{◌≡◌, ℕ, List, ◌==◌, ◌++◌, [], map, IfOk, OnOk, option_map};
+ghost use Rattle.std.specs.Prelude.{◌≡◌, ◌==◌, ◌++◌, [], map, IfOk, OnOk, option_map};
 ghost use Rattle.std.specs.List.{cons_option, find};
-ghost use Rattle.image_verify.specs.Filled.{IsFilled};
-ghost use Rattle.image_verify.specs.Stand.{StandForTables};
-ghost use Rattle.image_verify.specs.TablePages.{pages_of_all};
+ghost use Rattle.image_verify.specs.Stand.{StandWhereFilled};
 ghost use Rattle.image_verify.specs.Windows.{is_span_of, shown_span, spans_by_number, state_span, tables_of_subjects, window_on};
-ghost use Rattle.policy_lawful.specs.Contents.{Held};
-ghost use Rattle.policy_lawful.specs.Resolution.{source_of};
 ghost use Rattle.policy_lawful.specs.Thing.{region, channel, provided, device_memory};
 
 use ept_check::{Leaf, SubjectTables, Window};
@@ -211,7 +207,7 @@ pub fn subject_tables(
 ) -> Result<Vec<SubjectTables>, NoMemory>
     ensures tables { IfOk result (λ v. v.items ≡ tables_of_subjects expanded.now image.now) }
     // over an image that has the contents of the policy they stand for the walks that it needs
-    ensures stand { IfOk result (λ v. (files : Held) (pages : List ℕ) → IsFilled expanded.now files image.now → pages ≡ pages_of_all image.now.spans → StandForTables (source_of expanded.now.lawful) image.now pages v.items) }
+    ensures stand { IfOk result (λ v. StandWhereFilled expanded.now image.now v.items) }
 {
     let policy = expanded.lawful().resolved();
     let subjects = policy.subjects();

@@ -89,5 +89,12 @@ pub record KernelState : Type 0 where
 abbrev pub with_live : KernelState → Live → KernelState
 with_live k live = record k { live = live }
 
+-- the kernel behind what the subject of this number does in a turn, and its line
+abbrev pub acted : KernelState → Turn → ℕ → SubjectPart → Bool → SubjectState → KernelState
+acted k t s part first st = with_live k (acts t s part first st k.live).state
+
+abbrev pub acted_line : KernelState → Turn → ℕ → SubjectPart → Bool → SubjectState → Option TurnLine
+acted_line k t s part first st = (acts t s part first st k.live).line
+
 abbrev pub kernel_started : Setup → Record Effect → ℕ → List Page → KernelState
 kernel_started setup run cpus pages = record { setup = setup; cpus = cpus; run = run; live = live_started setup cpus pages; tick = 0 }

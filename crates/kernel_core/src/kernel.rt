@@ -3,9 +3,9 @@ ghost use Rattle.std.specs.Prelude.{◌≡◌, ◌<◌, length, slice_get, optio
 ghost use Rattle.guest_isa.specs.state.SubjectState.{SubjectState};
 ghost use Rattle.image_pack.specs.declared.parts.SubjectPart.{SubjectPart};
 ghost use Rattle.event_router.specs.Router.{taken};
-ghost use Rattle.kernel_core.specs.Kernel.{acts, event_of, exit_handled, raised_by, standing_of, switched, turn_of, vector_for};
+ghost use Rattle.kernel_core.specs.Kernel.{event_of, exit_handled, raised_by, standing_of, switched, turn_of, vector_for};
 ghost use Rattle.device_bench.specs.Devices.{CanRun};
-ghost use Rattle.kernel_core.specs.Ticks.{kernel_started, with_live};
+ghost use Rattle.kernel_core.specs.Ticks.{acted, acted_line, kernel_started, with_live};
 
 use crate::exit::{event_of, exit_end_of};
 use crate::on_cpus::{nobody, on_cpu, put_on};
@@ -162,8 +162,8 @@ impl<M: PhysMem, T: Translate> Kernel<M, T> {
         standing: Standing,
     ) -> Option<TurnLine>
         requires { turn.now.cpu < length self.old.live.machine.cpus }
-        ensures state { (part : SubjectPart) (st : SubjectState) → slice_get self.old.setup.subjects subject ≡ Some part → standing ≡ standing_of st → self.new ≡ with_live self.old (acts turn.now subject part first st self.old.live).state }
-        ensures line { (part : SubjectPart) (st : SubjectState) → slice_get self.old.setup.subjects subject ≡ Some part → standing ≡ standing_of st → result ≡ (acts turn.now subject part first st self.old.live).line }
+        ensures state { (part : SubjectPart) (st : SubjectState) → slice_get self.old.setup.subjects subject ≡ Some part → standing ≡ standing_of st → self.new ≡ acted self.old turn.now subject part first st }
+        ensures line { (part : SubjectPart) (st : SubjectState) → slice_get self.old.setup.subjects subject ≡ Some part → standing ≡ standing_of st → result ≡ acted_line self.old turn.now subject part first st }
     {
         if standing.stopped {
             return None;

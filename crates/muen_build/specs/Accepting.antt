@@ -17,7 +17,7 @@ use Rattle.policy_lawful.specs.declared.resolved.Subject.{Subject}
 use Rattle.policy_lawful.specs.source.Component.{Component}
 use Rattle.policy_lawful.specs.source.Source.{Source}
 use Rattle.region_alloc.specs.Placed.{Placement}
-use Rattle.muen_build.specs.Filling.{Filled, brought_at, filled_refused}
+use Rattle.muen_build.specs.Filling.{Filled, brought_at, filled_of, filled_refused}
 use Rattle.muen_build.specs.Looks.{IsAsked, Looked, file_look, is_of_file, names_file}
 use Rattle.muen_build.specs.Refusals.{accepted_policy_of, contents_refused}
 use Rattle.muen_build.specs.declared.accepted.BuildError.{BuildError}
@@ -215,3 +215,30 @@ all_names all name = list_any (λ f. filled_names f name) all
 
 abbrev pub brought_names : List Component → List Subject → Names
 brought_names components subjects name = list_any (λ s. all_names (brought_at components s) name) subjects
+
+-- ---- a check of contents: the files that it reads, and why it isn't passed
+
+pub record Check : Type 0 where
+  pub names : Names
+  pub why : Why
+
+abbrev pub of_content : Filled → Check
+of_content f = record { names = filled_names f; why = of_filled f }
+
+abbrev pub of_contents : List Filled → Check
+of_contents all = record { names = all_names all; why = of_all all }
+
+abbrev pub of_components : List Component → List Subject → Check
+of_components components subjects = record { names = brought_names components subjects; why = of_brought components subjects }
+
+abbrev pub of_policy : Source → Check
+of_policy p = record { names = names_file p; why = of_all (filled_of p) }
+
+abbrev pub GrowsBy : Check → List Given → Option Store → History → History → Files → Files → Type 0
+GrowsBy check given held old new before after = Grows (given_files given) check.names held old new (looks_of before) (looks_of after)
+
+abbrev pub PassesBy : Check → List Given → Files → Type 0
+PassesBy check given found = Passes (given_files given) (looks_of found) check.why
+
+abbrev pub StopsBy : Check → List Given → Option Store → History → History → Files → BuildError → Type 0
+StopsBy check given held old new before error = Stops (given_files given) check.names held old new (looks_of before) (Refuses check.why) error

@@ -4,9 +4,8 @@ ghost use Rattle.std.specs.Str.{bytes_eq};
 ghost use Rattle.muen_num.specs.Search.{as_refusal};
 ghost use Rattle.muen_outside.specs.Store.{find_bytes, whole};
 ghost use Rattle.policy_lawful.specs.Resolution.{source_of};
-ghost use Rattle.muen_build.specs.Accepting.{Grows, IsAdded, Known, LooksAt, NotFound, NotRead, Passes, Refuses, Stops, all_names, brought_names, filled_names, given_files, looks_of, of_all, of_brought, of_filled, part_length};
-ghost use Rattle.muen_build.specs.Filling.{filled, filled_of, filled_provided, filled_region};
-ghost use Rattle.muen_build.specs.Looks.{names_file};
+ghost use Rattle.muen_build.specs.Accepting.{Grows, GrowsBy, IsAdded, Known, LooksAt, NotFound, NotRead, PassesBy, Stops, StopsBy, given_files, looks_of, of_components, of_content, of_contents, of_policy, part_length};
+ghost use Rattle.muen_build.specs.Filling.{filled, filled_provided, filled_region};
 ghost use Rattle.muen_build.specs.Refusals.{too_long_for};
 ghost use Rattle.muen_build.specs.declared.accepted.BuildError.TheVariants.{Refused};
 ghost use Rattle.policy_lawful.specs.refusal.Refusal.TheVariants.{TooLong};
@@ -128,9 +127,9 @@ fn check<F: Files>(
     found: &mut ComponentFiles,
     files: &mut F,
 ) -> Result<(), BuildError>
-    ensures grows { IfOk result (λ _. Grows (given_files given.now) (filled_names (filled region room content.now)) (F.held files.old) (F.history files.old) (F.history files.new) (looks_of found.old) (looks_of found.new)) }
-    ensures passes { IfOk result (λ _. Passes (given_files given.now) (looks_of found.new) (of_filled (filled region room content.now))) }
-    ensures err { IfErr result (Stops (given_files given.now) (filled_names (filled region room content.now)) (F.held files.old) (F.history files.old) (F.history files.new) (looks_of found.old) (Refuses (of_filled (filled region room content.now)))) }
+    ensures grows { IfOk result (λ _. GrowsBy (of_content (filled region room content.now)) given.now (F.held files.old) (F.history files.old) (F.history files.new) found.old found.new) }
+    ensures passes { IfOk result (λ _. PassesBy (of_content (filled region room content.now)) given.now found.new) }
+    ensures err { IfErr result (StopsBy (of_content (filled region room content.now)) given.now (F.held files.old) (F.history files.old) (F.history files.new) found.old) }
     ensures held { F.held files.new ≡ F.held files.old }
 {
     match content {
@@ -155,9 +154,9 @@ fn check_memory<F: Files>(
     found: &mut ComponentFiles,
     files: &mut F,
 ) -> Result<(), BuildError>
-    ensures grows { IfOk result (λ _. Grows (given_files given.now) (all_names (map filled_region memory.now)) (F.held files.old) (F.history files.old) (F.history files.new) (looks_of found.old) (looks_of found.new)) }
-    ensures passes { IfOk result (λ _. Passes (given_files given.now) (looks_of found.new) (of_all (map filled_region memory.now))) }
-    ensures err { IfErr result (Stops (given_files given.now) (all_names (map filled_region memory.now)) (F.held files.old) (F.history files.old) (F.history files.new) (looks_of found.old) (Refuses (of_all (map filled_region memory.now)))) }
+    ensures grows { IfOk result (λ _. GrowsBy (of_contents (map filled_region memory.now)) given.now (F.held files.old) (F.history files.old) (F.history files.new) found.old found.new) }
+    ensures passes { IfOk result (λ _. PassesBy (of_contents (map filled_region memory.now)) given.now found.new) }
+    ensures err { IfErr result (StopsBy (of_contents (map filled_region memory.now)) given.now (F.held files.old) (F.history files.old) (F.history files.new) found.old) }
     ensures held { F.held files.new ≡ F.held files.old }
 {
     for region in memory {
@@ -187,9 +186,9 @@ fn check_provided<F: Files>(
     found: &mut ComponentFiles,
     files: &mut F,
 ) -> Result<(), BuildError>
-    ensures grows { IfOk result (λ _. Grows (given_files given.now) (all_names (map (filled_provided subject) provided.now)) (F.held files.old) (F.history files.old) (F.history files.new) (looks_of found.old) (looks_of found.new)) }
-    ensures passes { IfOk result (λ _. Passes (given_files given.now) (looks_of found.new) (of_all (map (filled_provided subject) provided.now))) }
-    ensures err { IfErr result (Stops (given_files given.now) (all_names (map (filled_provided subject) provided.now)) (F.held files.old) (F.history files.old) (F.history files.new) (looks_of found.old) (Refuses (of_all (map (filled_provided subject) provided.now)))) }
+    ensures grows { IfOk result (λ _. GrowsBy (of_contents (map (filled_provided subject) provided.now)) given.now (F.held files.old) (F.history files.old) (F.history files.new) found.old found.new) }
+    ensures passes { IfOk result (λ _. PassesBy (of_contents (map (filled_provided subject) provided.now)) given.now found.new) }
+    ensures err { IfErr result (StopsBy (of_contents (map (filled_provided subject) provided.now)) given.now (F.held files.old) (F.history files.old) (F.history files.new) found.old) }
     ensures held { F.held files.new ≡ F.held files.old }
 {
     for x in provided {
@@ -211,9 +210,9 @@ fn check_subjects<F: Files>(
     found: &mut ComponentFiles,
     files: &mut F,
 ) -> Result<(), BuildError>
-    ensures grows { IfOk result (λ _. Grows (given_files given.now) (brought_names policy.now.components subjects.now) (F.held files.old) (F.history files.old) (F.history files.new) (looks_of found.old) (looks_of found.new)) }
-    ensures passes { IfOk result (λ _. Passes (given_files given.now) (looks_of found.new) (of_brought policy.now.components subjects.now)) }
-    ensures err { IfErr result (Stops (given_files given.now) (brought_names policy.now.components subjects.now) (F.held files.old) (F.history files.old) (F.history files.new) (looks_of found.old) (Refuses (of_brought policy.now.components subjects.now))) }
+    ensures grows { IfOk result (λ _. GrowsBy (of_components policy.now.components subjects.now) given.now (F.held files.old) (F.history files.old) (F.history files.new) found.old found.new) }
+    ensures passes { IfOk result (λ _. PassesBy (of_components policy.now.components subjects.now) given.now found.new) }
+    ensures err { IfErr result (StopsBy (of_components policy.now.components subjects.now) given.now (F.held files.old) (F.history files.old) (F.history files.new) found.old) }
     ensures held { F.held files.new ≡ F.held files.old }
 {
     for subject in subjects {
@@ -232,9 +231,9 @@ pub(crate) fn check_all<F: Files>(
     found: &mut ComponentFiles,
     files: &mut F,
 ) -> Result<(), BuildError>
-    ensures grows { IfOk result (λ _. Grows (given_files given.now) (names_file (source_of policy.now)) (F.held files.old) (F.history files.old) (F.history files.new) (looks_of found.old) (looks_of found.new)) }
-    ensures passes { IfOk result (λ _. Passes (given_files given.now) (looks_of found.new) (of_all (filled_of (source_of policy.now)))) }
-    ensures err { IfErr result (Stops (given_files given.now) (names_file (source_of policy.now)) (F.held files.old) (F.history files.old) (F.history files.new) (looks_of found.old) (Refuses (of_all (filled_of (source_of policy.now))))) }
+    ensures grows { IfOk result (λ _. GrowsBy (of_policy (source_of policy.now)) given.now (F.held files.old) (F.history files.old) (F.history files.new) found.old found.new) }
+    ensures passes { IfOk result (λ _. PassesBy (of_policy (source_of policy.now)) given.now found.new) }
+    ensures err { IfErr result (StopsBy (of_policy (source_of policy.now)) given.now (F.held files.old) (F.history files.old) (F.history files.new) found.old) }
     ensures held { F.held files.new ≡ F.held files.old }
 {
     check_memory(alloc, given, policy.memory(), found, files)?;

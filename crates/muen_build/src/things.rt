@@ -1,9 +1,7 @@
 //! What a policy's regions hold, made of the files that were read.
 ghost use Rattle.std.specs.Prelude.{◌≡◌, ◌++◌, IfOk, OnOk, map, replicate};
-ghost use Rattle.std.specs.List.{flat_map};
-ghost use Rattle.policy_lawful.specs.ByIndex.{provided_at};
 ghost use Rattle.muen_build.specs.Accepting.{given_files};
-ghost use Rattle.muen_build.specs.Reading.{content_read, read_bytes, sized, things_read};
+ghost use Rattle.muen_build.specs.Reading.{brought_read, content_read, read_bytes, sized, things_read};
 ghost use Rattle.policy_lawful.specs.Contents.{file_part};
 ghost use Rattle.policy_lawful.specs.Resolution.{IsResolved};
 
@@ -138,7 +136,7 @@ fn put_subjects(
     subjects: &[Subject],
     things: &mut Vec<Seq<u8>>,
 ) -> Result<(), AllocError>
-    ensures { OnOk result (things.new.items ≡ things.old.items ++ flat_map (λ s. map (λ x. content_read (given_files given.now) found.now x.size x.content) (provided_at policy.now.components s.component)) subjects.now) }
+    ensures { OnOk result (things.new.items ≡ things.old.items ++ brought_read (given_files given.now) found.now policy.now.components subjects.now) }
 {
     for subject in subjects {
         let provided = policy.provided_by(subject);

@@ -8,7 +8,7 @@ use Rattle.muen_outside.specs.declared.files.FileError.{FileError}
 use Rattle.muen_outside.specs.declared.files.FileError.TheVariants.{Failed as FileFailed, NoMemory as FileMemory}
 use Rattle.muen_top.specs.Answers.{Reason, usage, missing, too_long, refused, image_refused, dma_refused, record_refused, Answer, prints, writes, judges, stops, answer_of}
 use Rattle.muen_top.specs.Asked.{Asks}
-use Rattle.muen_top.specs.Commands.{Command, command_of}
+use Rattle.muen_top.specs.Commands.{Command, build, command_of, run}
 use Rattle.muen_top.specs.FilesSeen.{OverLooks}
 use Rattle.muen_top.specs.Images.{Wrote}
 use Rattle.image_verify.specs.FaultText.{fault_text}
@@ -84,6 +84,12 @@ pub record ComesOfCommand (command : Option Command) (held held' : Option Store)
   pub asked : Asks command looks
   pub left : HeldAfter ws held held'
   pub says : OutcomeSays (λ m. answer_of m command) looks ws out out' outcome
+
+abbrev pub ComesOfRun : List ℕ → List ℕ → Option (List ℕ) → Option Store → Option Store → History → History → SinkState → SinkState → Outcome → Type 0
+ComesOfRun image inputs dma held held' old new out out' outcome = ComesOfCommand (Some (run image inputs dma)) held held' old new out out' outcome
+
+abbrev pub ComesOfBuild : List ℕ → List ℕ → Option (List ℕ) → Option Store → Option Store → History → History → SinkState → SinkState → Outcome → Type 0
+ComesOfBuild policy image dma held held' old new out out' outcome = ComesOfCommand (Some (build policy image dma)) held held' old new out out' outcome
 
 -- ---- a whole call
 

@@ -1,5 +1,5 @@
 -- How the writes of `build` end.
-use Rattle.std.specs.Prelude.{◌≡◌, ℕ, List, [], ◌∷◌, Option, Some, Result, Ok, Err}
+use Rattle.std.specs.Prelude.{◌≡◌, ℕ, List, [], ◌∷◌, Option, Some, Result, Ok, Err, option_map}
 use Rattle.muen_outside.specs.Looks.{WriteLeaves}
 use Rattle.muen_outside.specs.States.{History, write, written}
 use Rattle.muen_outside.specs.Store.{Store}
@@ -8,6 +8,7 @@ use Rattle.muen_outside.specs.declared.files.FileError.TheVariants.{Failed as Fi
 use Rattle.muen_top.specs.declared.outcome.Outcome.{Outcome}
 use Rattle.muen_top.specs.declared.outcome.Outcome.TheVariants.{Done, Stopped}
 use Rattle.muen_top.specs.declared.outcome.CommandError.TheVariants.{FileFault, NoMemory}
+use Rattle.muen_top.specs.declared.build.Built.{Built}
 
 -- these bytes were written under this name, and it has ended so
 pub record IsWriteOf (name bytes : List ℕ) (end : Result (Unit {0}) FileError) (held held' : Option Store) (old new : History) : Type 0 where
@@ -34,3 +35,8 @@ EndsTables _ _ held held' old new outcome = (outcome ≡ Done) × (new ≡ old) 
 pub data EndsWrites (image bytes : List ℕ) (dma tables : Option (List ℕ)) (held held' : Option Store) (old new : History) (outcome : Outcome) : Type 0 where
   image_well : (held'' : Option Store) (mid : History) → IsWriteOf image bytes (Ok tt) held held'' old mid → EndsTables dma tables held'' held' mid new outcome → EndsWrites image bytes dma tables held held' old new outcome
   image_not_well : IsFailed outcome → EndsWrite image bytes held held' old new outcome → EndsWrites image bytes dma tables held held' old new outcome
+
+-- .. of what was built
+abbrev pub EndsBuilt : List ℕ → Option (List ℕ) → Built → Option Store → Option Store → History → History → Outcome → Type 0
+EndsBuilt image dma built held held' old new outcome =
+    EndsWrites image built.image.items dma (option_map (λ v. v.items) built.tables) held held' old new outcome

@@ -1,5 +1,5 @@
 -- What reading a command's files comes to.
-use Rattle.std.specs.Prelude.{◌≡◌, ℕ, List, [], ◌∷◌, ◌++◌, Option, Some, None, Result, Ok, Err}
+use Rattle.std.specs.Prelude.{◌≡◌, ℕ, List, [], ◌∷◌, ◌++◌, Option, Some, None, Result, Ok, Err, option_map}
 use Rattle.std.specs.List.{All}
 use Rattle.std.specs.FinMap.{get}
 use Rattle.image_pack.specs.Faults.{Tells, unpacked}
@@ -22,7 +22,7 @@ use Rattle.policy_lawful.specs.source.Source.{Source}
 use Rattle.proof_runs.specs.Fit.{Fit}
 use Rattle.muen_top.specs.Answers.{answer_of, input_answer}
 use Rattle.muen_top.specs.Asked.{Asks, IsAtMost}
-use Rattle.muen_top.specs.Commands.{Command}
+use Rattle.muen_top.specs.Commands.{Command, run}
 use Rattle.muen_top.specs.FilesSeen.{OverLooks, Saw, SawAfter}
 use Rattle.muen_top.specs.Runs.{OnlyMemory}
 use Rattle.muen_top.specs.CommandErrors.{error_of_build, error_of_dma_fault}
@@ -30,6 +30,7 @@ use Rattle.muen_top.specs.declared.limits.TheConstants.{DMA_MOST}
 use Rattle.muen_top.specs.declared.run.TablesRead.{TablesRead}
 use Rattle.muen_top.specs.declared.outcome.CommandError.{CommandError}
 use Rattle.muen_top.specs.declared.outcome.CommandError.TheVariants.{Missing, TooLong, FileFault, NoMemory}
+use Rattle.muen_top.specs.declared.run.BeforeRecord.{BeforeRecord}
 
 -- ---- one file
 
@@ -65,6 +66,14 @@ IsKnown looks name None = AreOthers looks name
 abbrev pub AreKnown : List Look → Files → Type 0
 AreKnown looks found = (name : List ℕ) → IsKnown looks name (find_bytes name found)
 
+-- .. of one file
+abbrev pub KnowsAlone : List Look → List ℕ → List ℕ → Type 0
+KnowsAlone looks name bytes = AreKnown looks ((name, bytes) ∷ [])
+
+-- these bytes were read under it, after the looks
+abbrev pub ReadAfter : List Look → List ℕ → ℕ → Option Store → History → History → List ℕ → Type 0
+ReadAfter looks name most held old new bytes = SawAfter looks name most (Ok (whole bytes)) held old new
+
 -- ---- tables, after these looks
 
 -- the bytes of the file of this name were read, and they are of these tables
@@ -72,6 +81,10 @@ abbrev pub HasTables : List Look → Option (List ℕ) → Option Store → Hist
 HasTables looks None held old new None = new ≡ old
 HasTables looks (Some dma) held old new (Some t) = SawAfter looks dma DMA_MOST (Ok (whole t.bytes)) held old new × IsDmaFile t.bytes t.tables
 HasTables looks _ held old new _ = ⊥
+
+-- .. those of a name that there is
+abbrev pub AreTables : List Look → List ℕ → Option Store → History → History → TablesRead → Type 0
+AreTables looks dma held old new t = HasTables looks (Some dma) held old new (Some t)
 
 -- why there are none: the file isn't read, or it is none of tables
 pub data NotTables (looks : List Look) (dma : List ℕ) (held : Option Store) (old new : History) (error : CommandError) : Type 0 where
@@ -99,6 +112,11 @@ pub record IsReady (command : List ℕ → Command) (held : Option Store) (old n
   pub known : AreKnown looks found
   pub asked : (name : List ℕ) (more : List Look) → IsAtMost name RECORD_MOST more → Asks (Some (command name)) (looks ++ more)
   pub answers : (name : List ℕ) → OverLooks looks (λ m. answer_of m (Some (command name)) ≡ input_answer m name i tables)
+
+-- .. `run` has, of this image and of these tables or none
+abbrev pub IsReadyToRun : List ℕ → Option (List ℕ) → Option Store → History → History → BeforeRecord → Type 0
+IsReadyToRun image dma held old new x =
+    IsReady (λ inputs. run image inputs dma) held old new (read_before image x.bytes dma x.tables) x.parts (option_map (λ t. t.tables) x.tables)
 
 -- ---- the image of an accepted policy, read again
 

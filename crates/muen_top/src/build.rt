@@ -3,10 +3,10 @@
 ghost use Rattle.std.specs.Prelude.{◌≡◌, ℕ, List, Option, Some, IfOk, IfErr, IfSome, is_some, option_map};
 ghost use Rattle.muen_outside.specs.States.{SinkState};
 ghost use Rattle.policy_lawful.specs.Resolution.{source_of};
-ghost use Rattle.muen_top.specs.Calls.{ComesOfCommand};
+ghost use Rattle.muen_top.specs.Calls.{ComesOfBuild};
 ghost use Rattle.muen_top.specs.Commands.{build as build_command};
 ghost use Rattle.muen_top.specs.Images.{IsBuilt};
-ghost use Rattle.muen_top.specs.Kept.{EndsTables, EndsWrite, EndsWrites};
+ghost use Rattle.muen_top.specs.Kept.{EndsBuilt, EndsTables, EndsWrite};
 ghost use Rattle.muen_top.specs.PolicyCommands.{StopsCommand};
 ghost use Rattle.muen_top.specs.Tables.{IsTablesFor};
 
@@ -83,7 +83,7 @@ fn write_tables<'a, F: Files>(
     tables: Option<Vec<u8>>,
     files: &mut F,
 ) -> Outcome<'a>
-    ensures { EndsTables (option_map (λ name. name.now) dma.entry) (option_map (λ v. v.items) tables) (F.held files.old) (F.held files.new) (F.history files.old) (F.history files.new) result }
+    ensures { EndsTables (option_map (λ n. n.now) dma.entry) (option_map (λ v. v.items) tables) (F.held files.old) (F.held files.new) (F.history files.old) (F.history files.new) result }
 {
     match (dma, tables) {
         (Some(name), Some(bytes)) => write_file(alloc, name, &bytes, files),
@@ -99,7 +99,7 @@ fn write_all<'a, F: Files>(
     built: Built,
     files: &mut F,
 ) -> Outcome<'a>
-    ensures { EndsWrites image.now built.image.items (option_map (λ name. name.now) dma.entry) (option_map (λ v. v.items) built.tables) (F.held files.old) (F.held files.new) (F.history files.old) (F.history files.new) result }
+    ensures { EndsBuilt image.now (option_map (λ n. n.now) dma.entry) built (F.held files.old) (F.held files.new) (F.history files.old) (F.history files.new) result }
 {
     match write_file(alloc, image, &built.image, files) {
         Outcome::Done => write_tables(alloc, dma, built.tables, files),
@@ -116,7 +116,7 @@ pub(crate) fn build<'a, F: Files>(
     dma: Option<&'a str>,
     files: &mut F,
 ) -> Outcome<'a>
-    ensures { (out : SinkState) → ComesOfCommand (Some (build_command policy.now image.now (option_map (λ name. name.now) dma.entry))) (F.held files.old) (F.held files.new) (F.history files.old) (F.history files.new) out out result }
+    ensures { (out : SinkState) → ComesOfBuild policy.now image.now (option_map (λ n. n.now) dma.entry) (F.held files.old) (F.held files.new) (F.history files.old) (F.history files.new) out out result }
 {
     match built_of(alloc, policy, dma.is_some(), files) {
         Ok(built) => write_all(alloc, image, dma, built, files),

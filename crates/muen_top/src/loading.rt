@@ -2,8 +2,8 @@
 ghost use Rattle.std.specs.Prelude.{◌≡◌, [], ◌∷◌, List, Some, Ok, IfOk, IfErr, option_map};
 ghost use Rattle.muen_outside.specs.States.{Look, look};
 ghost use Rattle.muen_outside.specs.Store.{reading_of, whole};
-ghost use Rattle.muen_top.specs.FilesSeen.{Saw, SawAfter};
-ghost use Rattle.muen_top.specs.Loads.{IsKnown, NotRead, NotReadAfter, NotWithin};
+ghost use Rattle.muen_top.specs.FilesSeen.{Saw};
+ghost use Rattle.muen_top.specs.Loads.{IsKnown, NotRead, NotReadAfter, NotWithin, ReadAfter};
 
 use crate::outcome::CommandError;
 use muen_num::{NoMemory, Seq};
@@ -64,8 +64,8 @@ pub(crate) fn load_too<'a, F: Files>(
     most: usize,
     files: &mut F,
 ) -> Result<Seq<u8>, CommandError<'a>>
-    ensures ok { (looks : List Look) → IsKnown looks name.now (option_map (λ bytes. bytes.now) known.entry) → IfOk result (λ found. SawAfter looks name.now most (Ok (whole found)) (F.held files.old) (F.history files.old) (F.history files.new)) }
-    ensures err { (looks : List Look) → IsKnown looks name.now (option_map (λ bytes. bytes.now) known.entry) → IfErr result (NotReadAfter looks name.now most (F.held files.old) (F.history files.old) (F.history files.new)) }
+    ensures ok { (looks : List Look) → IsKnown looks name.now (option_map (λ b. b.now) known.entry) → IfOk result (ReadAfter looks name.now most (F.held files.old) (F.history files.old) (F.history files.new)) }
+    ensures err { (looks : List Look) → IsKnown looks name.now (option_map (λ b. b.now) known.entry) → IfErr result (NotReadAfter looks name.now most (F.held files.old) (F.history files.old) (F.history files.new)) }
     ensures held { F.held files.new ≡ F.held files.old }
 {
     match known {

@@ -1,6 +1,6 @@
 // The command `run`: an image, tables for direct memory access, if a file of them is named, and a record
 // are read, and the image's run is printed.
-ghost use Rattle.std.specs.Prelude.{◌≡◌, ◌∷◌, [], List, ℕ, Ok, Err, Some, IfOk, IfErr, if◌then◌else◌, None, option_map};
+ghost use Rattle.std.specs.Prelude.{◌≡◌, List, ℕ, Ok, Err, Some, IfOk, IfErr, if◌then◌else◌, None, option_map};
 ghost use Rattle.std.specs.Str.{bytes_eq};
 ghost use Rattle.image_pack.specs.Faults.{Tells, unpacked};
 ghost use Rattle.image_pack.specs.fault.ImageFault.{ImageFault};
@@ -10,12 +10,11 @@ ghost use Rattle.muen_num.specs.declared.limits.TheConstants.{IMAGE_MOST};
 ghost use Rattle.muen_outside.specs.States.{Look};
 ghost use Rattle.muen_outside.specs.Store.{find_bytes};
 ghost use Rattle.muen_run.specs.RunText.{run_text};
-ghost use Rattle.muen_top.specs.Answers.{prints};
-ghost use Rattle.muen_top.specs.Calls.{ComesOfCommand};
+ghost use Rattle.muen_top.specs.Calls.{ComesOfRun};
 ghost use Rattle.muen_top.specs.CommandErrors.{error_of_dma_fault};
 ghost use Rattle.muen_top.specs.Commands.{run as run_command};
-ghost use Rattle.muen_top.specs.Loads.{AreKnown, HasTables, IsKnown, IsReady, LacksTables, NotTables, read_before};
-ghost use Rattle.muen_top.specs.PolicyCommands.{IsAnswered, StopsCommand};
+ghost use Rattle.muen_top.specs.Loads.{AreTables, HasTables, IsKnown, IsReadyToRun, KnowsAlone, LacksTables, NotTables, read_before};
+ghost use Rattle.muen_top.specs.PolicyCommands.{IsAnsweredByRun, StopsCommand};
 ghost use Rattle.muen_top.specs.Runs.{RunsTo};
 ghost use Rattle.record_text.specs.Law.{IsOrderly};
 
@@ -81,8 +80,8 @@ fn read_tables<'a, F: Files>(
     dma: &'a str,
     files: &mut F,
 ) -> Result<TablesRead, CommandError<'a>>
-    ensures ok { (looks : List Look) → IsKnown looks dma.now (option_map (λ bytes. bytes.now) known.entry) → IfOk result (λ t. HasTables looks (Some dma.now) (F.held files.old) (F.history files.old) (F.history files.new) (Some t)) }
-    ensures err { (looks : List Look) → IsKnown looks dma.now (option_map (λ bytes. bytes.now) known.entry) → IfErr result (NotTables looks dma.now (F.held files.old) (F.history files.old) (F.history files.new)) }
+    ensures ok { (looks : List Look) → IsKnown looks dma.now (option_map (λ b. b.now) known.entry) → IfOk result (AreTables looks dma.now (F.held files.old) (F.history files.old) (F.history files.new)) }
+    ensures err { (looks : List Look) → IsKnown looks dma.now (option_map (λ b. b.now) known.entry) → IfErr result (NotTables looks dma.now (F.held files.old) (F.history files.old) (F.history files.new)) }
     ensures held { F.held files.new ≡ F.held files.old }
 {
     let bytes = load_too(alloc, known, dma, DMA_MOST, files)?;
@@ -98,8 +97,8 @@ fn read_named<'a, F: Files>(
     dma: Option<&'a str>,
     files: &mut F,
 ) -> Result<Option<TablesRead>, CommandError<'a>>
-    ensures ok { (looks : List Look) → AreKnown looks ((image.now, bytes.now) ∷ []) → IfOk result (HasTables looks (option_map (λ name. name.now) dma.entry) (F.held files.old) (F.history files.old) (F.history files.new)) }
-    ensures err { (looks : List Look) → AreKnown looks ((image.now, bytes.now) ∷ []) → IfErr result (LacksTables looks (option_map (λ name. name.now) dma.entry) (F.held files.old) (F.history files.old) (F.history files.new)) }
+    ensures ok { (looks : List Look) → KnowsAlone looks image.now bytes.now → IfOk result (HasTables looks (option_map (λ n. n.now) dma.entry) (F.held files.old) (F.history files.old) (F.history files.new)) }
+    ensures err { (looks : List Look) → KnowsAlone looks image.now bytes.now → IfErr result (LacksTables looks (option_map (λ n. n.now) dma.entry) (F.held files.old) (F.history files.old) (F.history files.new)) }
     ensures held { F.held files.new ≡ F.held files.old }
 {
     match dma {
@@ -118,8 +117,8 @@ fn ready<'a, F: Files>(
     dma: Option<&'a str>,
     files: &mut F,
 ) -> Result<BeforeRecord, CommandError<'a>>
-    ensures ok { IfOk result (λ x. IsReady (λ inputs. run_command image.now inputs (option_map (λ name. name.now) dma.entry)) (F.held files.old) (F.history files.old) (F.history files.new) (read_before image.now x.bytes (option_map (λ name. name.now) dma.entry) x.tables) x.parts (option_map (λ t. t.tables) x.tables)) }
-    ensures err { IfErr result (λ error. (inputs : List ℕ) → StopsCommand (run_command image.now inputs (option_map (λ name. name.now) dma.entry)) (F.held files.old) (F.history files.old) (F.history files.new) error) }
+    ensures ok { IfOk result (IsReadyToRun image.now (option_map (λ n. n.now) dma.entry) (F.held files.old) (F.history files.old) (F.history files.new)) }
+    ensures err { IfErr result (λ error. (inputs : List ℕ) → StopsCommand (run_command image.now inputs (option_map (λ n. n.now) dma.entry)) (F.held files.old) (F.history files.old) (F.history files.new) error) }
     ensures held { F.held files.new ≡ F.held files.old }
 {
     let bytes = load(alloc, image, IMAGE_MOST, files)?;
@@ -140,7 +139,7 @@ fn known_before<'b>(
     tables: &'b Option<TablesRead>,
     name: &str,
 ) -> Option<&'b [u8]>
-    ensures { option_map (λ found. found.now) result ≡ find_bytes name.now (read_before image.now bytes.now (option_map (λ name. name.now) dma.entry) tables.now) }
+    ensures { option_map (λ found. found.now) result ≡ find_bytes name.now (read_before image.now bytes.now (option_map (λ n. n.now) dma.entry) tables.now) }
 {
     if let (Some(dma), Some(found)) = (dma, tables) {
         if name == dma {
@@ -168,9 +167,9 @@ fn read_all<'a, F: Files>(
     dma: Option<&'a str>,
     files: &mut F,
 ) -> Result<Loaded, CommandError<'a>>
-    ensures ok { IfOk result (λ x. IsAnswered (run_command image.now inputs.now (option_map (λ name. name.now) dma.entry)) (F.held files.old) (F.history files.old) (F.history files.new) (prints (run_text x.tables x.parts x.input))) }
+    ensures ok { IfOk result (IsAnsweredByRun (run_command image.now inputs.now (option_map (λ n. n.now) dma.entry)) (F.held files.old) (F.history files.old) (F.history files.new)) }
     ensures orderly { IfOk result (λ x. IsOrderly x.input) }
-    ensures err { IfErr result (StopsCommand (run_command image.now inputs.now (option_map (λ name. name.now) dma.entry)) (F.held files.old) (F.history files.old) (F.history files.new)) }
+    ensures err { IfErr result (StopsCommand (run_command image.now inputs.now (option_map (λ n. n.now) dma.entry)) (F.held files.old) (F.history files.old) (F.history files.new)) }
     ensures held { F.held files.new ≡ F.held files.old }
 {
     let ready = ready(alloc, image, dma, files)?;
@@ -211,7 +210,7 @@ pub(crate) fn run<'a, F: Files, S: Sink>(
     files: &mut F,
     out: &mut S,
 ) -> Outcome<'a>
-    ensures { ComesOfCommand (Some (run_command image.now inputs.now (option_map (λ name. name.now) dma.entry))) (F.held files.old) (F.held files.new) (F.history files.old) (F.history files.new) (S.state out.old) (S.state out.new) result }
+    ensures { ComesOfRun image.now inputs.now (option_map (λ n. n.now) dma.entry) (F.held files.old) (F.held files.new) (F.history files.old) (F.history files.new) (S.state out.old) (S.state out.new) result }
 {
     match read_all(alloc, image, inputs, dma, files) {
         Ok(loaded) => run_image(alloc, loaded, out),

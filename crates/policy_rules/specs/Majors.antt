@@ -1,11 +1,12 @@
 -- Rule 16 of a resolved policy: major frames, with the groups by their indexes.
 use Rattle.std.specs.Prelude.{ℕ, ◌==◌, ◌&&◌, not, Bool, true, List, [], length, slice_get, nat_lt, Option, option_map}
 use Rattle.std.specs.Option.{option_map_or, option_or}
-use Rattle.std.specs.List.{list_any, list_all}
+use Rattle.std.specs.List.{enumerate_from, list_any, list_all}
 use Rattle.muen_num.specs.Range.{numbers_below}
 use Rattle.muen_num.specs.Search.{first_in, first_after, unless}
 use Rattle.policy_lawful.specs.ByIndex.{ticks_in}
 use Rattle.policy_lawful.specs.Offences.{two}
+use Rattle.policy_lawful.specs.Resolution.{Resolution}
 use Rattle.policy_lawful.specs.Rules.{major_name, cpu_name, is_on}
 use Rattle.policy_lawful.specs.declared.offence.Offence.{Offence}
 use Rattle.policy_lawful.specs.declared.resolved.Group.{Group}
@@ -43,3 +44,8 @@ missing_offence cpus k cpu = unless (is_listed cpus cpu) (two (major_name k) (cp
 abbrev pub major_offence : List Group → ℕ → ℕ × MajorFrame → Option Offence
 major_offence groups count (k, m) =
     option_or (first_after (entry_offence groups k) [] m.cpus) (first_in (missing_offence m.cpus k) (numbers_below count))
+
+-- the first of any major frame
+abbrev pub frames_offence : Resolution → Option Offence
+frames_offence r =
+    first_in (major_offence r.scheduling.groups r.processor.logical_cpus) (enumerate_from 0 r.scheduling.major_frames)

@@ -8,7 +8,7 @@ ghost use Rattle.muen_num.specs.Search.{first_in, first_after};
 ghost use Rattle.policy_lawful.specs.Offences.{two};
 ghost use Rattle.policy_lawful.specs.Rules.{major_name, cpu_name, is_on, offence_16, tau0_offence};
 ghost use Rattle.policy_lawful.specs.Resolution.{IsResolved, source_of};
-ghost use Rattle.policy_rules.specs.Majors.{cpu_of_group, is_frame, has_first_ticks, is_listed, is_entry, entry_offence, missing_offence, major_offence};
+ghost use Rattle.policy_rules.specs.Majors.{cpu_of_group, is_frame, has_first_ticks, is_listed, is_entry, entry_offence, missing_offence, major_offence, frames_offence};
 
 use crate::tau0::tau0;
 use muen_num::first_numbered;
@@ -122,7 +122,7 @@ fn of_majors(groups: &[Group], count: u64, majors: &[MajorFrame]) -> Option<Offe
 
 // The first offence of a major frame of the policy.
 fn of_frames(policy: &Linked) -> Option<Offence>
-    ensures value { result ≡ first_in (major_offence policy.now.scheduling.groups policy.now.processor.logical_cpus) (enumerate_from 0 policy.now.scheduling.major_frames) }
+    ensures value { result ≡ frames_offence policy.now }
     ensures resolved { IsResolved policy.now }
 {
     let plan = policy.scheduling();
@@ -135,7 +135,7 @@ fn of_frames(policy: &Linked) -> Option<Offence>
 
 // The first offence of a major frame, else of who chooses them.
 fn of_all(policy: &Linked) -> Option<Offence>
-    ensures value { result ≡ option_or (first_in (major_offence policy.now.scheduling.groups policy.now.processor.logical_cpus) (enumerate_from 0 policy.now.scheduling.major_frames)) (tau0_offence (source_of policy.now) policy.now.scheduling.tau0) }
+    ensures value { result ≡ option_or (frames_offence policy.now) (tau0_offence (source_of policy.now) policy.now.scheduling.tau0) }
     ensures resolved { IsResolved policy.now }
 {
     of_frames(policy).or_else(|| tau0(policy))
