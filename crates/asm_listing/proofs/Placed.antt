@@ -1,11 +1,9 @@
 -- Where the items of a source that is read stand, and what their bytes are.
-use Rattle.std.proofs.Common.{◌≡◌, ℕ, zero, suc, ◌+◌, ◌-◌, ◌*◌, ◌%◌, ◌<◌, ◌≤◌, true, false, ℤ, pos, List, [], ◌∷◌, length, replicate, None, ap, sym, ◌∙◌, subst, w32, arith}
-use Rattle.std.specs.Prelude.{◌==◌, if◌then◌else◌}
+use Rattle.std.proofs.Common.{◌≡◌, ℕ, zero, suc, ◌+◌, ◌-◌, ◌*◌, ◌%◌, ◌<◌, ◌≤◌, ℤ, pos, List, [], ◌∷◌, length, ap, sym, ◌∙◌, subst, w32, arith}
 use Rattle.std.specs.Int.{bytes_low_first, byte_at, cast_unsigned, to_le_bytes}
 use Rattle.std.specs.Int.RustNames.{FitsSigned}
 use Rattle.std.specs.List.{All, flat_map}
 use Rattle.std.proofs.lemmas.List.Elements.{All-append, All-cons, All-nil, All-replicate}
-use lib.ListN.{length-replicate}
 use Rattle.muen_num.specs.AccessSize.{bytes_of}
 use Rattle.muen_num.specs.declared.access.AccessSize.{AccessSize}
 use Rattle.muen_num.specs.declared.access.AccessSize.TheVariants.{One, Two, Four, Eight}
@@ -13,7 +11,6 @@ use Rattle.muen_num.specs.declared.limits.TheConstants.{COMPONENT_FILE_MOST}
 use Rattle.guest_isa.specs.GuestIsa.{IsValid, code_of, encoding_of, fields, spelled}
 use Rattle.guest_isa.specs.declared.instr.Instr.{Instr}
 use Rattle.guest_isa.specs.declared.instr.Instr.TheVariants.{Nop, Li, Lih, Mov, Add, Sub, And, Or, Xor, Shl, Shr, Load, Store, Jmp, Jz, Jnz, Jb, In, Out, Rdmsr, Wrmsr, Rdtsc, Vmcall, Hlt, Sti, Cli, Setv, Reti}
-use native.Mathlib.Nat.{add_comm}
 use Rattle.text_words.specs.Parts.{lines_of}
 use Rattle.asm_text.specs.Appended.{behind}
 use Rattle.asm_text.specs.Layout.{Names, at_start, in_line, layout_from}

@@ -30,7 +30,7 @@ use Rattle.muen_num.proofs.Lists.{passes_at}
 use Rattle.muen_num.specs.Naming.{is_name}
 use Rattle.muen_num.specs.declared.limits.TheConstants.{MOST_MSRS, PAGE, PHYSICAL_END}
 use Rattle.muen_num.specs.declared.tag.TagPart.TheVariants.{Iobm, Msrbm, Msrs, State}
-use Rattle.subject_emit.specs.Area.{count_of}
+use Rattle.msrbm_emit.specs.Area.{count_of}
 use Rattle.policy_lawful.proofs.KeptCpus.{cpus_kept}
 use Rattle.policy_lawful.proofs.KeptRules.{rules_of}
 use Rattle.policy_lawful.specs.Resolution.{source_of, subject_named}

@@ -3,7 +3,7 @@ use Rattle.std.proofs.Common.{◌≡◌, ◌∙◌, refl, [], ap, arith, ℕ, su
 use Rattle.std.specs.List.{sum_by}
 use Rattle.std.proofs.Math.Seq.{take-suc}
 use Rattle.std.proofs.lemmas.List.Sums.{sum_by-take-le, sum_by_push}
-use Rattle.subject_emit.specs.Area.{count_of, size_of}
+use Rattle.msrbm_emit.specs.Area.{count_of, size_of}
 use Rattle.policy_lawful.specs.resources.MsrGrant.{MsrGrant}
 
 pub count_none : 0 ≡ count_of []

@@ -9,7 +9,7 @@ use Rattle.std.proofs.lemmas.Slice.Zip.{AllZip-long}
 use Rattle.expand_kernel.specs.Grants.{AreGrantsOf}
 use Rattle.expand_kernel.specs.granted.Grants.{Grants}
 use Rattle.image_emit.specs.Fitting.{AreFew}
-use Rattle.subject_emit.specs.Area.{count_of}
+use Rattle.msrbm_emit.specs.Area.{count_of}
 use Rattle.muen_num.proofs.Lists.{each_from, there}
 use Rattle.policy_lawful.proofs.KeptPlan.{PlanKept, plan_kept}
 use Rattle.policy_lawful.proofs.KeptRules.{rules_of}

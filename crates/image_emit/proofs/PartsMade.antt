@@ -10,7 +10,7 @@ use Rattle.image_emit.specs.Fitting.{AreFew}
 use Rattle.image_emit.specs.Made.{subject_part}
 use Rattle.image_emit.specs.Parting.{IsParting, parts_from}
 use Rattle.image_pack.specs.declared.parts.SubjectPart.{SubjectPart}
-use Rattle.subject_emit.specs.Area.{count_of}
+use Rattle.msrbm_emit.specs.Area.{count_of}
 use Rattle.policy_lawful.specs.declared.resolved.Subject.{Subject}
 use Rattle.region_alloc.specs.Placed.{Placement}
 

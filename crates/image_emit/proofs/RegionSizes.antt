@@ -14,8 +14,8 @@ use Rattle.expand_kernel.specs.declared.region.Region.{Region}
 use Rattle.expand_kernel.proofs.Numbering.{regions_by_index}
 use Rattle.image_emit.specs.Made.{IsMade, Made, kernel_bytes, policy_of, region_bytes}
 use Rattle.image_soundness.specs.Exits.{area_bytes}
-use Rattle.subject_emit.specs.Area.{area_of, count_of, entries_of, entry_of, size_of}
-use Rattle.subject_emit.proofs.AreaLaws.{length-area}
+use Rattle.msrbm_emit.specs.Area.{area_of, count_of, entries_of, entry_of, size_of}
+use Rattle.msrbm_emit.proofs.AreaLaws.{length-area}
 use Rattle.muen_num.specs.Range.{numbers_below}
 use Rattle.muen_num.specs.declared.limits.TheConstants.{PAGE}
 use Rattle.image_soundness.specs.PageFields.{padded}

@@ -2,7 +2,7 @@
 use Rattle.std.specs.Prelude.{◌≡◌, ℕ, ◌%◌, ◌<◌, ◌≤◌, true, length, nat_le, nat_lt}
 use Rattle.std.specs.List.{list_all}
 use Rattle.muen_num.specs.declared.limits.TheConstants.{MOST_CPUS, MOST_MSRS, MOST_REGIONS, MOST_SUBJECTS, PAGE, PHYSICAL_END}
-use Rattle.subject_emit.specs.Area.{count_of}
+use Rattle.msrbm_emit.specs.Area.{count_of}
 use Rattle.region_alloc.specs.Placed.{Placement}
 use Rattle.subject_emit.specs.Mapped.{kernel_first}
 use Rattle.subject_emit.specs.Pages.{tables_at}

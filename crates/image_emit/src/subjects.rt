@@ -5,7 +5,7 @@ ghost use Rattle.std.specs.Str.{bytes_eq};
 ghost use Rattle.expand_kernel.specs.Regions.{kernel_number};
 ghost use Rattle.image_emit.specs.Fitting.{AreFew};
 ghost use Rattle.image_emit.specs.Made.{choice_of, subject_part};
-ghost use Rattle.subject_emit.specs.Area.{count_of, size_of};
+ghost use Rattle.msrbm_emit.specs.Area.{count_of, size_of};
 
 use ept_emit::eptp;
 use event_emit::EventTables;
@@ -52,7 +52,7 @@ fn size_of(grant: &MsrGrant) -> u64
 }
 
 // How many MSRs are granted.
-#[tactic(auto, unfolding(subject_emit::specs::Area::count_of))]
+#[tactic(auto, unfolding(msrbm_emit::specs::Area::count_of))]
 fn count_of(msrs: &[MsrGrant]) -> u64
     requires { count_of msrs.now ≤ MOST_MSRS }
     ensures { result ≡ count_of msrs.now }

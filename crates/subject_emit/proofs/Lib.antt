@@ -10,4 +10,3 @@ pub mod SamePages
 pub mod ShownViews
 pub mod Suited
 pub mod TablesReady
-pub use Rattle.msrbm_emit.proofs.AreaLaws

@@ -1,8 +1,7 @@
 //! Whole calls over files and sinks in memory.
-use muen_outside::{MemFiles, MemSink};
 use std::alloc::Global;
 use std::test::Fail;
-use tests_support::{call, changed, file, has_pieces, numbers, text_of};
+use tests_support::{MemFiles, MemSink, call, changed, file, has_pieces, numbers, text_of};
 
 pub(crate) const POLICY: &str = r#"{"processor":{"logicalCpus":1},
 "memoryBlocks":[{"name":"ram","physicalAddress":1048576,"size":65536}],

@@ -1,9 +1,8 @@
 //! Damaged images and records, and calls that fail, in tables.
 use crate::calls::{POLICY, files};
-use muen_outside::{MemFiles, MemSink};
 use std::alloc::Global;
 use std::test::Fail;
-use tests_support::{Ended, call, file};
+use tests_support::{Ended, MemFiles, MemSink, call, file};
 
 // The image of a subject that loads a number and halts.
 fn image(alloc: Global) -> Result<Vec<u8>, Fail> {

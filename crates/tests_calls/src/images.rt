@@ -1,8 +1,7 @@
 //! Calls of `build`. Which bytes an image has is tested where it is packed.
 use crate::calls::{FROM_FILES, POLICY, files};
-use muen_outside::{MemFiles, MemSink};
 use std::test::Fail;
-use tests_support::{call, changed};
+use tests_support::{MemFiles, MemSink, call, changed};
 
 // Whether an image stands under a name: the bytes with which it begins.
 fn has_image(files: &MemFiles, name: &str) -> bool {

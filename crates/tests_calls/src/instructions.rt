@@ -1,9 +1,8 @@
 //! Whole calls of `boot` on systems of one and of two subjects, over files and sinks in memory. The
 //! expected lines were worked out by hand.
-use muen_outside::{MemFiles, MemSink};
 use std::alloc::Global;
 use std::test::Fail;
-use tests_support::{call, changed, file, has_pieces};
+use tests_support::{MemFiles, MemSink, call, changed, file, has_pieces};
 
 // A subject with a page to read and write, one to read, and the last page of guest addresses to read.
 const ONE: &str = r#"{"processor":{"logicalCpus":1},

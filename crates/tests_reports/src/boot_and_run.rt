@@ -2,10 +2,9 @@
 //! prints doesn't depend on one from which nothing flows to it.
 use crate::run_systems::{CHANNEL, DEVICE, EVENT, HANDOVER};
 use crate::systems::{CHOICE, GATEWAY, MONITOR, ONE, SHARED};
-use muen_outside::{MemFiles, MemSink};
 use std::alloc::Global;
 use std::test::Fail;
-use tests_support::{Ended, call, changed, file, has_pieces};
+use tests_support::{Ended, MemFiles, MemSink, call, changed, file, has_pieces};
 
 // A file whose sixteen bytes behind the first eight are the code of ONE_RAN.
 const CODE_FILE: &[u8] = b"\xff\xff\xff\xff\xff\xff\xff\xff\

@@ -1,9 +1,8 @@
 //! A device that writes into memory by itself: `boot` holds it to the tables that it makes, `run` to those
 //! that it is handed, and without tables it drops what the device writes.
-use muen_outside::{MemFiles, MemSink};
 use std::alloc::Global;
 use std::test::Fail;
-use tests_support::{Ended, call, file, numbers};
+use tests_support::{Ended, MemFiles, MemSink, call, file, numbers};
 
 // The device `nic` is in a domain with `buf` at its address 4096, and with `log`, to read, behind it.
 const NIC: &str = r#"{"processor":{"logicalCpus":1},

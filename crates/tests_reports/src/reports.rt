@@ -2,10 +2,9 @@
 use crate::systems::{
     CHOICE, FIXED, FIXED_MAP, GATEWAY, GATEWAY_FLOWS, MONITOR, ONE, ONE_MAP, SHARED,
 };
-use muen_outside::{MemFiles, MemSink};
 use std::alloc::Global;
 use std::test::Fail;
-use tests_support::{Ended, call, changed, file, numbers};
+use tests_support::{Ended, MemFiles, MemSink, call, changed, file, numbers};
 
 // How a call ends where the file `p` holds the policy and the calls of these digits fail.
 fn reported(alloc: Global, words: &str, policy: &str, fails: &str) -> Result<Ended, Fail> {

@@ -2,10 +2,10 @@
 ghost use Rattle.std.specs.Prelude.{◌≡◌, IfOk};
 
 use crate::runs::{image, text_of};
-use muen_outside::MemSink;
 use muen_run::{Ready, Record, Seq, drive, ready, unpack};
 use std::alloc::Global;
 use std::test::Fail;
+use tests_support::MemSink;
 
 /// A subject that loads a number and halts.
 const ONE: &str = r#"{"processor":{"logicalCpus":1},

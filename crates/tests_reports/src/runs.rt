@@ -1,10 +1,9 @@
 //! Calls of `build`, and then of `run` on the image that was written.
 use crate::run_systems::{CHANNEL, LEAVES, OWN_TABLES};
 use crate::systems::GATEWAY;
-use muen_outside::{MemFiles, MemSink};
 use std::alloc::Global;
 use std::test::Fail;
-use tests_support::{Ended, call, file, numbers};
+use tests_support::{Ended, MemFiles, MemSink, call, file, numbers};
 
 // The image of a policy.
 pub(crate) fn image(alloc: Global, policy: &str) -> Result<Vec<u8>, Fail> {

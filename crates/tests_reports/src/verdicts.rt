@@ -1,9 +1,8 @@
 //! Calls of `verify`, on images as they were built and with bytes changed.
 use crate::systems::GATEWAY;
-use muen_outside::{MemFiles, MemSink};
 use std::alloc::Global;
 use std::test::Fail;
-use tests_support::{call, changed, file, numbers};
+use tests_support::{MemFiles, MemSink, call, changed, file, numbers};
 
 const ONE: &str = r#"{"processor":{"logicalCpus":1},
 "memoryBlocks":[{"name":"ram","physicalAddress":1048576,"size":65536}],

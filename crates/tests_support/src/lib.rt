@@ -2,7 +2,7 @@
 //! with changes.
 #![tactic(auto)]
 
-use muen_outside::{MemFiles, MemSink};
+pub use muen_outside::{MemFiles, MemSink};
 use muen_top::muen;
 use std::alloc::Global;
 use std::test::Fail;

@@ -1,6 +1,6 @@
 -- What is known while the grants are gone through.
 use Rattle.std.proofs.Common.{◌≡◌, take}
-use Rattle.subject_emit.specs.Area.{count_of}
+use Rattle.msrbm_emit.specs.Area.{count_of}
 use Rattle.image_emit.proofs.subjects.count_of.Given as goal
 
 abbrev pub invariant-loop-grant : goal.invariant-loop-grant
