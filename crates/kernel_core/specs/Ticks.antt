@@ -1,5 +1,5 @@
 -- The kernel over a run: how a tick begins, what inputs do, and how all ends (this project's own).
-use Rattle.std.specs.Prelude.{ℕ, List, [], ◌∷◌, map, replicate, slice_get, slice_set, Option, Some, None, option_and_then, unwrap_or}
+use Rattle.std.specs.Prelude.{ℕ, List, [], ◌∷◌, map, replicate, slice_get, slice_set, Option, Some, None, option_and_then, unwrap_or, Bool}
 use Rattle.muen_num.specs.Range.{numbers_below}
 use Rattle.vmx_machine.specs.Memory.{Page}
 use Rattle.device_bench.specs.record.Record.{Record}
@@ -11,7 +11,10 @@ use Rattle.event_router.specs.Router.{started as router_started, pends_now}
 use Rattle.frame_clock.specs.Run.{Clocked, Ran, run_to}
 use Rattle.view_text.specs.declared.TurnLine.{TurnLine}
 use Rattle.vmx_machine.specs.Machine.{MachineState, page_at, started as machine_started, left, device_wrote}
-use Rattle.kernel_core.specs.Kernel.{Live, turn_of}
+use Rattle.kernel_core.specs.declared.turn.Turn.{Turn}
+use Rattle.image_pack.specs.declared.parts.SubjectPart.{SubjectPart}
+use Rattle.guest_isa.specs.state.SubjectState.{SubjectState}
+use Rattle.kernel_core.specs.Kernel.{Live, acts, turn_of}
 use Rattle.kernel_core.specs.declared.setup.Setup.{Setup}
 
 -- ---- the start: nobody is on a CPU, nothing is pending, and no port has had an input
