@@ -5,5 +5,5 @@ use Rattle.policy_lawful.specs.Resolution.{IsResolved}
 
 pub returns : goal.returns
 returns c =
-    plan_told c.args.lawful.now (subst IsResolved c.resolved.ensures.value c.subjects-subjects.ensures.resolved)
+    plan_told c.args.lawful.now (subst IsResolved c.resolved.ensures.value c.is_resolved.ensures.is)
     c.in_ok-made.made c.args.given.now c.in_ok-made.ensures c.same_plan.result c.same_plan.ensures
