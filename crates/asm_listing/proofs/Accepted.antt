@@ -6,11 +6,10 @@ use Rattle.std.proofs.lemmas.Bool.{and_parts, leb-true, ltb-true}
 use Rattle.muen_num.specs.declared.access.AccessSize.{AccessSize}
 use Rattle.guest_isa.specs.GuestIsa.{IsValid}
 use Rattle.guest_isa.specs.declared.instr.Instr.{Instr}
-use Rattle.text_words.specs.Steps.{◌>>=◌, ◌>>◌}
 use Rattle.asm_text.specs.Layout.{Names}
 use Rattle.asm_text.specs.Meaning.{fits, fits_signed, if_fits, immediate_by, immediate_of, residue, sum_of, distance_by, jump_by}
 use Rattle.asm_text.specs.Mnemonics.{instruction_with, shape_of}
-use Rattle.asm_text.specs.Reading.{number, size, value}
+use Rattle.asm_text.specs.Reading.{size}
 use Rattle.asm_text.specs.declared.fault.Want.{Want}
 use Rattle.asm_text.specs.declared.fault.Want.TheVariants.{Near, Range}
 use Rattle.asm_text.specs.declared.meaning.Sum.{Sum}

@@ -1,6 +1,6 @@
 -- Bytes in pieces of eight, and what such a piece spells.
-use Rattle.std.proofs.Common.{◌≡◌, ℕ, zero, suc, ◌+◌, ◌-◌, ◌*◌, ◌/◌, ◌%◌, ◌^◌, ◌<◌, Bool, true, false, ltb, ℤ, pos, negsuc, List, [], ◌∷◌, ◌++◌, length, get_or, Option, Some, None, refl, ap, ◌∙◌, w32, to_z-of_z, arith}
-use Rattle.std.specs.Prelude.{◌==◌, option_and_then}
+use Rattle.std.proofs.Common.{◌≡◌, ℕ, suc, ◌+◌, ◌-◌, ◌*◌, ◌/◌, ◌%◌, ◌^◌, ◌<◌, Bool, true, false, ltb, ℤ, pos, negsuc, List, [], ◌∷◌, ◌++◌, length, get_or, Option, Some, None, refl, ap, ◌∙◌, w32, to_z-of_z, arith}
+use Rattle.std.specs.Prelude.{◌==◌, if◌then◌else◌, option_and_then}
 use Rattle.std.specs.Int.{cast_signed, cast_unsigned, from_le_bytes, to_le_bytes}
 use Rattle.std.specs.Int.RustNames.{FitsSigned}
 use Rattle.std.specs.List.{All}
@@ -76,6 +76,10 @@ abbrev AreRead : Option Instr → Type 0
 AreRead None = Unit {0}
 AreRead (Some i) = IsRead i
 
+-- one row of the table, or the others
+either : (P : Option Instr → Type 0) (t : Bool) {x y : Option Instr} → P x → P y → P (if t then x else y)
+either P t one others = at_test P t (λ _. one) others
+
 module _ (b : List ℕ) (l : length b ≡ 8) (all : All (λ x. x < 256) b) where
   byte_low : (k : ℕ) → k < 8 → get_or b k 0 < 256
   byte_low k h = all k 0 (omega arith)
@@ -123,40 +127,40 @@ module _ (b : List ℕ) (l : length b ≡ 8) (all : All (λ x. x < 256) b) where
       let f = fields_of b in
       let P = AreRead in
       let o = λ (opcode : ℕ). f.opcode == opcode in
-      at_test P (o 17) (of_port_row (λ size. In f.rd f.rs size (imm_of f)) (λ size small. ((rd_low, rs_low), small)) (λ size. imm_fits))
-      (at_test P (o 18) (of_port_row (λ size. Out f.rd f.rs size (imm_of f)) (λ size small. ((rd_low, rs_low), small)) (λ size. imm_fits))
-      (at_test P (o 19) (of_row true true false false (Rdmsr f.rd f.rs) (rd_low, rs_low) none_fits)
-      (at_test P (o 20) (of_row true true false false (Wrmsr f.rd f.rs) (rd_low, rs_low) none_fits)
-      (at_test P (o 21) (of_row true false false false (Rdtsc f.rd) rd_low none_fits)
-      (at_test P (o 22) (of_row false true false false (Vmcall f.rs) rs_low none_fits)
-      (at_test P (o 23) (of_row false false false false Hlt tt none_fits)
-      (at_test P (o 24) (of_row false false false false Sti tt none_fits)
-      (at_test P (o 25) (of_row false false false false Cli tt none_fits)
-      (at_test P (o 26) (of_row false true false false (Setv f.rs) rs_low none_fits)
-      (at_test P (o 27) (of_row false false false false Reti tt none_fits) tt))))))))))
+      either P (o 17) (of_port_row (λ size. In f.rd f.rs size (imm_of f)) (λ size small. ((rd_low, rs_low), small)) (λ size. imm_fits))
+      (either P (o 18) (of_port_row (λ size. Out f.rd f.rs size (imm_of f)) (λ size small. ((rd_low, rs_low), small)) (λ size. imm_fits))
+      (either P (o 19) (of_row true true false false (Rdmsr f.rd f.rs) (rd_low, rs_low) none_fits)
+      (either P (o 20) (of_row true true false false (Wrmsr f.rd f.rs) (rd_low, rs_low) none_fits)
+      (either P (o 21) (of_row true false false false (Rdtsc f.rd) rd_low none_fits)
+      (either P (o 22) (of_row false true false false (Vmcall f.rs) rs_low none_fits)
+      (either P (o 23) (of_row false false false false Hlt tt none_fits)
+      (either P (o 24) (of_row false false false false Sti tt none_fits)
+      (either P (o 25) (of_row false false false false Cli tt none_fits)
+      (either P (o 26) (of_row false true false false (Setv f.rs) rs_low none_fits)
+      (either P (o 27) (of_row false false false false Reti tt none_fits) tt))))))))))
 
   of_instruction : AreRead (instruction_of (fields_of b))
   of_instruction =
       let f = fields_of b in
       let P = AreRead in
       let o = λ (opcode : ℕ). f.opcode == opcode in
-      at_test P (o 0) (of_row false false false false Nop tt none_fits)
-      (at_test P (o 1) (of_row true false false true (Li f.rd (imm_of f)) rd_low imm_fits)
-      (at_test P (o 2) (of_row true false false true (Lih f.rd (imm_of f)) rd_low imm_fits)
-      (at_test P (o 3) (of_row true true false false (Mov f.rd f.rs) (rd_low, rs_low) none_fits)
-      (at_test P (o 4) (of_row true true false false (Add f.rd f.rs) (rd_low, rs_low) none_fits)
-      (at_test P (o 5) (of_row true true false false (Sub f.rd f.rs) (rd_low, rs_low) none_fits)
-      (at_test P (o 6) (of_row true true false false (And f.rd f.rs) (rd_low, rs_low) none_fits)
-      (at_test P (o 7) (of_row true true false false (Or f.rd f.rs) (rd_low, rs_low) none_fits)
-      (at_test P (o 8) (of_row true true false false (Xor f.rd f.rs) (rd_low, rs_low) none_fits)
-      (at_test P (o 9) (of_row true true false false (Shl f.rd f.rs) (rd_low, rs_low) none_fits)
-      (at_test P (o 10) (of_row true true false false (Shr f.rd f.rs) (rd_low, rs_low) none_fits)
-      (at_test P (o 11) (of_sized_row (λ size. Load f.rd f.rs size (imm_of f)) (λ size. (rd_low, rs_low)) (λ size. imm_fits))
-      (at_test P (o 12) (of_sized_row (λ size. Store f.rd f.rs size (imm_of f)) (λ size. (rd_low, rs_low)) (λ size. imm_fits))
-      (at_test P (o 13) (of_row false false false true (Jmp (imm_of f)) tt imm_fits)
-      (at_test P (o 14) (of_row true false false true (Jz f.rd (imm_of f)) rd_low imm_fits)
-      (at_test P (o 15) (of_row true false false true (Jnz f.rd (imm_of f)) rd_low imm_fits)
-      (at_test P (o 16) (of_row true true false true (Jb f.rd f.rs (imm_of f)) (rd_low, rs_low) imm_fits) of_system_instruction))))))))))))))))
+      either P (o 0) (of_row false false false false Nop tt none_fits)
+      (either P (o 1) (of_row true false false true (Li f.rd (imm_of f)) rd_low imm_fits)
+      (either P (o 2) (of_row true false false true (Lih f.rd (imm_of f)) rd_low imm_fits)
+      (either P (o 3) (of_row true true false false (Mov f.rd f.rs) (rd_low, rs_low) none_fits)
+      (either P (o 4) (of_row true true false false (Add f.rd f.rs) (rd_low, rs_low) none_fits)
+      (either P (o 5) (of_row true true false false (Sub f.rd f.rs) (rd_low, rs_low) none_fits)
+      (either P (o 6) (of_row true true false false (And f.rd f.rs) (rd_low, rs_low) none_fits)
+      (either P (o 7) (of_row true true false false (Or f.rd f.rs) (rd_low, rs_low) none_fits)
+      (either P (o 8) (of_row true true false false (Xor f.rd f.rs) (rd_low, rs_low) none_fits)
+      (either P (o 9) (of_row true true false false (Shl f.rd f.rs) (rd_low, rs_low) none_fits)
+      (either P (o 10) (of_row true true false false (Shr f.rd f.rs) (rd_low, rs_low) none_fits)
+      (either P (o 11) (of_sized_row (λ size. Load f.rd f.rs size (imm_of f)) (λ size. (rd_low, rs_low)) (λ size. imm_fits))
+      (either P (o 12) (of_sized_row (λ size. Store f.rd f.rs size (imm_of f)) (λ size. (rd_low, rs_low)) (λ size. imm_fits))
+      (either P (o 13) (of_row false false false true (Jmp (imm_of f)) tt imm_fits)
+      (either P (o 14) (of_row true false false true (Jz f.rd (imm_of f)) rd_low imm_fits)
+      (either P (o 15) (of_row true false false true (Jnz f.rd (imm_of f)) rd_low imm_fits)
+      (either P (o 16) (of_row true true false true (Jb f.rd f.rs (imm_of f)) (rd_low, rs_low) imm_fits) of_system_instruction))))))))))))))))
 
   -- what eight bytes decode to is an instruction of the table, and they are its spelling
   pub decoded : AreDecoded b (decode_of b)
