@@ -106,8 +106,10 @@ impl<M: PhysMem, T: Translate> Kernel<M, T> {
         self.machine.mem()
     }
 
-    /// What translates guest addresses.
-    pub fn walker(&self) -> &T {
+    /// What translates guest addresses, of the memory as it is.
+    pub fn walker(&self) -> &T
+        ensures { T.fits result.now self.now.live.machine.pages }
+    {
         self.machine.walker()
     }
 

@@ -54,8 +54,10 @@ impl<M: PhysMem, T: Translate> Bus<M, T> {
         &self.memory
     }
 
-    /// What translates guest addresses.
-    pub(crate) fn walker(&self) -> &T {
+    /// What translates guest addresses, of the memory as it is.
+    pub(crate) fn walker(&self) -> &T
+        ensures { T.fits result.now self.now }
+    {
         &self.walker
     }
 

@@ -66,8 +66,10 @@ impl<M: PhysMem, T: Translate> Machine<M, T> {
         self.bus.memory()
     }
 
-    /// What translates guest addresses.
-    pub fn walker(&self) -> &T {
+    /// What translates guest addresses, of the memory as it is.
+    pub fn walker(&self) -> &T
+        ensures { T.fits result.now self.now.pages }
+    {
         self.bus.walker()
     }
 
