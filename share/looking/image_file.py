@@ -214,7 +214,7 @@ class Reader:
         spans = self.bytes.within(2, 0, 1152, "count")
         choice = None
         if magic == b"MUENIMG2":
-            choice = self.bytes.within(2, 0, spans - 1, "number")
+            choice = self.bytes.within(2, 0, spans - 1, "span")
         self.bytes.zero(6 if choice is None else 4)
         return (spans, subjects, groups, frames, devices), choice
 
