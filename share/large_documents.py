@@ -6,6 +6,7 @@ import pathlib
 import random
 import resource
 import subprocess
+import sys
 import tempfile
 
 MOST = 4 << 20
@@ -363,6 +364,8 @@ def main():
     words.add_argument("--keep", type=pathlib.Path, help="a folder for the ten slowest documents")
     said = words.parse_args()
     program = pathlib.Path(said.program).resolve()
+    if not program.is_file():
+        sys.exit(f"large_documents: {said.program} isn't there")
     found = []
     with tempfile.TemporaryDirectory() as folder:
         for what, text in documents(random.Random(said.seed), said.random):

@@ -152,7 +152,7 @@ def group_lines(system):
 def frame_sections(system):
     """docs/image.md, each major frame; docs/scheduling.md has the plan."""
     for number, frame in enumerate(system.image.frames):
-        lines = [f"{frame.ticks} ticks"]
+        lines = [f"{frame.ticks} tick{'' if frame.ticks == 1 else 's'}"]
         for cpu, minors in enumerate(frame.minor_frames):
             row = [f"group {group} ({system.name(system.image.groups[group].first)}) {ticks}"
                    for group, ticks in minors]

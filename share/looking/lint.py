@@ -45,10 +45,11 @@ def faults_of(policy):
     for finding in broken(policy):
         spot = finding.nodes[0].spot if finding.nodes else policy.document.spot
         yield spot, f"{finding.text} ({finding.line})"
-    provided = [node for component in policy.components for node in component.items("provides")]
-    for region in [*policy.memory, *provided]:
+    held = [(name(region), region) for region in policy.memory]
+    held += [(f"{name(subject)}|{name(region, 'logical')}", region) for subject in policy.subjects
+             if (component := policy.component(subject)) is not None for region in component.items("provides")]
+    for whose, region in held:
         content, size = region.get("content"), number_of(region.get("size"))
         digits = content.text("hex") if content is not None else None
         if digits is not None and size is not None and len(digits) // 2 > size:
-            whose = name(region) or name(region, "logical")
             yield content.get("hex").spot, f"{whose}: {len(digits) // 2} bytes in room for {size}"

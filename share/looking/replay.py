@@ -206,5 +206,6 @@ def agrees(found, turn):
     if found.shows != shows:
         return False
     if turn.kind == "register":
-        return found.rd == facts["register"]
+        known = {"LI": found.imm % guest.WORD, "RDTSC": turn.tick}.get(found.name, facts["value"])
+        return (found.rd, known) == (facts["register"], facts["value"])
     return found.size in (0, facts.get("size"), facts.get("bytes"))

@@ -13,8 +13,8 @@ LONG_HELP = """Prints each line of a turn anew: tick, CPU, subject, where its in
 instruction as the image has it (or as stores of the text have made it), and what
 happened. Addresses are told as REGION+OFFSET, of the region that the subject sees
 there; they, values and ports are hexadecimal, other numbers decimal. Final lines stay.
-The text may be cut: what it doesn't tell is left out. What devices write into code
-isn't in a text; an instruction that its line contradicts is shown as `?`."""
+The text may begin and end at any line: what it doesn't tell is left out. What devices
+write into code isn't in a text; an instruction that its line contradicts is shown as `?`."""
 
 
 def add_arguments(parser):
