@@ -461,7 +461,10 @@ def main(words):
         policy = json.loads(pathlib.Path(words[0]).read_text(encoding="utf-8"))
     except (OSError, ValueError) as error:
         sys.exit(f"spell_image: {words[0]}: {error}")
-    parts = list(parts_of(System(policy)))
+    try:
+        parts = list(parts_of(System(policy)))
+    except (AttributeError, LookupError, TypeError, ValueError) as error:
+        sys.exit(f"spell_image: {words[0]}: no policy that keeps all rules, or one with contents from files: {error!r}")
     if len(words) == 2:
         pathlib.Path(words[1]).write_bytes(b"".join(part for _, part in parts))
         return

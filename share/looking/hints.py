@@ -59,7 +59,8 @@ def of_code(policy):
         content = node.get("content")
         digits = content.text("hex") if content is not None else None
         if digits and len(digits) // 2 % INSTRUCTION:
-            yield Hint(content.get("hex"), f"the code has {len(digits) // 2} bytes, no multiple of 8")
+            count = len(digits) // 2
+            yield Hint(content.get("hex"), f"the code has {count} byte{'' if count == 1 else 's'}, no multiple of 8")
 
 
 def of_unused(policy):
