@@ -1,4 +1,4 @@
-//! Guests in assembly: the bytes that a source says, and a source of bytes.
+//! Guests in assembly: the bytes that a source says.
 #![tactic(auto)]
 
 mod assembling;

@@ -56,10 +56,10 @@ use std::alloc::Global;
 /// |---|---|---|
 /// | 0 | the text was put, or the image was written, and the tables where they are wanted | |
 /// | 1 | the words are none of the forms | `usage: ..` |
-/// | 2 | the policy is no JSON text, breaks the schema or a rule, has more bytes for a region than there is room (`build`, `boot`), or has a region that can't be placed (`build`, `boot`, `map`) | `not JSON`, `shape at PLACE: want WANT`, `rule N: FIRST SECOND`, `REGION: LENGTH bytes in room for ROOM`, `no room for REGION of SIZE bytes` |
+/// | 2 | the policy is no JSON text, breaks the schema or a rule, has more bytes for a region than there is room (`build`, `boot`, `verify`), or has a region that can't be placed (`build`, `boot`, `map`) | `not JSON`, `shape at PLACE: want WANT`, `rule N: FIRST SECOND`, `REGION: LENGTH bytes in room for ROOM`, `no room for REGION of SIZE bytes` |
 /// | 3 | a file isn't there, or is longer than 4 MiB (policy), 64 MiB (a content, tables), 96 MiB (image) or 16 MiB (record) | `missing file NAME`, `file NAME has LENGTH bytes` |
 /// | 4 | the last look at `files` failed; or the last write, of the image or of the tables, and what stands under its name may have changed | `file fault` |
-/// | 5 | the image is refused (`run`) | `image refused at AT: FIELD` |
+/// | 5 | the image is refused (`run`, `verify`) | `image refused at AT: FIELD` |
 /// | 6 | the record is refused (`boot`, `run`) | `record refused at line LINE: WHY` |
 /// | 7 | a call on `out` failed; a front of the text was put | `output fault` |
 /// | 8 | memory was refused, before the first turn; where that was for the last write, of the image or of the tables, what stands under its name may have changed | `out of memory` |
