@@ -1,4 +1,4 @@
-use Rattle.std.proofs.Common.{true, false, sym, ap, ◌∙◌, drop, ◌+◌}
+use Rattle.std.proofs.Common.{sym, ap, ◌∙◌, drop, ◌+◌}
 use Rattle.std.specs.Prelude.{◌||◌}
 use Rattle.std.specs.List.{list_any}
 use Rattle.policy_views.proofs.SightsAtIndex.{behind_read, front_read}
