@@ -29,7 +29,7 @@ fn files(alloc: Global, fails: Vec<u64>) -> Result<MemFiles, Fail> {
 
 // A call with these words, between which are spaces: its status, a space, what is put to the error
 // sink, and what to the output.
-fn call(
+pub(crate) fn call(
     alloc: Global,
     words: &str,
     files: &mut MemFiles,
@@ -72,7 +72,7 @@ const CALLS: [(&str, &str); 17] = [
         "2 muen_asm: line 2, column 3: want an instruction, data, .at or a name\n",
     ),
     (
-        "bin number made",
+        "bin number unmade",
         "2 muen_asm: line 1, column 8: out of range\n",
     ),
     (
@@ -95,24 +95,38 @@ fn answers(rt: HostRuntime) -> Result<(), Fail> {
     }
     let bytes = b"\x17\0\0\0\0\0\0\0\x0d\0\0\0\xf8\xff\xff\xff\x01\xff";
     assert!(rt; files.get("made") == Some(bytes.as_slice()));
+    assert!(rt; files.get("unmade").is_none());
     Ok(())
 }
 
+// A file of so many blanks is read, and then the output fails, or it is too long.
 #[test]
-fn a_long_source(rt: HostRuntime) -> Result<(), Fail> {
+fn the_longest_files(rt: HostRuntime) -> Result<(), Fail> {
     let alloc = rt.alloc();
-    let mut held = Vec::new(alloc);
-    held.push((
-        String::from_str(alloc, "long")?,
-        vec![in alloc; b' '; 16_777_217]?,
-    ))?;
-    let mut files = MemFiles::make(held, Vec::new(alloc));
-    let mut out = MemSink::make(alloc, 10, Vec::new(alloc), 0)?;
-    let answer = call(alloc, "hex long", &mut files, &mut out)?;
-    assert_eq!(rt;
-        answer.as_str(),
-        "3 muen_asm: file long has 16777217 bytes\n"
-    );
+    for (length, words, want) in [
+        (16_777_216, "hex long", "7 muen_asm: output fault\n"),
+        (
+            16_777_217,
+            "hex long",
+            "3 muen_asm: file long has 16777217 bytes\n",
+        ),
+        (67_108_864, "text long", "7 muen_asm: output fault\n"),
+        (
+            67_108_865,
+            "text long",
+            "3 muen_asm: file long has 67108865 bytes\n",
+        ),
+    ] {
+        let mut held = Vec::new(alloc);
+        held.push((
+            String::from_str(alloc, "long")?,
+            vec![in alloc; b' '; length]?,
+        ))?;
+        let mut files = MemFiles::make(held, Vec::new(alloc));
+        let mut out = MemSink::make(alloc, 10, vec![in alloc; 0]?, 0)?;
+        let answer = call(alloc, words, &mut files, &mut out)?;
+        assert_eq!(rt; answer.as_str(), want, "{words}");
+    }
     Ok(())
 }
 
@@ -125,6 +139,25 @@ fn files_that_fail(rt: HostRuntime) -> Result<(), Fail> {
         let mut out = MemSink::make(alloc, 200, Vec::new(alloc), 0)?;
         let answer = call(alloc, words, &mut files, &mut out)?;
         assert_eq!(rt; answer.as_str(), "4 muen_asm: file fault\n", "{words}");
+    }
+    Ok(())
+}
+
+// What a further look or write would meet.
+#[test]
+fn files_that_fail_too_late(rt: HostRuntime) -> Result<(), Fail> {
+    let alloc = rt.alloc();
+    for (call_that_fails, words) in [
+        (1, "hex wait"),
+        (1, "lines wait 0"),
+        (1, "text wait"),
+        (1, "bin word made"),
+        (2, "bin wait made"),
+    ] {
+        let mut files = files(alloc, vec![in alloc; call_that_fails]?)?;
+        let mut out = MemSink::make(alloc, 200, Vec::new(alloc), 0)?;
+        let answer = call(alloc, words, &mut files, &mut out)?;
+        assert!(rt; !answer.as_str().starts_with("4"), "{words}");
     }
     Ok(())
 }

@@ -6,3 +6,5 @@
 mod calls;
 #[cfg(test)]
 mod listings;
+#[cfg(test)]
+mod sources;

@@ -378,3 +378,42 @@ fn long_files(rt: HostRuntime) -> Result<(), Fail> {
     }
     Ok(())
 }
+
+// Each command keeps the limit of each kind of file: what has a byte more than tables may have is no image.
+const LIMITS: &str = r#"build long i | 3 muen: file long has 4194305 bytes
+map long | 3 muen: file long has 4194305 bytes
+flows long | 3 muen: file long has 4194305 bytes
+verify i long | 3 muen: file long has 4194305 bytes
+run i longer | 3 muen: file longer has 16777217 bytes
+run i three longest | 3 muen: file longest has 67108865 bytes
+run longest three | 5 muen: image refused at 0: magic"#;
+
+#[test]
+fn limits_of_each_command(rt: HostRuntime) -> Result<(), Fail> {
+    let alloc = rt.alloc();
+    let mut held = Vec::new(alloc);
+    held.push(file(alloc, "p", POLICY.as_bytes())?)?;
+    held.push(file(alloc, "three", b"end 3\n")?)?;
+    for (name, length) in [
+        ("long", 4_194_305),
+        ("longer", 16_777_217),
+        ("longest", 67_108_865),
+    ] {
+        held.push((
+            String::from_str(alloc, name)?,
+            vec![in alloc; b' '; length]?,
+        ))?;
+    }
+    let mut files = MemFiles::make(held, Vec::new(alloc));
+    let mut out = MemSink::make(alloc, 10, Vec::new(alloc), 0)?;
+    let built = call(alloc, "build p i", &mut files, &mut out)?;
+    assert_eq!(rt; built.answer(alloc)?.as_str(), "0 ");
+    for row in LIMITS.split('\n') {
+        let Some((words, want)) = row.split_once(" | ") else {
+            return Err(Fail::new("no row"));
+        };
+        let ended = call(alloc, words, &mut files, &mut out)?;
+        assert_eq!(rt; ended.line(alloc)?.as_str(), want, "{row}");
+    }
+    Ok(())
+}

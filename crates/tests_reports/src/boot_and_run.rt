@@ -47,8 +47,7 @@ fn text_of(ended: Ended) -> Result<String, Fail> {
 
 // Systems of several elements. Each block has a record, whose lines end with strokes, and changes to the
 // system; then come pieces of the text, between which are three points.
-const CHANNEL_RUNS: &str = "\
-end 5/
+const CHANNEL_RUNS: &str = r#"end 5/
 0 0 writer 0000000000400000 r1=0000000000000007
 ...
 4 0 writer 0000000000400020 store 8 0000000000600000 0000000000000007
@@ -73,9 +72,17 @@ order 0 1 0/order 4 1 0/end 5/
 4 1 reader 0000000000400020 r5=0000000000000000
 4 0 writer 0000000000400020 store 8 0000000000600000 0000000000000007
 ...
-regs reader 4 0000000000000000 0000000000000000 ...";
+regs reader 4 0000000000000000 0000000000000000 ...
 
-// Deliverable at any turn, or at the first tick of a minor frame.
+end 5/ | "name":"ch","size":4096=>"name":"ch","size":8192 | 0c12030000000000=>0c12030000100000
+...
+4 0 writer 0000000000400020 store 8 0000000000601000 0000000000000007
+...
+region ch 1889a315501c02dbdfb824ded42781585538ac3e243f3544ee93fa4790b6c278
+..."#;
+
+// Deliverable at any turn, or at the first tick of a minor frame and after an exit. HLT and VMCALL
+// raise none by a trap with their reason.
 const EVENT_RUNS: &str = r#"end 14/
 0 0 a 0000000000400000 r3=0000000000000001
 0 1 b 0000000000400000 r9=00000000003fff20
@@ -98,6 +105,27 @@ end 11/ | "asap"=>"async"
 9 1 b 0000000000400048 -
 ...
 10 1 b 0000000000400050 inject 40
+...
+
+end 9/ | "asap"=>"async" | 18000000000000000000000000000000=>18000000000000001600000000000000
+...
+7 1 b 0000000000400038 exit 18 0000000000000000 0000000000000000 on
+...
+8 1 b 0000000000400040 inject 40
+...
+
+end 9/ | "call":1=>"trap":12 | 1603000000000000=>1700000000000000
+...
+3 0 a 0000000000400018 exit 12 0000000000000000 0000000000000000 halt
+...
+7 1 b 0000000000400038 -
+...
+
+end 9/ | "call":1=>"trap":18
+...
+3 0 a 0000000000400018 exit 18 0000000000000000 0000000000000000 on
+...
+7 1 b 0000000000400038 -
 ..."#;
 
 // A handover counts from the group's next turn, whatever the target does then.
@@ -158,9 +186,10 @@ end 5/
 4 0 m 0000000000400010 r6=000000000000000a
 ...";
 
-// The eight bytes twice in the device's memory, and then zeros.
+// Of two inputs of a tick the later one counts. In the end the device's memory has the eight bytes twice, and
+// then zeros.
 const DEVICE_RUNS: &str = "\
-port 2 net 768 171/mem 4 net buf 0 0102030405060708/irq 6 net rx/end 16/
+port 2 net 768 170/port 2 net 768 171/mem 4 net buf 0 ff/mem 4 net buf 0 0102030405060708/irq 6 net rx/end 16/
 0 0 one 0000000000400000 r9=00000000003fff20
 ...
 3 0 one 0000000000400018 r1=00000000000000ab
@@ -174,6 +203,11 @@ port 2 net 768 171/mem 4 net buf 0 0102030405060708/irq 6 net rx/end 16/
 11 0 one 0000000000400040 wrmsr 00000174 0807060504030201
 12 0 one 0000000000400048 r6=0807060504030201
 13 0 one 0000000000400050 out 1 0301 000000ab
+...
+end one 0000000000400020 0000000000400030 00000000003fff20 1
+regs one 0 0000000000000000 00000000000000ab 0000000000700000 0807060504030201
+regs one 4 0000000000000201 0000000000000174 0807060504030201 0000000000000000
+regs one 8 0000000000000000 00000000003fff20 0000000000000000 0000000000000000
 ...
 device net|buf 366447bf910f46ae2d5c302a63775e8ab920e6f692c00a1b8d68f6a1f08055d6
 ...";

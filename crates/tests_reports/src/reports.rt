@@ -1,4 +1,5 @@
 //! Calls of `map` and `flows`.
+use crate::run_systems::DEVICE;
 use crate::systems::{
     CHOICE, FIXED, FIXED_MAP, GATEWAY, GATEWAY_FLOWS, MONITOR, ONE, ONE_MAP, SHARED,
 };
@@ -64,6 +65,7 @@ fn maps_of_several_subjects(rt: HostRuntime) -> Result<(), Fail> {
     for line in [
         "region 0000000001028000 0000000000001000 plain|text\n",
         "window cipher 0000000000601000 0000000000001000 r job\n",
+        "window plain 0000000000400000 0000000000001000 rx plain|text\n",
     ] {
         assert!(rt;
             gateway.status == 0 && gateway.out.as_str().contains(line),
@@ -73,6 +75,11 @@ fn maps_of_several_subjects(rt: HostRuntime) -> Result<(), Fail> {
     let monitor = reported(alloc, "map p", MONITOR, "")?;
     let last = "window m 0000000000600000 0000000000001000 r s:state\n";
     assert!(rt; monitor.status == 0 && monitor.out.as_str().ends_with(last));
+    let device = reported(alloc, "map p", DEVICE, "")?;
+    let last = "\ndevice 0000000000200000 0000000000001000 net|buf\n\
+window one 0000000000400000 0000000000001000 rx code\n\
+window one 0000000000700000 0000000000001000 rw net|buf\n";
+    assert!(rt; device.status == 0 && device.out.as_str().ends_with(last));
     Ok(())
 }
 

@@ -240,3 +240,72 @@ fn the_put_fails(rt: HostRuntime) -> Result<(), Fail> {
     assert_eq!(rt; ended.out.as_str(), "sou");
     Ok(())
 }
+
+// What of the second subject's part of the image of TWO is told, and of two faults the first: words of its part (its CPU, group,
+// MSRs and spans at 2888, its EPTP at 2904, its name at 2912), and of the first one's state page.
+#[test]
+fn whose_and_which_first(rt: HostRuntime) -> Result<(), Fail> {
+    let alloc = rt.alloc();
+    for (words, want) in [
+        (&[(2888, 0x000b_0009_0001_0100)][..], "section e b"),
+        (&[(2888, 0x000b_0004_0000_0100)], "section g a"),
+        (&[(2912, 0x6301)], "section h b"),
+        (&[(2904, 0x1e)], "section c b"),
+        (&[(2904, 0x10_001e)], "twice b 0000000000000000"),
+        // two of them
+        (&[(2888, 0x000b_0004_0001_0100)], "section e b"),
+        (
+            &[(2888, 0x000b_0004_0000_0100), (2912, 0x6301)],
+            "section g a",
+        ),
+        (&[(2904, 0x1e), (2912, 0x6301)], "section h b"),
+    ] {
+        let image = built(alloc, TWO, words)?;
+        let mut line = String::from_str(alloc, "9 muen: not sound: ")?;
+        line.push_str(want)?;
+        assert!(rt; judged(alloc, &image, TWO)? == line, "{want}");
+    }
+    Ok(())
+}
+
+// The image of a policy of several, for the policy with a change.
+#[test]
+fn another_policy_of_several(rt: HostRuntime) -> Result<(), Fail> {
+    let alloc = rt.alloc();
+    for (policy, change, want) in [
+        (TWO, "\"fill\":171=>\"fill\":172", "section a page_b"),
+        (
+            TWO,
+            "\"name\":\"page_b\"=>\"name\":\"page_c\" | \"region\":\"page_b\"=>\"region\":\"page_c\"",
+            "section a page_c",
+        ),
+        (
+            TWO,
+            ",{\"name\":\"page_b\",\"size\":4096,\"content\":{\"fill\":171}}=> | ,\n{\"region\":\"page_b\",\"virtualAddress\":5242880,\"rights\":\"r\"}=>",
+            "section a page_b",
+        ),
+        (
+            TWO,
+            "\"name\":\"b\",\"cpu\":0,\"entry\":4194304=>\"name\":\"b\",\"cpu\":0,\"entry\":4194312",
+            "section f b",
+        ),
+        (
+            TWO,
+            "\"entry\":4194304=>\"entry\":4194312 | \"entry\":4194304=>\"entry\":4194312",
+            "section f a",
+        ),
+        (GATEWAY, "\"ioPorts\":[\"regs\"],=>", "section d black"),
+        (
+            GATEWAY,
+            "\"irqs\":[{\"name\":\"rx\"}]=>\"irqs\":[{\"name\":\"tx\"}] | \"irq\":\"rx\"=>\"irq\":\"tx\"",
+            "section h net",
+        ),
+    ] {
+        let image = built(alloc, policy, &[])?;
+        let other = changed(alloc, policy, change)?;
+        let mut line = String::from_str(alloc, "9 muen: not sound: ")?;
+        line.push_str(want)?;
+        assert!(rt; judged(alloc, &image, other.as_str())? == line, "{want}");
+    }
+    Ok(())
+}
