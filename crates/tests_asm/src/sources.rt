@@ -85,7 +85,7 @@ const FAULTS: [(&str, &str); 61] = [
     ),
     ("LI r16, 1", "1, column 4: want a register"),
     ("LI r01, 1", "1, column 4: want a register"),
-    ("VMCALL R1", "1, column 8: want a register"),
+    ("VMCALL R9", "1, column 8: want a register"),
     ("MOV r1, 1", "1, column 9: want a register"),
     ("LI r1 1", "1, column 7: want a comma"),
     (".byte 1 2", "1, column 9: want a comma"),
