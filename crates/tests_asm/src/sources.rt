@@ -1,4 +1,4 @@
-//! Sources: the bytes that each says, or its first fault, against what was worked out by hand.
+//! Sources: the bytes that each says, or its first fault, as docs/assembly.md has them.
 use crate::calls::call;
 use muen_outside::{MemFiles, MemSink};
 use std::alloc::Global;
