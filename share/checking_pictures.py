@@ -22,6 +22,7 @@ from looking.draw_flows import dot_text
 from looking.draw_trace import KINDS, SLOT
 from looking.scene import scene_of
 from looking.svg import width
+from looking.words import counted
 
 SVG = "{http://www.w3.org/2000/svg}"
 PICTURES = EXAMPLES / "pictures"
@@ -373,7 +374,7 @@ def rows_of(scheduling):
         counts = [(row.count(group["name"]), len(row)) for row in rows]
         waits = [max((len(list(run)) for has, run in groupby(order, key=group["name"].__eq__) if not has), default=0) for order in orders]
         lacking = [at for at, (ticks, _) in enumerate(counts) if not ticks]
-        wait = f"{max(waits)} tick{'' if max(waits) == 1 else 's'}" if not lacking else NO_END.format(lacking[0]) if chosen else "no end"
+        wait = counted(max(waits), "tick") if not lacking else NO_END.format(lacking[0]) if chosen else "no end"
         yield (" ".join(group["subjects"]), str(own), " / ".join(f"{ticks} of {every}" for ticks, every in counts),
                " / ".join(f"{float(Fraction(100 * ticks, every)):.1f}".removesuffix(".0") + " %" for ticks, every in counts), wait)
 

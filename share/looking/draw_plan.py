@@ -3,6 +3,7 @@ from itertools import product
 
 from looking.scene import add_system, scene_of
 from looking.svg import Picture, round_step, shortened, widest, width
+from looking.words import counted
 
 HELP = "bars of the scheduling plan, share and longest wait of each group"
 LONG_HELP = """Draws for each major frame and CPU the minor frames as bars, and below for each group its
@@ -30,15 +31,10 @@ def draw(arguments):
     return picture.svg(f"the plan of {scene.source}")
 
 
-def in_ticks(count):
-    """So many ticks, in words."""
-    return f"{count} tick{'' if count == 1 else 's'}"
-
-
 def heading(picture, scene):
     """How the major frames follow one another."""
-    count, ticks = len(scene.frames), in_ticks(sum(frame.ticks for frame in scene.frames))
-    picture.text(LEFT, 20, f"{count} major frames, {ticks}" if count > 1 else f"1 major frame, {ticks}", bold=True, size=13)
+    count, ticks = len(scene.frames), counted(sum(frame.ticks for frame in scene.frames), "tick")
+    picture.text(LEFT, 20, f"{counted(count, 'major frame')}, {ticks}", bold=True, size=13)
     if scene.choice:
         who, region = " or ".join(scene.choosers) or "nobody", scene.choice
         picture.text(LEFT, 38, f"{shortened(who, 300)} chooses which comes next, by the first byte of {shortened(region, 300)}",
@@ -52,7 +48,7 @@ def draw_frame(picture, scene, number, wide, y):
     """The bars of a major frame, and its ticks."""
     frame = scene.frames[number]
     scale = wide / frame.ticks
-    picture.text(LEFT, y, f"major frame {number}: {in_ticks(frame.ticks)}", fill="#444")
+    picture.text(LEFT, y, f"major frame {number}: {counted(frame.ticks, 'tick')}", fill="#444")
     y += 8
     for cpu, minors in enumerate(frame.minor_frames):
         picture.text(8, y + BAR / 2 + 4, f"CPU {cpu}")
@@ -123,7 +119,7 @@ def numbers(scene, group):
     if wait is None:
         lacking = next(number for number, (own, _) in enumerate(counts) if not own)
         return ticks, shares, f"no end, if frame {lacking} is chosen again and again" if scene.choice else "no end"
-    return ticks, shares, in_ticks(wait)
+    return ticks, shares, counted(wait, "tick")
 
 
 def quotient(count):

@@ -6,6 +6,7 @@ from dataclasses import dataclass
 from looking.places import Node
 from looking.policy import first, name
 from looking.schema import number_of, repeated_keys
+from looking.words import counted
 
 # the exit reasons that may be trapped, as docs/policy.md has them
 TRAPPED = {0, 30, 31, 32, 48, 49}
@@ -59,8 +60,7 @@ def of_code(policy):
         content = node.get("content")
         digits = content.text("hex") if content is not None else None
         if digits and len(digits) // 2 % INSTRUCTION:
-            count = len(digits) // 2
-            yield Hint(content.get("hex"), f"the code has {count} byte{'' if count == 1 else 's'}, no multiple of 8")
+            yield Hint(content.get("hex"), f"the code has {counted(len(digits) // 2, 'byte')}, no multiple of 8")
 
 
 def of_unused(policy):

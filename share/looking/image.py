@@ -5,6 +5,7 @@ from looking import bitmaps, guest
 from looking.dma_file import Reaches, context_entries, domain_of, read_dma
 from looking.image_file import DEVICE, KINDS, PAGE
 from looking.system import System, size_text, span_part
+from looking.words import counted
 
 HELP = "what an image's bytes say: spans, windows, grants, events, plan, devices, DMA tables"
 LONG_HELP = """Prints what an image's bytes say, section by section: spans of memory; of each subject
@@ -56,7 +57,7 @@ def header_lines(system):
     counts = [(image.cpus, "CPU"), (len(image.subjects), "subject"), (len(image.groups), "group"),
               (len(image.frames), "major frame"), (len(image.devices), "device"),
               (len(image.spans), "span")]
-    text = ", ".join(f"{count} {word}{'' if count == 1 else 's'}" for count, word in counts)
+    text = ", ".join(counted(count, word) for count, word in counts)
     choice = image.choice
     return [text, f"the first byte of {choice.name} chooses the next major frame" if choice
             else "major frames follow one another"]
@@ -152,7 +153,7 @@ def group_lines(system):
 def frame_sections(system):
     """docs/image.md, each major frame; docs/scheduling.md has the plan."""
     for number, frame in enumerate(system.image.frames):
-        lines = [f"{frame.ticks} tick{'' if frame.ticks == 1 else 's'}"]
+        lines = [counted(frame.ticks, "tick")]
         for cpu, minors in enumerate(frame.minor_frames):
             row = [f"group {group} ({system.name(system.image.groups[group].first)}) {ticks}"
                    for group, ticks in minors]
