@@ -137,18 +137,13 @@ impl Element for Subjects {
     #[tactic(auto, unfolding(crate::specs::PolicyValue::subject_value))]
     fn build(&self, alloc: Global, i: u8) -> Result<Value, AllocError> {
         let count = 2 * self.cpus;
-        let name = numbered(alloc, "s", i)?;
-        let window = window(alloc, i)?;
-        let written = writer(alloc, i)?;
-        let read = reader(alloc, (i + count - 1) % count)?;
-        let devices = devices(alloc, i)?;
         json!(in alloc; {
-            "name": name,
+            "name": numbered(alloc, "s", i)?,
             "cpu": i / 2,
             "entry": 0x40_0000,
-            "memory": [window],
-            "channels": [written, read],
-            "devices": devices,
+            "memory": [window(alloc, i)?],
+            "channels": [writer(alloc, i)?, reader(alloc, (i + count - 1) % count)?],
+            "devices": devices(alloc, i)?,
         })
     }
 }
@@ -164,9 +159,11 @@ impl Element for Groups {
 
     #[tactic(auto, unfolding(crate::specs::PolicyValue::group_value))]
     fn build(&self, alloc: Global, i: u8) -> Result<Value, AllocError> {
-        let name = numbered(alloc, "g", i)?;
-        let subject = numbered(alloc, "s", i)?;
-        json!(in alloc; {"name": name, "cpu": i / 2, "subjects": [subject]})
+        json!(in alloc; {
+            "name": numbered(alloc, "g", i)?,
+            "cpu": i / 2,
+            "subjects": [numbered(alloc, "s", i)?],
+        })
     }
 }
 
@@ -190,8 +187,12 @@ impl Element for Frames {
 
     #[tactic(auto, unfolding(crate::specs::PolicyValue::frames_value))]
     fn build(&self, alloc: Global, j: u8) -> Result<Value, AllocError> {
-        let first = minor_frame(alloc, 2 * j, self.first)?;
-        let second = minor_frame(alloc, 2 * j + 1, 8 - self.first)?;
-        json!(in alloc; {"cpu": j, "minorFrames": [first, second]})
+        json!(in alloc; {
+            "cpu": j,
+            "minorFrames": [
+                minor_frame(alloc, 2 * j, self.first)?,
+                minor_frame(alloc, 2 * j + 1, 8 - self.first)?,
+            ],
+        })
     }
 }

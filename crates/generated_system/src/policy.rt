@@ -36,9 +36,10 @@ fn scheduling(alloc: Global, cpus: u8, first: u8) -> Result<Value, AllocError>
     requires first { first ≤ 8 }
     ensures { IfOk result (λ v. view v ≡ scheduling_value cpus first) }
 {
-    let groups = list(alloc, &Groups, 2 * cpus)?;
-    let frames = list(alloc, &Frames { first }, cpus)?;
-    json!(in alloc; {"groups": groups, "majorFrames": [{"cpus": frames}]})
+    json!(in alloc; {
+        "groups": list(alloc, &Groups, 2 * cpus)?,
+        "majorFrames": [{"cpus": list(alloc, &Frames { first }, cpus)?}],
+    })
 }
 
 // The document as a value.
@@ -48,20 +49,14 @@ fn value(alloc: Global, number: u16) -> Result<Value, AllocError>
 {
     let cpus = (1 + number % 4) as u8;
     let first = (1 + number % 7) as u8;
-    let memory = list(alloc, &Regions { number }, 2 * cpus)?;
-    let channels = list(alloc, &Channels, 2 * cpus)?;
-    let subjects = list(alloc, &Subjects { cpus }, 2 * cpus)?;
-    let device = device(alloc)?;
-    let block = block(alloc)?;
-    let scheduling = scheduling(alloc, cpus, first)?;
     json!(in alloc; {
         "processor": {"logicalCpus": cpus},
-        "memoryBlocks": [block],
-        "devices": [device],
-        "memory": memory,
-        "channels": channels,
-        "subjects": subjects,
-        "scheduling": scheduling,
+        "memoryBlocks": [block(alloc)?],
+        "devices": [device(alloc)?],
+        "memory": list(alloc, &Regions { number }, 2 * cpus)?,
+        "channels": list(alloc, &Channels, 2 * cpus)?,
+        "subjects": list(alloc, &Subjects { cpus }, 2 * cpus)?,
+        "scheduling": scheduling(alloc, cpus, first)?,
     })
 }
 

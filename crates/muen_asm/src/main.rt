@@ -3,8 +3,7 @@
 #![tactic(auto)]
 
 use asm_top::{Status, muen_asm};
-use muen_outside::{FolderFiles, Sink, WriterSink};
-use process_start::{hold_descriptors, words};
+use muen_outside::{FolderFiles, Sink, WriterSink, hold_descriptors, words};
 use std::process::ExitCode;
 
 fn main(rt: HostRuntime) -> ExitCode {

@@ -14,6 +14,7 @@ mod lines;
 mod mem_files;
 mod mem_sink;
 mod pieces;
+mod process;
 mod sink;
 mod writer_sink;
 
@@ -32,6 +33,7 @@ pub use lines::PrintedLine;
 pub use mem_files::MemFiles;
 pub use mem_sink::MemSink;
 pub use pieces::put_pieces;
+pub use process::{hold_descriptors, words};
 pub use sink::{Sink, SinkFault};
 pub use writer_sink::WriterSink;
 

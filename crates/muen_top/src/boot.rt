@@ -143,12 +143,11 @@ fn read_all<'a, F: Files>(
     let BeforeRecord { document, made } = ready(alloc, policy, files)?;
     let known = known_before(policy, document.items(), &made.files, inputs);
     let bytes = load_too(alloc, known, inputs, RECORD_MOST, files)?;
-    let Made { parts, tables, .. } = made;
-    let input = read_record(alloc, &parts, bytes.items())?;
+    let input = read_record(alloc, &made.parts, bytes.items())?;
     Ok(Loaded {
-        parts,
+        parts: made.parts,
         input,
-        tables: Some(tables),
+        tables: Some(made.tables),
     })
 }
 

@@ -175,12 +175,11 @@ fn read_all<'a, F: Files>(
     let ready = ready(alloc, image, dma, files)?;
     let known = known_before(image, ready.bytes.items(), dma, &ready.tables, inputs);
     let bytes = load_too(alloc, known, inputs, RECORD_MOST, files)?;
-    let BeforeRecord { parts, tables, .. } = ready;
-    let input = read_record(alloc, &parts, bytes.items())?;
+    let input = read_record(alloc, &ready.parts, bytes.items())?;
     Ok(Loaded {
-        parts,
+        parts: ready.parts,
         input,
-        tables: tables_of(tables),
+        tables: tables_of(ready.tables),
     })
 }
 

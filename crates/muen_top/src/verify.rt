@@ -161,23 +161,20 @@ fn read_all<'a, F: Files>(
     ensures err { IfErr result (StopsCommand (verify_command image.now policy.now) (F.held files.old) (F.history files.old) (F.history files.new)) }
     ensures held { F.held files.new ≡ F.held files.old }
 {
-    let ImageRead { parts, bytes } = read_image(alloc, image, files)?;
-    let PolicyRead {
-        policy: lawful,
-        document,
-    } = read_policy(alloc, image, bytes.items(), policy, files)?;
+    let read = read_image(alloc, image, files)?;
+    let found = read_policy(alloc, image, read.bytes.items(), policy, files)?;
     let things = read_contents(
         alloc,
         image,
-        bytes,
+        read.bytes,
         policy,
-        document.items(),
-        &lawful,
+        found.document.items(),
+        &found.policy,
         files,
     )?;
     Ok(ToJudge {
-        parts,
-        policy: lawful,
+        parts: read.parts,
+        policy: found.policy,
         things,
     })
 }

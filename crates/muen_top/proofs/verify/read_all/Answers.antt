@@ -4,33 +4,33 @@ use Rattle.muen_top.proofs.Verifying.{contents_have, contents_lack, not_lawful}
 use Rattle.muen_top.proofs.verify.read_all.Goals as goal
 
 -- the image isn't read
-pub returns-in_err-parts-clause-err : goal.returns-in_err-parts-clause-err
-returns-in_err-parts-clause-err g c =
+pub returns-in_err-read-clause-err : goal.returns-in_err-read-clause-err
+returns-in_err-read-clause-err g c =
     let left = err_from_is_err_and c.from_residual.result c.from_residual.ensures.1 in
-    rw (left.1, left.2) (c.in_err-parts.ensures.err c.args.policy.now)
+    rw (left.1, left.2) (c.in_err-read.ensures.err c.args.policy.now)
 
 -- the policy isn't
-pub returns-in_err-lawful-clause-err : goal.returns-in_err-lawful-clause-err
-returns-in_err-lawful-clause-err g c =
-    let left = err_from_is_err_and c.from_residual-in_err-lawful.result c.from_residual-in_err-lawful.ensures.1 in
-    let image = c.in_ok-parts.ensures in
+pub returns-in_err-found-clause-err : goal.returns-in_err-found-clause-err
+returns-in_err-found-clause-err g c =
+    let left = err_from_is_err_and c.from_residual-in_err-found.result c.from_residual-in_err-found.ensures.1 in
+    let image = c.in_ok-read.ensures in
     rw (left.1, left.2)
-    (not_lawful c.args.image.now _ _ _ _ c.in_ok-parts.field-0.bytes image.ok c.read_image.ensures.held c.in_ok-parts.field-0.parts image.parts.1 c.args.policy.now _ c.in_err-lawful.field-0.0 (rw c.items.ensures at c.in_err-lawful.ensures.err))
+    (not_lawful c.args.image.now _ _ _ _ c.in_ok-read.read.bytes image.ok c.read_image.ensures.held c.in_ok-read.read.parts image.parts.1 c.args.policy.now _ c.in_err-found.field-0.0 (rw c.items.ensures at c.in_err-found.ensures.err))
 
 -- its contents aren't
 pub returns-in_err-things-clause-err : goal.returns-in_err-things-clause-err
 returns-in_err-things-clause-err g c =
     let left = err_from_is_err_and c.from_residual-in_err-things.result c.from_residual-in_err-things.ensures.1 in
-    let image = c.in_ok-parts.ensures in
+    let image = c.in_ok-read.ensures in
     let lacks = rw (c.items-2.ensures) at c.in_err-things.ensures.err in
     rw (left.1, left.2)
-    (contents_lack c.args.image.now _ _ _ _ c.in_ok-parts.field-0.bytes image.ok c.read_image.ensures.held c.in_ok-parts.field-0.parts image.parts.1 c.args.policy.now _
-    c.in_ok-lawful.field-0.document c.in_ok-lawful.field-0.policy (rw c.items.ensures at c.in_ok-lawful.ensures.ok) _ (c.read_policy.ensures.held ∙ c.read_image.ensures.held) _ lacks.build_error c.in_err-things.field-0.0 lacks.lacks lacks.made)
+    (contents_lack c.args.image.now _ _ _ _ c.in_ok-read.read.bytes image.ok c.read_image.ensures.held c.in_ok-read.read.parts image.parts.1 c.args.policy.now _
+    c.in_ok-found.found.document c.in_ok-found.found.policy (rw c.items.ensures at c.in_ok-found.ensures.ok) _ (c.read_policy.ensures.held ∙ c.read_image.ensures.held) _ lacks.build_error c.in_err-things.field-0.0 lacks.lacks lacks.made)
 
 -- all is read
 pub returns-clause-ok : goal.returns-clause-ok
 returns-clause-ok g c =
-    let image = c.in_ok-parts.ensures in
-    contents_have c.args.image.now _ _ _ _ c.in_ok-parts.field-0.bytes image.ok c.read_image.ensures.held c.in_ok-parts.field-0.parts image.parts.1 c.args.policy.now _
-    c.in_ok-lawful.field-0.document c.in_ok-lawful.field-0.policy (rw c.items.ensures at c.in_ok-lawful.ensures.ok) _ (c.read_policy.ensures.held ∙ c.read_image.ensures.held) _ c.in_ok-things.things
+    let image = c.in_ok-read.ensures in
+    contents_have c.args.image.now _ _ _ _ c.in_ok-read.read.bytes image.ok c.read_image.ensures.held c.in_ok-read.read.parts image.parts.1 c.args.policy.now _
+    c.in_ok-found.found.document c.in_ok-found.found.policy (rw c.items.ensures at c.in_ok-found.ensures.ok) _ (c.read_policy.ensures.held ∙ c.read_image.ensures.held) _ c.in_ok-things.things
     (rw (c.items-2.ensures) at c.in_ok-things.ensures.ok) image.parts.0

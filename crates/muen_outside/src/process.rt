@@ -1,6 +1,5 @@
 //! What a program does at its start: it takes its words, and holds the descriptors of the standard streams.
-#![tactic(auto)]
-
+//! No clause can say what a process is given.
 use std::fs::File;
 use std::io::ErrorKind;
 use std::{env, io};

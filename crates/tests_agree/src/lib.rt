@@ -1,0 +1,31 @@
+//! Assertions as calls. An assertion written in a test is proved there anew, with all that it prints;
+//! these are proved once, over any type, and a failure tells the line of the call in the test.
+#![tactic(auto)]
+
+use std::fmt::{Debug, Display};
+use std::process::Abort;
+
+/// Ends the test unless the two are the same.
+pub fn agree<T: PartialEq + Debug + Drop>(rt: &impl Abort, got: T, wanted: T) {
+    assert_eq!(rt; got, wanted);
+}
+
+/// Ends the test unless the two are the same, and tells of which row.
+pub fn agree_at<T: PartialEq + Debug + Drop>(
+    rt: &impl Abort,
+    got: T,
+    wanted: T,
+    row: impl Display + Drop,
+) {
+    assert_eq!(rt; got, wanted, "{row}");
+}
+
+/// Ends the test unless it holds.
+pub fn holds(rt: &impl Abort, it: bool) {
+    assert!(rt; it);
+}
+
+/// Ends the test unless it holds, and tells of which row.
+pub fn holds_at(rt: &impl Abort, it: bool, row: impl Display + Drop) {
+    assert!(rt; it, "{row}");
+}
