@@ -2,7 +2,7 @@
 use muen_num::Seq;
 
 /// What a device does to a machine.
-#[derive(Clone, Debug, PartialEq, Eq, Drop)]
+#[derive(Debug, PartialEq, Eq, Drop)]
 pub enum Effect {
     /// The input byte of an I/O port becomes this value.
     Port { port: u16, value: u8 },

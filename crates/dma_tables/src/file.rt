@@ -18,7 +18,7 @@ pub struct DmaDevice {
 }
 
 /// What a file says, as it stands; `DmaTables` knows that it keeps the conditions of one.
-#[derive(Clone, Debug, PartialEq, Eq, Drop)]
+#[derive(Debug, PartialEq, Eq, Drop)]
 pub struct DmaFile {
     /// The physical address of the first byte of the pages, a multiple of 4,096.
     pub base: u64,

@@ -8,7 +8,7 @@ use machine_layout::entries::ENTRY_BYTES;
 use machine_layout::word_at;
 use phys_mem::{PAGE_BYTES, PhysMem};
 use std::marker::Model;
-use told::{Tells, Told};
+use muen_num::{Tells, Told};
 
 // A count, in clauses alone: no value of this type is made.
 struct Count {

@@ -20,7 +20,7 @@ pub struct Minor {
 }
 
 /// A major frame (Muen kernel report: major frames).
-#[derive(Clone, Debug, PartialEq, Eq, Drop)]
+#[derive(Debug, PartialEq, Eq, Drop)]
 pub struct Major {
     /// How many ticks it has, on each CPU.
     pub ticks: u32,
@@ -29,7 +29,7 @@ pub struct Major {
 }
 
 /// The scheduling plan: major frames, again and again in this order.
-#[derive(Clone, Debug, PartialEq, Eq, Drop)]
+#[derive(Debug, PartialEq, Eq, Drop)]
 pub struct Plan {
     pub groups: Seq<GroupPart>,
     pub majors: Seq<Major>,

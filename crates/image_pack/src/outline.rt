@@ -23,7 +23,7 @@ pub struct Header {
 }
 
 /// What the later parts of an image refer to: the counts, the spans and the scheduling groups.
-#[derive(Clone, Debug, PartialEq, Eq, Drop)]
+#[derive(Debug, PartialEq, Eq, Drop)]
 pub struct Outline {
     pub header: Header,
     pub spans: Seq<SpanPart>,

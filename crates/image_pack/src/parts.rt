@@ -43,7 +43,7 @@ pub struct EventPart {
 }
 
 /// A subject.
-#[derive(Clone, Debug, PartialEq, Eq, Drop)]
+#[derive(Debug, PartialEq, Eq, Drop)]
 pub struct SubjectPart {
     /// The logical CPU that it runs on.
     pub cpu: u8,
@@ -84,7 +84,7 @@ pub struct IrqPart {
 }
 
 /// A device.
-#[derive(Clone, Debug, PartialEq, Eq, Drop)]
+#[derive(Debug, PartialEq, Eq, Drop)]
 pub struct DevicePart {
     pub name: Name,
     pub ports: Seq<PortSpan>,
@@ -93,7 +93,7 @@ pub struct DevicePart {
 }
 
 /// The parts of an image as they stand; `Parts` knows that they keep the conditions of one.
-#[derive(Clone, Debug, PartialEq, Eq, Drop)]
+#[derive(Debug, PartialEq, Eq, Drop)]
 pub struct Image {
     pub header: Header,
     /// The spans, by their addresses.

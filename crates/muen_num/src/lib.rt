@@ -1,6 +1,6 @@
 //! What every other crate stands on: names, lists that contracts see as their items, the limits,
 //! sizes of access, ranges of ports and targets of interrupts, searches in order, lists of which one
-//! element is changed, and texts in pieces and in fixed buffers.
+//! element is changed, texts in pieces and in fixed buffers, and values for clauses alone.
 #![tactic(auto)]
 
 pub mod access;
@@ -14,6 +14,7 @@ pub mod searches;
 pub mod seq;
 pub mod tag;
 pub mod text;
+pub mod told;
 
 pub use access::{AccessKind, AccessSize};
 pub use devices::{IrqTarget, PortSpan};
@@ -24,3 +25,4 @@ pub use pieces::Pieces;
 pub use searches::{first, first_numbered, first_pair};
 pub use seq::{NoMemory, Seq};
 pub use tag::{Tag, TagPart};
+pub use told::{Tells, Told};

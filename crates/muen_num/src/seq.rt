@@ -135,15 +135,3 @@ impl<T: Eq> Eq for Seq<T> {
 
     ghost laws = { lists_equiv T.Eq.laws };
 }
-
-impl<T: Clone> Clone for Seq<T> {
-    ghost use Rattle.std.specs.List.{AllZip};
-
-    ghost is_clone = { λ s t. AllZip T.is_clone s t };
-
-    fn clone(&self) -> Result<Seq<T>, AllocError> {
-        Ok(Seq {
-            vec: self.vec.clone()?,
-        })
-    }
-}

@@ -9,12 +9,11 @@ use crate::disk::{Disk, SystemDisk};
 use crate::files::{FileError, Files, Found};
 use crate::history::{Calls, Looked, Start, Wrote};
 use crate::writer_sink::write_through;
-use muen_num::Seq;
+use muen_num::{Seq, Told};
 use std::alloc::Global;
 use std::fs::Files as SystemFiles;
 use std::io;
 use std::io::{ErrorKind, Read};
-use told::Told;
 
 /// The files of a disk. It tells nothing of what they hold. Every error of the system is a fault,
 /// also a folder in place of a file and a write that a signal interrupts, but for a file that a read

@@ -10,10 +10,9 @@ ghost use Rattle.muen_outside.specs.MemFiles.{counted, fails_next, store_of};
 
 use crate::files::{FileError, Files, Found};
 use crate::history::{Calls, Looked, Start, Wrote};
-use muen_num::Seq;
+use muen_num::{Seq, Told};
 use std::alloc::{AllocError, Global};
 use std::marker::Model;
-use told::Told;
 
 /// Files in memory, which tell what they hold. They fail at the calls whose numbers are listed, and
 /// only there.

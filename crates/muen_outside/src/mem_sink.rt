@@ -5,10 +5,9 @@ ghost use Rattle.muen_outside.specs.MemSink.{taken, fails_at, fails_next, sink_o
 
 use crate::mem_files::is_listed;
 use crate::sink::{Sink, SinkFault};
-use muen_num::NoMemory;
+use muen_num::{NoMemory, Tells, Told};
 use std::alloc::Global;
 use std::marker::Model;
-use told::{Tells, Told};
 
 // A count, in clauses alone: no value of this type is made.
 struct Count {

@@ -9,7 +9,7 @@ use crate::device::Device;
 use crate::sink::{Sink, SinkFault};
 use std::io::{Stderr, Stdout};
 use std::marker::Model;
-use told::{Tells, Told};
+use muen_num::{Tells, Told};
 
 // What a sink has handed on, in clauses alone: no value of this type is made.
 struct Given {

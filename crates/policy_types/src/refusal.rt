@@ -9,7 +9,7 @@ use thiserror::Error;
 
 /// Where a value of a document stands: the keys and item numbers from the top down to it, each
 /// after a `/`; empty for the whole document. Contracts see the list of its bytes.
-#[derive(Drop, Debug, Clone)]
+#[derive(Drop, Debug)]
 pub struct Place {
     text: String,
 }
@@ -104,14 +104,14 @@ pub enum Want {
 }
 
 /// The first place of a document that breaks the schema, and what was wanted there.
-#[derive(Drop, Debug, Clone, PartialEq, Eq)]
+#[derive(Drop, Debug, PartialEq, Eq)]
 pub struct Fault {
     pub place: Place,
     pub want: Want,
 }
 
 /// Why a policy with its files is refused. Its text is the one that is printed.
-#[derive(Drop, Debug, Clone, PartialEq, Eq, Error)]
+#[derive(Drop, Debug, PartialEq, Eq, Error)]
 pub enum Refusal {
     /// The bytes are no JSON text.
     NotJson,
