@@ -7,7 +7,7 @@ use guest_isa::Instr;
 use muen_num::AccessSize;
 
 /// A mnemonic and what stands behind it: 0 and one byte for what the instruction doesn't name.
-#[derive(Clone, Copy, Debug)]
+#[derive(Clone, Copy)]
 pub(crate) struct Parts {
     pub mnemonic: Mnemonic,
     pub rd: u8,

@@ -82,7 +82,7 @@ impl Want {
 }
 
 /// Why a line says nothing.
-#[derive(Clone, Copy, Debug, PartialEq, Eq)]
+#[derive(Clone, Copy, Debug)]
 pub enum LineError {
     /// Where so many bytes of the line are left, something else is wanted.
     Wanted { left: usize, want: Want },
@@ -113,7 +113,7 @@ impl From<AllocError> for LineError {
 }
 
 /// Why a text is no source. Lines and columns are counted from 1; a column is one of bytes.
-#[derive(Clone, Copy, Debug, PartialEq, Eq, Error)]
+#[derive(Clone, Copy, Debug, Error)]
 pub enum SourceFault {
     At { line: u64, column: u64, want: Want },
     /// Memory was refused.

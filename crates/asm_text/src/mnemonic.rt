@@ -7,7 +7,7 @@ use guest_isa::Instr;
 use muen_num::AccessSize;
 
 /// An instruction's word.
-#[derive(Clone, Copy, Debug, PartialEq, Eq)]
+#[derive(Clone, Copy, Debug)]
 pub enum Mnemonic {
     Nop,
     Li,
@@ -40,7 +40,7 @@ pub enum Mnemonic {
 }
 
 /// What stands behind a mnemonic.
-#[derive(Clone, Copy, Debug, PartialEq, Eq)]
+#[derive(Clone, Copy, Debug)]
 pub enum Shape {
     /// Nothing.
     Alone,

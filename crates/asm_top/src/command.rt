@@ -7,7 +7,7 @@ use asm_text::number_in;
 use muen_num::limits::GUEST_END;
 
 /// What is asked for, with the names that were given.
-#[derive(Clone, Copy, Debug, PartialEq, Eq)]
+#[derive(Clone, Copy)]
 pub(crate) enum Command<'a> {
     /// The words have no command's form.
     Usage,

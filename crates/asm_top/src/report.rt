@@ -12,7 +12,7 @@ use muen_num::Pieces;
 use muen_outside::{Sink, SinkFault, put_pieces};
 
 /// Why nothing was printed, or nothing was written whole.
-#[derive(Clone, Copy, Debug, PartialEq, Eq)]
+#[derive(Clone, Copy)]
 pub(crate) enum CommandError<'a> {
     /// The words have no command's form.
     Usage,

@@ -2,7 +2,7 @@
 use std::process::ExitCode;
 
 /// How a call has ended. Its number is the exit status of the program.
-#[derive(Clone, Copy, Debug, PartialEq, Eq)]
+#[derive(Clone, Copy, Debug)]
 pub enum Status {
     /// 0: the text was put, or the bytes were written.
     Done,

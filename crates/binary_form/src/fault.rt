@@ -81,7 +81,7 @@ pub enum FormError {
 }
 
 /// Why bytes are no image: the first fault, and the offset at which its field begins.
-#[derive(Clone, Copy, Debug, PartialEq, Eq, Error)]
+#[derive(Clone, Copy, Debug, Error)]
 pub enum ImageFault {
     /// The bytes end before the field does.
     Short { at: u64 },

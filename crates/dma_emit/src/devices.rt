@@ -15,7 +15,7 @@ use policy_lawful::source::{Bdf, Device, Domain};
 use std::alloc::{AllocError, Global};
 
 /// A device that stands in a domain.
-#[derive(Clone, Copy, Debug, PartialEq, Eq)]
+#[derive(Clone, Copy, Debug)]
 pub struct DomainDevice {
     pub device: DmaDevice,
     /// The number of its domain among the policy's, from 0 on.

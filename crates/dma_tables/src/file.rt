@@ -8,7 +8,7 @@ pub const MOST_DMA_PAGES: u64 = 16_384;
 pub(crate) const MARK: &[u8; 8] = b"MUENDMA1";
 
 /// A device that tables stand for.
-#[derive(Clone, Copy, Debug, PartialEq, Eq)]
+#[derive(Clone, Copy, Debug)]
 pub struct DmaDevice {
     pub name: Name,
     /// The number of its bus.
@@ -18,7 +18,7 @@ pub struct DmaDevice {
 }
 
 /// What a file says, as it stands; `DmaTables` knows that it keeps the conditions of one.
-#[derive(Debug, PartialEq, Eq, Drop)]
+#[derive(Debug, Drop)]
 pub struct DmaFile {
     /// The physical address of the first byte of the pages, a multiple of 4,096.
     pub base: u64,

@@ -24,7 +24,7 @@ use std::alloc::Global;
 
 // A table to which a walk comes: its level, its page, the rights of the entries above it, and the
 // first position for which it stands.
-#[derive(Clone, Copy, Debug)]
+#[derive(Clone, Copy)]
 struct Table {
     level: u32,
     page: u64,

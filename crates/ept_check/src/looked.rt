@@ -7,7 +7,7 @@ use muen_num::NoMemory;
 use std::alloc::Global;
 
 /// What came of entering a table.
-#[derive(Clone, Copy, Debug, PartialEq, Eq)]
+#[derive(Clone, Copy)]
 pub(crate) enum Entering {
     /// The page isn't declared to be a table.
     Outside,
@@ -18,7 +18,7 @@ pub(crate) enum Entering {
 }
 
 /// Which of the tables were entered.
-#[derive(Debug, Drop)]
+#[derive(Drop)]
 pub(crate) struct Looked {
     /// Of each table, by its index.
     pub(crate) entered: Vec<bool>,

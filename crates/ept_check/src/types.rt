@@ -12,7 +12,7 @@ pub struct SubjectTables {
 }
 
 /// What is wrong with tables at a guest page, in the order of the tests.
-#[derive(Clone, Copy, Debug, PartialEq, Eq)]
+#[derive(Clone, Copy, Debug)]
 pub enum FaultKind {
     /// The walk reads an entry outside the pages that are declared to be tables.
     Outside,
@@ -26,7 +26,7 @@ pub enum FaultKind {
 }
 
 /// The first fault of tables.
-#[derive(Clone, Copy, Debug, PartialEq, Eq)]
+#[derive(Clone, Copy, Debug)]
 pub struct TableFault {
     pub kind: FaultKind,
     /// The index of the subject.

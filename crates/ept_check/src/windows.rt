@@ -10,7 +10,7 @@ use machine_layout::Walk;
 use muen_num::AccessKind;
 
 /// Guest addresses of which one window has all, or none has any.
-#[derive(Clone, Copy, Debug)]
+#[derive(Clone, Copy)]
 pub(crate) struct Piece {
     pub(crate) window: Option<Window>,
     /// The first address behind them.

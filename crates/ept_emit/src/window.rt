@@ -2,7 +2,7 @@
 use policy_types::{Caching, Rights};
 
 /// The greatest page that a window may be mapped by.
-#[derive(Clone, Copy, Debug, PartialEq, Eq)]
+#[derive(Clone, Copy, Debug)]
 pub enum Leaf {
     /// 4 KiB.
     Small,
@@ -13,7 +13,7 @@ pub enum Leaf {
 }
 
 /// The guest addresses of a window: `size` bytes from `guest` on.
-#[derive(Clone, Copy, Debug, PartialEq, Eq)]
+#[derive(Clone, Copy, Debug)]
 pub struct GuestRange {
     pub guest: u64,
     /// In bytes.
@@ -22,7 +22,7 @@ pub struct GuestRange {
 
 /// A window: `size` bytes from the guest address `guest` on are those from the physical address
 /// `address` on.
-#[derive(Clone, Copy, Debug, PartialEq, Eq)]
+#[derive(Clone, Copy, Debug)]
 pub struct Window {
     pub guest: u64,
     /// In bytes.

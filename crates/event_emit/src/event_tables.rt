@@ -14,7 +14,7 @@ use policy_lawful::resolved::Subject;
 use std::alloc::Global;
 
 /// The tables of events of a subject.
-#[derive(Debug, PartialEq, Eq, Drop)]
+#[derive(Debug, Drop)]
 pub struct EventTables {
     /// What its calls raise, by their numbers, 64 of them.
     pub calls: Seq<Option<EventPart>>,

@@ -6,7 +6,7 @@ ghost use Rattle.event_router.specs.Vectors.{NoneFrom, no_vectors, has, with_vec
 const VECTORS: usize = 256;
 
 /// A set of interrupt vectors.
-#[derive(Clone, Copy, Debug, PartialEq, Eq)]
+#[derive(Clone, Copy, Debug)]
 pub(crate) struct VectorSet {
     marks: [bool; VECTORS],
     // No vector from this one on is in the set.

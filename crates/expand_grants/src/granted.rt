@@ -3,7 +3,7 @@ use muen_num::{EventMode, Seq};
 use policy_lawful::{MsrGrant, PortRange, View};
 
 /// The way in which a subject raises an event.
-#[derive(Clone, Copy, Debug, PartialEq, Eq)]
+#[derive(Clone, Copy, Debug)]
 pub enum Way {
     /// The hypercall of this number.
     Call(u8),
@@ -12,7 +12,7 @@ pub enum Way {
 }
 
 /// An event that a subject raises.
-#[derive(Clone, Copy, Debug, PartialEq, Eq)]
+#[derive(Clone, Copy, Debug)]
 pub struct EventEntry {
     pub way: Way,
     pub mode: EventMode,
@@ -23,7 +23,7 @@ pub struct EventEntry {
 }
 
 /// Where an interrupt of a device goes.
-#[derive(Clone, Copy, Debug, PartialEq, Eq)]
+#[derive(Clone, Copy, Debug)]
 pub struct Route {
     /// The device's index.
     pub device: usize,

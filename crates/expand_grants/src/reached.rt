@@ -10,7 +10,7 @@ use policy_lawful::{IndexedEnd, Resolved, Role};
 use std::alloc::Global;
 
 /// A subject that is reached.
-#[derive(Clone, Copy, Debug, PartialEq, Eq)]
+#[derive(Clone, Copy)]
 pub(crate) struct Reached {
     /// The index of the event, or of the channel, by which it is reached.
     pub(crate) by: usize,

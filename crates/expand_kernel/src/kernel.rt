@@ -17,7 +17,7 @@ use policy_lawful::resolved::Subject;
 use std::alloc::{AllocError, Global};
 
 /// What the kernel has a region of memory for, of each subject.
-#[derive(Clone, Copy, Debug, PartialEq, Eq)]
+#[derive(Clone, Copy, Debug)]
 pub enum KernelRegion {
     /// Its state page.
     State,

@@ -2,7 +2,7 @@
 use muen_num::Tag;
 
 /// Where a region comes from.
-#[derive(Clone, Copy, Debug, PartialEq, Eq)]
+#[derive(Clone, Copy, Debug)]
 pub enum RegionKind {
     /// The policy's memory.
     Own,
@@ -15,7 +15,7 @@ pub enum RegionKind {
 }
 
 /// A region of physical memory.
-#[derive(Clone, Copy, Debug, PartialEq, Eq)]
+#[derive(Clone, Copy, Debug)]
 pub struct Region {
     /// Its printed name.
     pub tag: Tag,

@@ -12,7 +12,7 @@ use policy_lawful::{IndexedEnd, Resolved, Role, Shown, View};
 use std::alloc::{AllocError, Global};
 
 /// A subject's index, and by indexes what it gives to others and takes from them.
-#[derive(Debug, Drop)]
+#[derive(Drop)]
 pub(crate) struct Contacts {
     pub index: usize,
     /// The channels that it writes.

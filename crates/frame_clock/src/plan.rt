@@ -29,7 +29,7 @@ pub struct Major {
 }
 
 /// The scheduling plan: major frames, again and again in this order.
-#[derive(Debug, PartialEq, Eq, Drop)]
+#[derive(Debug, Drop)]
 pub struct Plan {
     pub groups: Seq<GroupPart>,
     pub majors: Seq<Major>,

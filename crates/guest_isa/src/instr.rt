@@ -5,7 +5,7 @@ use state_page::SubjectState;
 /// An instruction. Register numbers are below 16. Arithmetic and addresses wrap at 2^64;
 /// immediates are sign-extended. Each instruction but a jump that is taken and `Reti` goes on at
 /// the next eight bytes.
-#[derive(Clone, Copy, Debug, PartialEq, Eq)]
+#[derive(Clone, Copy, Debug)]
 pub enum Instr {
     /// Does nothing.
     Nop,
@@ -143,7 +143,7 @@ pub enum Instr {
 }
 
 /// What an instruction asks of the machine.
-#[derive(Clone, Copy, Debug, PartialEq, Eq)]
+#[derive(Clone, Copy, Debug)]
 pub enum Wish {
     Nothing,
     /// The register was written, and holds this value.
@@ -198,7 +198,7 @@ pub enum Wish {
 }
 
 /// The effect of an instruction.
-#[derive(Clone, Copy, Debug, PartialEq, Eq)]
+#[derive(Clone, Copy, Debug)]
 pub struct Asked {
     /// The state after it, where its wish doesn't exit.
     pub after: SubjectState,

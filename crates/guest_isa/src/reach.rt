@@ -1,7 +1,7 @@
 //! Where accesses of memory lead.
 
 /// Where an access of memory leads, in a world whose targets are called `X`.
-#[derive(Clone, Copy, Debug, PartialEq, Eq)]
+#[derive(Clone, Copy, Debug)]
 pub enum Reach<X> {
     /// To the bytes of a target from an offset on.
     Reached {

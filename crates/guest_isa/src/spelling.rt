@@ -7,7 +7,7 @@ use crate::instr::Instr;
 use muen_num::AccessSize;
 
 // The fields of the eight bytes of an instruction.
-#[derive(Clone, Copy, Debug, PartialEq, Eq)]
+#[derive(Clone, Copy)]
 struct Fields {
     opcode: u8,
     rd: u8,
@@ -18,7 +18,7 @@ struct Fields {
 }
 
 // Which fields a row of the table names.
-#[derive(Clone, Copy, Debug, PartialEq, Eq)]
+#[derive(Clone, Copy)]
 struct Named {
     rd: bool,
     rs: bool,

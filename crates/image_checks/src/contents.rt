@@ -17,7 +17,7 @@ use policy_lawful::source::{Channel, Device, DeviceMemory, Provided, Region};
 use std::alloc::{AllocError, Global};
 
 /// What the span of a thing has to be.
-#[derive(Clone, Copy, Debug)]
+#[derive(Clone, Copy)]
 pub(crate) struct ExpectedSpan {
     pub(crate) owner: Name,
     /// The name of its part, where it isn't the whole of its owner.

@@ -16,7 +16,7 @@ use muen_num::NoMemory;
 use std::alloc::Global;
 
 /// What an image's plan and events first differ in from a policy's.
-#[derive(Clone, Copy, Debug, PartialEq, Eq)]
+#[derive(Clone, Copy, Debug)]
 pub enum PlanOwner {
     /// There are not as many subjects, or the CPUs, the plan or the region of the scheduler differ.
     Plan,

@@ -4,7 +4,7 @@ use frame_clock::GroupPart;
 use muen_num::Seq;
 
 /// The counts at the front of an image.
-#[derive(Clone, Copy, Debug, PartialEq, Eq)]
+#[derive(Clone, Copy, Debug)]
 pub struct Header {
     /// How many logical CPUs there are, 1 to 8.
     pub cpus: u8,
@@ -23,7 +23,7 @@ pub struct Header {
 }
 
 /// What the later parts of an image refer to: the counts, the spans and the scheduling groups.
-#[derive(Debug, PartialEq, Eq, Drop)]
+#[derive(Debug, Drop)]
 pub struct Outline {
     pub header: Header,
     pub spans: Seq<SpanPart>,

@@ -4,7 +4,7 @@ use frame_clock::Plan;
 use muen_num::{EventMode, IrqTarget, Name, PortSpan, Seq, Tag};
 
 /// What a span of memory is.
-#[derive(Clone, Copy, Debug, PartialEq, Eq)]
+#[derive(Clone, Copy, Debug)]
 pub enum SpanKind {
     /// A memory region of the policy.
     Own,
@@ -19,7 +19,7 @@ pub enum SpanKind {
 }
 
 /// A span of physical memory.
-#[derive(Clone, Copy, Debug, PartialEq, Eq)]
+#[derive(Clone, Copy, Debug)]
 pub struct SpanPart {
     /// The physical address of its first byte, a multiple of 4,096.
     pub address: u64,
@@ -43,7 +43,7 @@ pub struct EventPart {
 }
 
 /// A subject.
-#[derive(Debug, PartialEq, Eq, Drop)]
+#[derive(Debug, Drop)]
 pub struct SubjectPart {
     /// The logical CPU that it runs on.
     pub cpu: u8,
@@ -69,7 +69,7 @@ pub struct SubjectPart {
 }
 
 /// A device's memory.
-#[derive(Clone, Copy, Debug, PartialEq, Eq)]
+#[derive(Clone, Copy, Debug)]
 pub struct WindowPart {
     /// The number of its span.
     pub span: u16,
@@ -84,7 +84,7 @@ pub struct IrqPart {
 }
 
 /// A device.
-#[derive(Debug, PartialEq, Eq, Drop)]
+#[derive(Debug, Drop)]
 pub struct DevicePart {
     pub name: Name,
     pub ports: Seq<PortSpan>,
@@ -93,7 +93,7 @@ pub struct DevicePart {
 }
 
 /// The parts of an image as they stand; `Parts` knows that they keep the conditions of one.
-#[derive(Debug, PartialEq, Eq, Drop)]
+#[derive(Debug, Drop)]
 pub struct Image {
     pub header: Header,
     /// The spans, by their addresses.

@@ -2,7 +2,7 @@
 use muen_num::Name;
 
 /// A condition of a sound image.
-#[derive(Clone, Copy, Debug, PartialEq, Eq)]
+#[derive(Clone, Copy, Debug)]
 pub enum Condition {
     /// The spans that aren't the kernel's are the policy's things, with the bytes that they have at the
     /// start.
@@ -22,7 +22,7 @@ pub enum Condition {
 }
 
 /// Whose a condition is that fails.
-#[derive(Clone, Copy, Debug, PartialEq, Eq)]
+#[derive(Clone, Copy, Debug)]
 pub enum Owner {
     /// The whole plan's.
     Plan,
@@ -31,7 +31,7 @@ pub enum Owner {
 }
 
 /// Why an image isn't sound for a policy and its files.
-#[derive(Clone, Copy, Debug, PartialEq, Eq)]
+#[derive(Clone, Copy, Debug)]
 pub enum Fault {
     /// This condition fails.
     Fails { condition: Condition, owner: Owner },

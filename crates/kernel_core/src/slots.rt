@@ -14,7 +14,7 @@ use std::alloc::Global;
 
 /// A slot that was found for a CPU, at a tick of the major frame that ran then. It tells the slots
 /// of the ticks behind it too, as far as its minor frame goes.
-#[derive(Clone, Copy, Debug, PartialEq, Eq)]
+#[derive(Clone, Copy)]
 pub(crate) struct KeptSlot {
     pub at: FrameAt,
     pub tick: u32,

@@ -7,7 +7,7 @@ use muen_num::Name;
 use view_text::{TurnAction, TurnLine};
 
 /// Who takes a turn, and when.
-#[derive(Clone, Copy, Debug, PartialEq, Eq)]
+#[derive(Clone, Copy)]
 pub(crate) struct Turn {
     pub tick: u32,
     pub cpu: u8,
@@ -17,7 +17,7 @@ pub(crate) struct Turn {
 }
 
 /// What a turn goes by, of the state of who is on the CPU.
-#[derive(Clone, Copy, Debug, PartialEq, Eq)]
+#[derive(Clone, Copy)]
 pub(crate) struct Standing {
     pub pc: u64,
     pub interrupts: bool,

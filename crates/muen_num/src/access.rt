@@ -26,7 +26,7 @@ impl AccessSize {
 }
 
 /// What an access of memory does (the rights of an EPT entry, Intel SDM volume 3).
-#[derive(Clone, Copy, Debug, PartialEq, Eq)]
+#[derive(Clone, Copy, Debug)]
 pub enum AccessKind {
     Read,
     Write,

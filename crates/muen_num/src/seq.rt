@@ -6,7 +6,7 @@ use std::marker::Model;
 use thiserror::Error;
 
 /// Memory was refused.
-#[derive(Clone, Copy, Debug, PartialEq, Eq, Error)]
+#[derive(Clone, Copy, Debug, Error)]
 pub struct NoMemory;
 
 impl fmt::Display for NoMemory {

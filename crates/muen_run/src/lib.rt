@@ -25,7 +25,7 @@ use std::alloc::Global;
 pub use system::{Ready, Running};
 
 /// Why a run was not printed whole.
-#[derive(Clone, Copy, Debug, PartialEq, Eq)]
+#[derive(Clone, Copy, Debug)]
 pub enum RunError {
     /// The sink failed; a front of the text was put.
     OutFault,

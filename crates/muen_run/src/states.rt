@@ -12,7 +12,7 @@ use muen_outside::{BufferedSink, PrintedLine, Sink, SinkFault};
 use view_text::{SubjectState, state_line};
 
 // A row of a subject's final state.
-#[derive(Clone, Copy, Debug, PartialEq, Eq)]
+#[derive(Clone, Copy)]
 struct StateRow {
     subject: Name,
     state: SubjectState,

@@ -6,7 +6,7 @@ ghost use Rattle.muen_top.specs.Parsed.{asked};
 use text_words::decimal;
 
 /// What is asked for, with the names that were given.
-#[derive(Clone, Copy, Debug, PartialEq, Eq)]
+#[derive(Clone, Copy)]
 pub(crate) enum Command<'a> {
     /// The words have no command's form.
     Usage,

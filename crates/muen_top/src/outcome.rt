@@ -10,7 +10,7 @@ use policy_lawful::Refusal;
 use record_text::RecordFault;
 
 /// Why nothing was printed, and not all was written whole.
-#[derive(Debug, Drop)]
+#[derive(Drop)]
 pub(crate) enum CommandError<'a> {
     /// The words have no command's form.
     Usage,
@@ -104,7 +104,7 @@ impl<'a> From<RecordFault> for CommandError<'a> {
 }
 
 /// How a command comes to an end.
-#[derive(Debug, Drop)]
+#[derive(Drop)]
 pub(crate) enum Outcome<'a> {
     /// All was printed, or all was written.
     Done,

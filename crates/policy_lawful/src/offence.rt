@@ -32,7 +32,7 @@ impl Offence {
 }
 
 /// A named range of addresses: `size` bytes from `address` on.
-#[derive(Clone, Copy, Debug, PartialEq, Eq)]
+#[derive(Clone, Copy, Debug)]
 pub struct Extent {
     pub name: Name,
     pub address: u64,

@@ -79,7 +79,7 @@ pub struct Subject {
 }
 
 /// The component of a subject.
-#[derive(Debug, Drop, PartialEq, Eq)]
+#[derive(Debug, Drop)]
 pub struct ComponentUse {
     /// The component's index.
     pub used: usize,
@@ -87,7 +87,7 @@ pub struct ComponentUse {
 }
 
 /// A logical name of a component that wants something.
-#[derive(Clone, Copy, Debug, PartialEq, Eq)]
+#[derive(Clone, Copy, Debug)]
 pub enum Wanted {
     /// The index among the regions that the component asks for.
     Memory(usize),
@@ -96,7 +96,7 @@ pub enum Wanted {
 }
 
 /// What a component's logical name stands for.
-#[derive(Debug, Drop, PartialEq, Eq)]
+#[derive(Debug, Drop)]
 pub struct MapEntry {
     pub logical: Wanted,
     /// The index of a region or a channel, as the logical name wants.
@@ -105,7 +105,7 @@ pub struct MapEntry {
 }
 
 /// A window of a subject on a region of memory.
-#[derive(Debug, Drop, PartialEq, Eq)]
+#[derive(Debug, Drop)]
 pub struct Mapping {
     /// The region's index.
     pub region: usize,
@@ -115,7 +115,7 @@ pub struct Mapping {
 }
 
 /// A subject's end of a channel.
-#[derive(Debug, Drop, PartialEq, Eq)]
+#[derive(Debug, Drop)]
 pub struct ChannelUse {
     /// The channel's index.
     pub channel: usize,
@@ -126,7 +126,7 @@ pub struct ChannelUse {
 }
 
 /// What a subject is granted of a device.
-#[derive(Debug, Drop, PartialEq, Eq)]
+#[derive(Debug, Drop)]
 pub struct DeviceUse {
     /// The device's index.
     pub device: usize,
@@ -137,7 +137,7 @@ pub struct DeviceUse {
 }
 
 /// A window of a subject on a device's memory.
-#[derive(Debug, Drop, PartialEq, Eq)]
+#[derive(Debug, Drop)]
 pub struct DeviceMapping {
     /// The index among the device's memory.
     pub memory: usize,
@@ -146,7 +146,7 @@ pub struct DeviceMapping {
 }
 
 /// An interrupt line that is granted to a subject.
-#[derive(Debug, Drop, PartialEq, Eq)]
+#[derive(Debug, Drop)]
 pub struct IrqUse {
     /// The index among the device's interrupt lines.
     pub irq: usize,
@@ -154,7 +154,7 @@ pub struct IrqUse {
 }
 
 /// How a subject raises an event.
-#[derive(Debug, Drop, PartialEq, Eq)]
+#[derive(Debug, Drop)]
 pub struct EventSource {
     /// The event's index.
     pub event: usize,
@@ -162,7 +162,7 @@ pub struct EventSource {
 }
 
 /// An event that reaches a subject.
-#[derive(Debug, Drop, PartialEq, Eq)]
+#[derive(Debug, Drop)]
 pub struct EventTarget {
     /// The event's index.
     pub event: usize,
@@ -170,7 +170,7 @@ pub struct EventTarget {
 }
 
 /// A window of a subject on the state of another, which it monitors.
-#[derive(Debug, Drop, PartialEq, Eq)]
+#[derive(Debug, Drop)]
 pub struct Monitor {
     /// The index of the monitored subject.
     pub subject: usize,
@@ -180,7 +180,7 @@ pub struct Monitor {
 }
 
 /// The scheduling plan.
-#[derive(Debug, Drop, PartialEq, Eq)]
+#[derive(Debug, Drop)]
 pub struct Scheduling {
     pub groups: Seq<Group>,
     pub major_frames: Seq<MajorFrame>,
@@ -189,7 +189,7 @@ pub struct Scheduling {
 }
 
 /// A scheduling group.
-#[derive(Debug, Drop, PartialEq, Eq)]
+#[derive(Debug, Drop)]
 pub struct Group {
     pub name: Name,
     pub cpu: u64,
@@ -198,13 +198,13 @@ pub struct Group {
 }
 
 /// A major frame.
-#[derive(Debug, Drop, PartialEq, Eq)]
+#[derive(Debug, Drop)]
 pub struct MajorFrame {
     pub cpus: Seq<CpuFrames>,
 }
 
 /// The minor frames of a CPU in a major frame.
-#[derive(Debug, Drop, PartialEq, Eq)]
+#[derive(Debug, Drop)]
 pub struct CpuFrames {
     pub cpu: u64,
     pub minor_frames: Seq<MinorFrame>,
@@ -223,7 +223,7 @@ impl CpuFrames {
 }
 
 /// A minor frame.
-#[derive(Debug, Drop, PartialEq, Eq)]
+#[derive(Debug, Drop)]
 pub struct MinorFrame {
     /// The group's index.
     pub group: usize,

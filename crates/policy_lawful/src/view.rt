@@ -3,7 +3,7 @@ use muen_num::{Name, Seq};
 use policy_types::{Rights, Role};
 
 /// What a view shows, by its index in the policy.
-#[derive(Clone, Copy, Debug, PartialEq, Eq)]
+#[derive(Clone, Copy, Debug)]
 pub enum Shown {
     /// A region of memory.
     Memory(usize),
@@ -18,7 +18,7 @@ pub enum Shown {
 }
 
 /// A window of a subject: `size` bytes from the guest address `guest` on show the whole of a thing.
-#[derive(Clone, Copy, Debug, PartialEq, Eq)]
+#[derive(Clone, Copy, Debug)]
 pub struct View {
     /// The name of what it shows; a provided region's is its logical name, a state page's its
     /// subject's.
@@ -31,7 +31,7 @@ pub struct View {
 }
 
 /// A subject's end of a channel, its own or one of its component.
-#[derive(Clone, Copy, Debug, PartialEq, Eq)]
+#[derive(Clone, Copy, Debug)]
 pub struct IndexedEnd {
     /// The channel's index.
     pub channel: usize,

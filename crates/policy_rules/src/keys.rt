@@ -8,7 +8,7 @@ use muen_num::Name;
 use policy_lawful::Offence;
 
 /// A word that a rule names in place of an element.
-#[derive(Clone, Copy, Debug, PartialEq, Eq)]
+#[derive(Clone, Copy)]
 pub(crate) enum Key {
     Processor,
     MemoryBlocks,

@@ -16,7 +16,7 @@ use policy_views::Linked;
 use std::alloc::{AllocError, Global};
 
 // A subject that has a window on a region, and whether it may write by that.
-#[derive(Clone, Copy, Debug, PartialEq, Eq)]
+#[derive(Clone, Copy)]
 struct User {
     name: Name,
     writes: bool,

@@ -104,7 +104,7 @@ pub enum Want {
 }
 
 /// The first place of a document that breaks the schema, and what was wanted there.
-#[derive(Drop, Debug, PartialEq, Eq)]
+#[derive(Drop, Debug)]
 pub struct Fault {
     pub place: Place,
     pub want: Want,

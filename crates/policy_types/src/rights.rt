@@ -77,7 +77,7 @@ pub struct MsrRights {
 }
 
 /// The memory type of a region (Intel SDM volume 3, memory types).
-#[derive(Clone, Copy, Debug, PartialEq, Eq)]
+#[derive(Clone, Copy, Debug)]
 pub enum Caching {
     /// Uncacheable.
     Uc,

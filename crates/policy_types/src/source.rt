@@ -46,7 +46,7 @@ pub struct Device {
 }
 
 /// Where a device is on the PCI bus.
-#[derive(Clone, Copy, Debug, PartialEq, Eq)]
+#[derive(Clone, Copy, Debug)]
 pub struct Bdf {
     pub bus: u8,
     pub device: u64,
@@ -259,7 +259,7 @@ pub struct EventSource {
 }
 
 /// The way in which a subject raises an event.
-#[derive(Clone, Copy, Debug, PartialEq, Eq)]
+#[derive(Clone, Copy, Debug)]
 pub enum SourceWay {
     /// A call of this number.
     Call(u64),
@@ -294,7 +294,7 @@ pub struct Scheduling {
 }
 
 /// The subject that chooses the next major frame, by the first byte of a region.
-#[derive(Clone, Copy, Debug, PartialEq, Eq)]
+#[derive(Clone, Copy, Debug)]
 pub struct Tau0 {
     pub subject: Name,
     pub region: Name,

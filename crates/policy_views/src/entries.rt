@@ -12,14 +12,14 @@ use std::alloc::Global;
 use std::collections::BTreeMap;
 
 /// A kind of logical names that want something.
-#[derive(Clone, Copy, Debug, PartialEq, Eq)]
+#[derive(Clone, Copy)]
 pub(crate) enum Wants {
     Memory,
     Channel,
 }
 
 /// What an entry chooses for a logical name.
-#[derive(Clone, Copy, Debug, PartialEq, Eq)]
+#[derive(Clone, Copy)]
 pub(crate) struct Choice {
     /// The index of a region or a channel, as the logical name wants.
     pub physical: usize,

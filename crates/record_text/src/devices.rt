@@ -39,7 +39,7 @@ pub struct RecordMemory {
 }
 
 /// An interrupt of a device.
-#[derive(Clone, Copy, Debug, PartialEq, Eq)]
+#[derive(Clone, Copy, Debug)]
 pub struct RecordIrq {
     pub name: Name,
     /// Where it goes; `None` where nobody has it.

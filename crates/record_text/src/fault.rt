@@ -9,7 +9,7 @@ use std::fmt;
 use thiserror::Error;
 
 /// What a word of a record's line should have been.
-#[derive(Clone, Copy, Debug, PartialEq, Eq)]
+#[derive(Clone, Copy, Debug)]
 pub enum LineWant {
     /// One of the words that a line begins with.
     Word,
@@ -26,7 +26,7 @@ pub enum LineWant {
 }
 
 /// Why bytes are no record. Lines are counted from 1.
-#[derive(Clone, Copy, Debug, PartialEq, Eq, Error)]
+#[derive(Clone, Copy, Debug, Error)]
 pub enum RecordFault {
     /// The line has a byte above 127.
     NotAscii { line: u64 },

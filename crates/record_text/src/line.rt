@@ -18,7 +18,7 @@ use muen_num::limits::GUEST_END;
 use std::alloc::Global;
 
 /// What a line is about.
-#[derive(Clone, Copy, Debug, PartialEq, Eq)]
+#[derive(Clone, Copy)]
 pub(crate) enum LineKind {
     Order,
     Port,
@@ -29,7 +29,7 @@ pub(crate) enum LineKind {
 }
 
 /// What a line says.
-#[derive(Debug, Drop)]
+#[derive(Drop)]
 pub(crate) enum Says {
     /// An input; `None` where what it names isn't there.
     Input(Option<Input>),
@@ -40,7 +40,7 @@ pub(crate) enum Says {
 }
 
 /// A line of a record.
-#[derive(Debug, Drop)]
+#[derive(Drop)]
 pub(crate) struct RecordLine {
     pub tick: u32,
     pub says: Says,

@@ -12,7 +12,7 @@ use std::alloc::Global;
 use text_words::{NumberError, decimal};
 
 /// Why a line says nothing.
-#[derive(Clone, Copy, Debug)]
+#[derive(Clone, Copy)]
 pub(crate) enum LineError {
     /// A word isn't what it should have been.
     Want(LineWant),

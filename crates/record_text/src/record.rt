@@ -5,7 +5,7 @@ use muen_num::Seq;
 pub const INPUT_MOST: usize = 64;
 
 /// What a line of a record says that a device does.
-#[derive(Debug, PartialEq, Eq, Drop)]
+#[derive(Debug, Drop)]
 pub enum Input {
     /// The input byte of an I/O port becomes this value.
     Port {
@@ -40,7 +40,7 @@ pub struct TickInput<I> {
 }
 
 /// The order in which the CPUs take their turns in a tick.
-#[derive(Debug, PartialEq, Eq, Drop)]
+#[derive(Debug, Drop)]
 pub struct TickOrder {
     pub tick: u32,
     /// Each CPU's number, once.
@@ -49,7 +49,7 @@ pub struct TickOrder {
 
 /// The device record of a run, over what it has of devices: what its lines say (`Input`), or what of
 /// it reaches a machine.
-#[derive(Debug, PartialEq, Eq, Drop)]
+#[derive(Debug, Drop)]
 pub struct Record<I> {
     /// How many ticks the run has, at most 100,000. An input of this very tick has no effect.
     pub end: u32,

@@ -10,7 +10,7 @@ use policy_lawful::{NameSet, Offence};
 use std::alloc::{AllocError, Global};
 
 /// A name in a domain.
-#[derive(Clone, Copy, Debug)]
+#[derive(Clone, Copy)]
 pub(crate) struct Listed {
     pub domain: Name,
     pub name: Name,

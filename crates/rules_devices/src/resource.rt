@@ -8,7 +8,7 @@ use policy_lawful::source::Device;
 use std::alloc::{AllocError, Global};
 
 /// A kind of what a device has.
-#[derive(Clone, Copy, Debug, PartialEq, Eq)]
+#[derive(Clone, Copy)]
 pub(crate) enum Resource {
     Memory,
     IoPorts,

@@ -15,7 +15,7 @@ use policy_views::Linked;
 use std::alloc::{AllocError, Global};
 
 /// An end of a channel with its subject.
-#[derive(Clone, Copy, Debug, PartialEq, Eq)]
+#[derive(Clone, Copy)]
 pub(crate) struct Met {
     pub(crate) party: Party,
     pub(crate) end: IndexedEnd,

@@ -15,7 +15,7 @@ use policy_views::Linked;
 use std::alloc::{AllocError, Global};
 
 /// What an entry gives to a logical name.
-#[derive(Clone, Copy, Debug, PartialEq, Eq)]
+#[derive(Clone, Copy)]
 struct Grant {
     /// The index of a region or a channel.
     physical: usize,

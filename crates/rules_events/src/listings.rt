@@ -13,7 +13,7 @@ use std::marker::Model;
 const MUCH: usize = 16;
 
 /// Whether some group lists both of two subjects.
-#[derive(Clone, Copy, Debug, PartialEq, Eq)]
+#[derive(Clone, Copy)]
 struct Shared {
     one: usize,
     other: usize,

@@ -10,7 +10,7 @@ use policy_lawful::resolved::Subject;
 use std::alloc::Global;
 
 /// A subject by its name and its index.
-#[derive(Clone, Copy, Debug, PartialEq, Eq)]
+#[derive(Clone, Copy)]
 pub(crate) struct Party {
     pub(crate) name: Name,
     pub(crate) index: usize,

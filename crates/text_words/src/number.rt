@@ -5,7 +5,7 @@ ghost use Rattle.std.specs.List.{list_all};
 ghost use Rattle.text_words.specs.Numbers.{decimal, digits_from, is_badly_begun, within_word};
 
 /// Why a word spells no number below 2^64.
-#[derive(Clone, Copy, Debug, PartialEq, Eq)]
+#[derive(Clone, Copy, Debug)]
 pub enum NumberError {
     /// It is no number in decimal digits without leading zeros.
     NoNumber,

@@ -13,7 +13,7 @@ use muen_num::text::{append, append_decimal8, append_decimal32, append_hex32};
 use muen_num::{AccessSize, Name, Tag};
 
 /// The line of a turn.
-#[derive(Clone, Copy, Debug, PartialEq, Eq)]
+#[derive(Clone, Copy, Debug)]
 pub struct TurnLine {
     pub tick: u32,
     pub cpu: u8,
@@ -24,7 +24,7 @@ pub struct TurnLine {
 }
 
 /// What happened in a turn.
-#[derive(Clone, Copy, Debug, PartialEq, Eq)]
+#[derive(Clone, Copy, Debug)]
 pub enum TurnAction {
     /// An instruction ran, with this change.
     Ran(Change),
@@ -42,7 +42,7 @@ pub enum TurnAction {
 }
 
 /// How the kernel ended an exit.
-#[derive(Clone, Copy, Debug, PartialEq, Eq)]
+#[derive(Clone, Copy, Debug)]
 pub enum ExitEnd {
     /// The subject goes on.
     On,

@@ -2,7 +2,7 @@
 
 /// What a CPU is told of the subject that it enters (Intel SDM volume 3, the VMCS's controls). A page
 /// is physical, and named by its number.
-#[derive(Clone, Copy, Debug, PartialEq, Eq)]
+#[derive(Clone, Copy, Debug)]
 pub struct Control {
     /// The page of the subject's state.
     pub state: u32,

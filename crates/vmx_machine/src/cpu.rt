@@ -13,7 +13,7 @@ use state_page::SubjectState;
 use std::alloc::Global;
 
 /// The subject that is on a CPU.
-#[derive(Clone, Copy, Debug, PartialEq, Eq)]
+#[derive(Clone, Copy, Debug)]
 pub struct Entered {
     pub control: Control,
     pub state: SubjectState,

@@ -18,7 +18,7 @@ use muen_num::limits::{MOST_MINOR_FRAMES, MOST_TICKS};
 use std::alloc::{AllocError, Global};
 
 /// A CPU whose minor frames come next, and how many ticks they are to have in all.
-#[derive(Clone, Copy, Debug, PartialEq, Eq)]
+#[derive(Clone, Copy, Debug)]
 pub struct CpuTicks {
     pub cpu: u8,
     pub total: u32,
@@ -26,7 +26,7 @@ pub struct CpuTicks {
 
 /// What the minor frames of a CPU before one leave: how many ticks all are to have, how many those
 /// before have, and how many frames are still to come.
-#[derive(Clone, Copy, Debug, PartialEq, Eq)]
+#[derive(Clone, Copy, Debug)]
 pub struct FramesBefore {
     pub cpu: u8,
     pub total: u32,
