@@ -1,4 +1,3 @@
-pub mod Accepted
 pub mod CodeBytes
 pub mod CodeParts
 pub mod Depths

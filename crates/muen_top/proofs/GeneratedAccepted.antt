@@ -2,7 +2,7 @@
 use Rattle.std.proofs.Common.{◌≡◌, ℕ, List, [], ◌∷◌, ◌++◌, map, Option, Some, None, Ok, refl, ap, ◌∙◌}
 use Rattle.std.specs.List.{flat_map}
 use Rattle.std.specs.Option.{option_or}
-use Rattle.policy_json.specs.Document.{policy_of}
+use Rattle.muen_build.specs.Document.{policy_of}
 use Rattle.policy_lawful.specs.Lawful.{kept_or}
 use Rattle.muen_build.specs.Refusals.{accepted, accepted_policy_of, build_refused, contents_refused, item_refused, refusal_of}
 use Rattle.muen_num.specs.Range.{numbers_below}
