@@ -3,6 +3,7 @@ ghost use Rattle.std.specs.Prelude.{◌≡◌, ◌<◌, ◌⊎◌, Option, None,
 ghost use Rattle.expand_kernel.specs.Expansion.{Expansion, IsExpanded};
 ghost use Rattle.image_checks.specs.PlanFault.{IsPlanFault};
 ghost use Rattle.image_checks.specs.Made.{thing_bytes};
+ghost use Rattle.image_checks.specs.Memory.{memory_of};
 ghost use Rattle.image_pack.specs.Parts.{IsParts};
 ghost use Rattle.image_pack.specs.declared.parts.Image.{Image};
 ghost use Rattle.image_checks.specs.Sound.{IsSound};
@@ -10,6 +11,7 @@ ghost use Rattle.image_verify.specs.Verdict.{AreOfFiles, FirstOf, IsReadyFor, Is
 ghost use Rattle.image_verify.specs.declared.fault.Fault.{Fault};
 ghost use Rattle.image_verify.specs.declared.fault.Fault.TheVariants.{Fails};
 ghost use Rattle.image_verify.specs.declared.fault.Owner.TheVariants.{Named};
+ghost use Rattle.phys_mem.specs.Found.{frames_kept};
 ghost use Rattle.policy_lawful.specs.Contents.{Held};
 ghost use Rattle.policy_lawful.specs.Resolution.{source_of};
 ghost use Rattle.proof_build.specs.Built.{HasOnePathPerTable};
@@ -130,6 +132,14 @@ fn of_tables(policy: &Resolved, fault: TableFault) -> Fault
     }
 }
 
+// The memory of an image at the start.
+fn memory_of(alloc: Global, image: Parts) -> Result<FrameMem, NoMemory>
+    ensures { IfOk result (λ m. frames_kept m ≡ memory_of image) }
+{
+    let loaded = load(alloc, image)?;
+    FrameMem::start(alloc, loaded.memory)
+}
+
 // The first fault of the tables of an image that has the contents of the policy and its subjects.
 fn tables_fault(alloc: Global, expanded: &Expanded, image: Parts) -> Result<Option<Fault>, NoMemory>
     requires { IsReadyFor expanded.now image }
@@ -137,8 +147,7 @@ fn tables_fault(alloc: Global, expanded: &Expanded, image: Parts) -> Result<Opti
 {
     let pages = table_pages(alloc, &image)?;
     let tables = subject_tables(alloc, expanded, &image)?;
-    let loaded = load(alloc, image)?;
-    let memory = FrameMem::start(alloc, loaded.memory)?;
+    let memory = memory_of(alloc, image)?;
     let mut entries = MemoryEntries::of(&memory);
     let found = check(alloc, &mut entries, &pages, &tables)?;
     match found {

@@ -8,15 +8,13 @@ use Rattle.image_verify.proofs.Deciding.{fault_within, same_tables}
 use Rattle.image_verify.specs.Verdict.{named, tables_of}
 use Rattle.ept_check.specs.Memory.{Page}
 use Rattle.phys_mem.specs.Found.{frames_kept}
-use Rattle.phys_mem.specs.Spans.{pages_of_spans}
 use Rattle.policy_lawful.specs.Resolution.{Resolution}
-use Rattle.proof_start.proofs.MemoryFacts.{same_memory}
 use Rattle.image_verify.proofs.verdict.tables_fault.Goals as goal
 
 pub check-requires : goal.check-requires
 check-requires c =
     let i = c.args.image in
-    let m : frames_kept c.of-entries.result.mem.now ≡ memory_of i = ap frames_kept c.of-entries.ensures.memory ∙ (c.in_ok-memory.ensures ∙ (ap pages_of_spans c.in_ok-loaded.ensures.loaded.memory ∙ same_memory i)) in
+    let m : frames_kept c.of-entries.result.mem.now ≡ memory_of i = ap frames_kept c.of-entries.ensures.memory ∙ c.in_ok-memory.ensures in
     let stand = c.in_ok-tables.ensures.stand c.requires.files c.in_ok-pages.pages.items c.requires.filled c.in_ok-pages.ensures.pages in
     record {
       given =
@@ -29,7 +27,7 @@ pub returns-in-None : goal.returns-in-None
 returns-in-None c =
     let i = c.args.image in
     let x = c.args.expanded.now in
-    let m : frames_kept c.of-entries.result.mem.now ≡ memory_of i = ap frames_kept c.of-entries.ensures.memory ∙ (c.in_ok-memory.ensures ∙ (ap pages_of_spans c.in_ok-loaded.ensures.loaded.memory ∙ same_memory i)) in
+    let m : frames_kept c.of-entries.result.mem.now ≡ memory_of i = ap frames_kept c.of-entries.ensures.memory ∙ c.in_ok-memory.ensures in
     let is : None ≡ table_fault (tables_of x i) = sym c.in-None.is ∙ c.in_ok-found.ensures.fault ∙ same_tables x i _ _ _ m (c.deref.ensures.value ∙ c.in_ok-pages.ensures.pages) (c.deref-2.ensures.value ∙ c.in_ok-tables.ensures.tables) in
     ap (option_map (named x.lawful)) is
 
@@ -37,7 +35,7 @@ pub of_tables-requires : goal.of_tables-requires
 of_tables-requires c =
     let i = c.args.image in
     let x = c.args.expanded.now in
-    let m : frames_kept c.of-entries.result.mem.now ≡ memory_of i = ap frames_kept c.of-entries.ensures.memory ∙ (c.in_ok-memory.ensures ∙ (ap pages_of_spans c.in_ok-loaded.ensures.loaded.memory ∙ same_memory i)) in
+    let m : frames_kept c.of-entries.result.mem.now ≡ memory_of i = ap frames_kept c.of-entries.ensures.memory ∙ c.in_ok-memory.ensures in
     let is : Some c.in-Some.fault ≡ table_fault (tables_of x i) = sym c.in-Some.is ∙ c.in_ok-found.ensures.fault ∙ same_tables x i _ _ _ m (c.deref.ensures.value ∙ c.in_ok-pages.ensures.pages) (c.deref-2.ensures.value ∙ c.in_ok-tables.ensures.tables) in
     subst (λ (r : Resolution). c.in-Some.fault.subject < length r.subjects) (sym c.policy_of.ensures) (fault_within x i c.in-Some.fault (sym is))
 
@@ -45,6 +43,6 @@ pub returns : goal.returns
 returns c =
     let i = c.args.image in
     let x = c.args.expanded.now in
-    let m : frames_kept c.of-entries.result.mem.now ≡ memory_of i = ap frames_kept c.of-entries.ensures.memory ∙ (c.in_ok-memory.ensures ∙ (ap pages_of_spans c.in_ok-loaded.ensures.loaded.memory ∙ same_memory i)) in
+    let m : frames_kept c.of-entries.result.mem.now ≡ memory_of i = ap frames_kept c.of-entries.ensures.memory ∙ c.in_ok-memory.ensures in
     let is : Some c.in-Some.fault ≡ table_fault (tables_of x i) = sym c.in-Some.is ∙ c.in_ok-found.ensures.fault ∙ same_tables x i _ _ _ m (c.deref.ensures.value ∙ c.in_ok-pages.ensures.pages) (c.deref-2.ensures.value ∙ c.in_ok-tables.ensures.tables) in
     ap (λ f. Some f) (c.of_tables.ensures ∙ ap (λ (r : Resolution). named r c.in-Some.fault) c.policy_of.ensures) ∙ ap (option_map (named x.lawful)) is

@@ -1,5 +1,5 @@
 use Rattle.std.proofs.Common.{refl, arith}
-use Rattle.muen_run.proofs.running.ready.Goals as goal
+use Rattle.muen_run.proofs.running.kernel_of.Goals as goal
 
 pub new-requires : goal.new-requires
 new-requires c = record { exponent = 12; few = omega arith; is = refl }
