@@ -1,12 +1,9 @@
 pub mod CpusByIndex
-pub mod FixedByExtent
 pub mod GroupsByIndex
 pub mod LimitsByIndex
 pub mod MajorsByIndex
 pub mod NamesAdded
 pub mod Parted
-pub mod RangesByIndex
 pub mod RulesJoined
-pub mod SubjectsInTurn
 pub mod Tau0ByIndex
 pub mod WritersByIndex

@@ -28,7 +28,7 @@ use Rattle.policy_lawful.specs.Views.{view_extent, views_of}
 use Rattle.policy_lawful.proofs.ExtentsByIndex.{extents_by_index}
 use Rattle.policy_lawful.proofs.WindowsByIndex.{component_at, component_there, subject_parts}
 use Rattle.policy_rules.specs.Limits.{device_memory_limit, limits_offence, major_limit, msrs_in, name_limit, regions_of_subject, subject_limit_at}
-use Rattle.policy_rules.specs.Windows.{device_extent, device_extents}
+use Rattle.rules_extents.specs.Windows.{device_extent, device_extents}
 
 -- ---- the memory of all devices
 

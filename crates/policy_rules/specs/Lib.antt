@@ -1,12 +1,9 @@
 pub mod Cpus
-pub mod Fixed
 pub mod Groups
 pub mod InTurn
 pub mod Keys
 pub mod Limits
 pub mod Majors
 pub mod Names
-pub mod Parted
 pub mod Tau0
-pub mod Windows
 pub mod Writers

@@ -1,17 +1,13 @@
 //! The rules that a policy must keep beyond its names and references.
 #![tactic(auto)]
 
-mod addresses;
-mod apart;
 mod cpus;
-mod fixed;
 mod groups;
 mod keys;
 mod limits;
 mod major_frames;
 mod rules;
 mod tau0;
-mod windows;
 mod writers;
 
 pub use rules::check;

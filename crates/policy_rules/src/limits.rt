@@ -7,7 +7,6 @@ ghost use Rattle.policy_lawful.specs.Rules.{device_limit, offence_20};
 ghost use Rattle.policy_lawful.specs.ByIndex.{is_short};
 ghost use Rattle.policy_rules.specs.Limits.{blocks_limit, declared_limit, device_memory_limit, devices_limit, major_limit, majors_limit, msrs_in, name_limit, names_limit, regions_limit, regions_of_subject, subject_limit_at, subject_limit_with, subjects_limit};
 
-use crate::apart::device_extents;
 use crate::keys::Key;
 use muen_num::limits::{
     KERNEL_REGIONS, MOST_BLOCK_BYTES, MOST_BLOCKS, MOST_CHANNELS, MOST_COMPONENTS,
@@ -21,6 +20,7 @@ use policy_lawful::resolved::{CpuFrames, MajorFrame, Subject};
 use policy_lawful::source::{Block, Channel, Component, Device, Event, Msrs, Provided};
 use policy_lawful::{Extent, Offence, View};
 use policy_views::Linked;
+use rules_extents::device_extents;
 use std::alloc::Global;
 
 // ---- what is declared before the subjects

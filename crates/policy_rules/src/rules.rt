@@ -11,10 +11,7 @@ ghost use Rattle.policy_lawful.specs.Resolution.{IsResolved, kept_source, source
 ghost use Rattle.policy_lawful.specs.Rules.{offence_4};
 ghost use Rattle.policy_rules.specs.InTurn.{domains_broken, grants_broken, memory_broken, plan_broken};
 
-use crate::addresses::addresses;
-use crate::apart::{blocks_apart, windows_apart};
 use crate::cpus::cpus;
-use crate::fixed::fixed_regions;
 use crate::groups::groups;
 use crate::limits::limits;
 use crate::major_frames::major_frames;
@@ -25,6 +22,8 @@ use rules_devices::{
     domain_devices, domain_windows, granted_once, msr_ranges, port_ranges, regions_in_one_domain,
 };
 use rules_events::{calls, connected, mapped, modes, monitors, sourced, vectors};
+use rules_extents::addresses::addresses;
+use rules_extents::{blocks_apart, fixed_regions, windows_apart};
 use std::alloc::Global;
 
 // What a rule answers: nothing where it is kept, else its refusal.

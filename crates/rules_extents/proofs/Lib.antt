@@ -1,5 +1,9 @@
 pub mod Beside
+pub mod FixedByExtent
 pub mod InsideOne
 pub mod Overlaps
 pub mod OwnThenPairs
+pub mod Parted
 pub mod Ranges
+pub mod RangesByIndex
+pub mod SubjectsInTurn

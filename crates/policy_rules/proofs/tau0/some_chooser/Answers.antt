@@ -4,7 +4,7 @@ use Rattle.std.specs.List.{list_any}
 use Rattle.policy_views.proofs.SightsAtIndex.{behind_read, front_read}
 use Rattle.policy_rules.specs.Tau0.{is_chooser, is_chooser_by}
 use Rattle.policy_rules.proofs.Parted.{chooser_parted}
-use Rattle.policy_rules.proofs.SubjectsInTurn.{any_in_turn}
+use Rattle.rules_extents.proofs.SubjectsInTurn.{any_in_turn}
 use Rattle.policy_rules.proofs.tau0.some_chooser.Goals as goal
 
 pub returns-then-is_chooser : goal.returns-then-is_chooser

@@ -4,18 +4,19 @@ ghost use Rattle.std.specs.List.{list_all};
 ghost use Rattle.policy_lawful.specs.ByIndex.{block_extent};
 ghost use Rattle.policy_lawful.specs.Resolution.{source_of};
 ghost use Rattle.policy_lawful.specs.Rules.{first_overlap, offence_4, offence_5, offence_18};
-ghost use Rattle.policy_rules.specs.Parted.{AreProvided, provided_extent, provided_to};
-ghost use Rattle.policy_rules.specs.Windows.{device_extent, device_extents, outside_in, overlap_in, physical_extents};
 ghost use Rattle.policy_views.specs.Parts.{behind_views, front_views};
+ghost use Rattle.rules_extents.specs.Parted.{AreProvided, provided_extent, provided_to};
 ghost use Rattle.rules_extents.specs.Shared.{StayApart};
+ghost use Rattle.rules_extents.specs.Windows.{device_extent, device_extents, outside_in, overlap_in, physical_extents};
 
+use crate::overlap::first_overlap;
+use crate::shared::Apart;
 use crate::windows::view_extents;
 use muen_num::NoMemory;
 use policy_lawful::resolved::{ComponentUse, Subject};
 use policy_lawful::source::{Block, Component, Device, DeviceMemory, Provided};
 use policy_lawful::{Extent, Offence, View};
 use policy_views::Linked;
-use rules_extents::{Apart, first_overlap};
 use std::alloc::{AllocError, Global};
 
 // A block as a named range of physical memory.
@@ -53,8 +54,8 @@ fn memory_extents(alloc: Global, memory: &[DeviceMemory]) -> Result<Vec<Extent>,
     memory.iter().map(device_extent).collect(alloc)
 }
 
-/// The memory of all devices.
-pub(crate) fn device_extents(alloc: Global, devices: &[Device]) -> Result<Vec<Extent>, NoMemory>
+/// The memory of all devices, as ranges.
+pub fn device_extents(alloc: Global, devices: &[Device]) -> Result<Vec<Extent>, NoMemory>
     ensures { IfOk result (λ v. v.items ≡ device_extents devices.now) }
 {
     let mut extents = Vec::new(alloc);
@@ -79,7 +80,7 @@ fn physical_extents(alloc: Global, policy: &Linked) -> Result<Vec<Extent>, NoMem
 ///
 /// Answers `NoMemory` where memory was refused.
 #[tactic(auto, using(crate::proofs::RangesByIndex::physical_sized, crate::proofs::RangesByIndex::blocks_apart))]
-pub(crate) fn blocks_apart(alloc: Global, policy: &Linked) -> Result<Option<Offence>, NoMemory>
+pub fn blocks_apart(alloc: Global, policy: &Linked) -> Result<Option<Offence>, NoMemory>
     requires { offence_4 (source_of policy.now) ≡ None }
     ensures { IfOk result (λ o. o ≡ offence_18 (source_of policy.now)) }
 {
@@ -186,7 +187,7 @@ fn of_subject(
 /// Rule 5: the first two windows of a subject that share an address.
 ///
 /// Answers `NoMemory` where memory was refused.
-pub(crate) fn windows_apart(alloc: Global, policy: &Linked) -> Result<Option<Offence>, NoMemory>
+pub fn windows_apart(alloc: Global, policy: &Linked) -> Result<Option<Offence>, NoMemory>
     requires { offence_4 (source_of policy.now) ≡ None }
     ensures { IfOk result (λ o. o ≡ offence_5 (source_of policy.now)) }
 {

@@ -1,7 +1,7 @@
 // The windows of subjects, as named ranges of guest addresses.
 ghost use Rattle.std.specs.Prelude.{◌≡◌, None, map, IfOk};
 ghost use Rattle.muen_num.specs.Search.{first_in};
-ghost use Rattle.policy_rules.specs.Windows.{component_ranges, outside, outside_in};
+ghost use Rattle.rules_extents.specs.Windows.{component_ranges, outside, outside_in};
 ghost use Rattle.policy_lawful.specs.Views.{view_extent};
 
 use crate::addresses::is_guest;

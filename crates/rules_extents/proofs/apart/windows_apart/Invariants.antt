@@ -1,9 +1,9 @@
 -- No windows of the subjects so far share an address.
 use Rattle.std.proofs.Common.{◌≡◌, None, drop}
 use Rattle.muen_num.specs.Search.{first_in}
-use Rattle.policy_rules.specs.Parted.{AreProvided}
-use Rattle.policy_rules.specs.Windows.{outside_in, overlap_in}
-use Rattle.policy_rules.proofs.apart.windows_apart.Given as goal
+use Rattle.rules_extents.specs.Parted.{AreProvided}
+use Rattle.rules_extents.specs.Windows.{outside_in, overlap_in}
+use Rattle.rules_extents.proofs.apart.windows_apart.Given as goal
 
 abbrev pub invariant-loop-index : goal.invariant-loop-index
 invariant-loop-index l = record {

@@ -1,13 +1,12 @@
-use Rattle.std.proofs.Common.{◌≤◌, refl, length, sym, ap, subst, ◌∙◌, arith}
+use Rattle.std.proofs.Common.{◌≤◌, Some, None, refl, length, sym, ap, subst, ◌∙◌, arith}
 use Rattle.std.proofs.Math.ListN.{drop_of_length-le}
 use Rattle.muen_num.specs.Search.{first_in}
 use Rattle.policy_views.proofs.SightsAtIndex.{behind_read, front_read}
-use Rattle.rules_events.proofs.SeenSearch.{found, further}
-use Rattle.policy_rules.specs.Parted.{AreProvided}
-use Rattle.policy_rules.specs.Windows.{outside_in, overlap_in}
-use Rattle.policy_rules.proofs.RangesByIndex.{none_outside, windows_apart}
-use Rattle.policy_rules.proofs.SubjectsInTurn.{none_in_turn}
-use Rattle.policy_rules.proofs.apart.windows_apart.Goals as goal
+use Rattle.rules_extents.specs.Parted.{AreProvided}
+use Rattle.rules_extents.specs.Windows.{outside_in, overlap_in}
+use Rattle.rules_extents.proofs.RangesByIndex.{none_outside, windows_apart}
+use Rattle.rules_extents.proofs.SubjectsInTurn.{first_in_turn, none_in_turn}
+use Rattle.rules_extents.proofs.apart.windows_apart.Goals as goal
 
 pub loop-index-init : goal.loop-index-init
 loop-index-init c = record {
@@ -35,9 +34,9 @@ of_subject-requires-clause-provided c = subst (λ kept. AreProvided kept c.args.
 pub returns-in-Some : goal.returns-in-Some
 returns-in-Some c =
     let r = c.args.policy.now in
-    found (overlap_in r) r.subjects _ c.loop-index.index c.subject-item.result c.subjects-subject-items.ensures.value c.loop-index-test.true c.subject-item.is c.in-Some.offence
-    (sym c.in-Some.is ∙ c.in_ok-offence.ensures) c.loop-index.invariant.rest
-    ∙ windows_apart r c.subjects-subject-items.ensures.resolved
+    sym (first_in_turn r.subjects _ c.loop-index.index c.subject-item.result c.subjects-subject-items.ensures.value c.loop-index-test.true c.subject-item.is (overlap_in r) (Some c.in-Some.offence)
+    (sym c.in-Some.is ∙ c.in_ok-offence.ensures))
+    ∙ c.loop-index.invariant.rest ∙ windows_apart r c.subjects-subject-items.ensures.resolved
 
 pub loop-index-preserved : goal.loop-index-preserved
 loop-index-preserved c =
@@ -45,7 +44,7 @@ loop-index-preserved c =
     let s = c.subject-item.result in
     let same = c.subjects-subject-items.ensures.value in
     record {
-      rest = further (overlap_in r) r.subjects _ c.loop-index.index s same c.loop-index-test.true c.subject-item.is (sym c.in_default.is ∙ c.in_ok-offence.ensures) c.loop-index.invariant.rest;
+      rest = sym (first_in_turn r.subjects _ c.loop-index.index s same c.loop-index-test.true c.subject-item.is (overlap_in r) None (sym c.in_default.is ∙ c.in_ok-offence.ensures)) ∙ c.loop-index.invariant.rest;
       inside = (none_in_turn r.subjects _ c.loop-index.index s same c.loop-index-test.true c.subject-item.is (outside_in r) c.loop-index.invariant.inside).1;
       provided = c.loop-index.invariant.provided;
     }

@@ -3,10 +3,10 @@ use Rattle.std.specs.Prelude.{IfOk, IsSomeAnd, nat_lt}
 use Rattle.std.specs.List.{list_all}
 use Rattle.policy_lawful.specs.Rules.{first_overlap}
 use Rattle.policy_lawful.specs.Views.{view_extent}
-use Rattle.policy_rules.specs.Parted.{provided_extent, provided_to}
-use Rattle.policy_rules.proofs.Parted.{all_sized, others_sized, overlap_parted, told_apart}
+use Rattle.rules_extents.specs.Parted.{provided_extent, provided_to}
+use Rattle.rules_extents.proofs.Parted.{all_sized, others_sized, overlap_parted, told_apart}
 use Rattle.rules_extents.specs.Shared.{StayApart}
-use Rattle.policy_rules.proofs.apart.of_subject.Goals as goal
+use Rattle.rules_extents.proofs.apart.of_subject.Goals as goal
 
 pub are_told_apart-requires : goal.are_told_apart-requires
 are_told_apart-requires c =

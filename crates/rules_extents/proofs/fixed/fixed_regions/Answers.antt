@@ -1,7 +1,7 @@
 use Rattle.std.proofs.Common.{◌∙◌}
 use Rattle.std.proofs.lemmas.Result.{IfOk-weaker}
-use Rattle.policy_rules.proofs.FixedByExtent.{fixed_blocks_apart, fixed_blocks_sized, fixed_by_extent, fixed_front_sized, fixed_sized, inside_within}
-use Rattle.policy_rules.proofs.fixed.fixed_regions.Goals as goal
+use Rattle.rules_extents.proofs.FixedByExtent.{fixed_blocks_apart, fixed_blocks_sized, fixed_by_extent, fixed_front_sized, fixed_sized, inside_within}
+use Rattle.rules_extents.proofs.fixed.fixed_regions.Goals as goal
 
 pub count_inside-requires-clause-apart : goal.count_inside-requires-clause-apart
 count_inside-requires-clause-apart c =

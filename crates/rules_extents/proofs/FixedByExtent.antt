@@ -24,9 +24,9 @@ use Rattle.policy_lawful.specs.declared.offence.Extent.{Extent}
 use Rattle.policy_lawful.proofs.KeptAddresses.{addresses_kept}
 use Rattle.policy_lawful.specs.source.Region.{Region}
 use Rattle.policy_lawful.specs.source.Source.{Source}
-use Rattle.policy_rules.specs.Windows.{device_extents}
-use Rattle.policy_rules.proofs.RangesByIndex.{blocks_sized}
-use Rattle.policy_rules.specs.Fixed.{block_extents, fixed_extents}
+use Rattle.rules_extents.specs.Windows.{device_extents}
+use Rattle.rules_extents.proofs.RangesByIndex.{blocks_sized}
+use Rattle.rules_extents.specs.Fixed.{block_extents, fixed_extents}
 
 -- ---- what is known of the blocks and the regions
 

@@ -6,9 +6,9 @@ use Rattle.policy_lawful.specs.declared.offence.Offence.{Offence}
 use Rattle.policy_lawful.specs.declared.resolved.Subject.{Subject}
 use Rattle.policy_views.specs.Parts.{behind_at, front_at}
 use Rattle.policy_views.proofs.SightsAtIndex.{first_sighted}
-use Rattle.policy_rules.specs.Windows.{outside, outside_in}
-use Rattle.policy_rules.proofs.Parted.{outside_parted}
-use Rattle.policy_rules.proofs.windows.outside.Goals as goal
+use Rattle.rules_extents.specs.Windows.{outside, outside_in}
+use Rattle.rules_extents.proofs.Parted.{outside_parted}
+use Rattle.rules_extents.proofs.windows.outside.Goals as goal
 
 pub returns : goal.returns
 returns c =

@@ -20,7 +20,7 @@ use Rattle.policy_lawful.specs.source.Device.{Device}
 use Rattle.policy_lawful.specs.Views.{view_extent, views_of}
 use Rattle.policy_lawful.specs.declared.view.View.{View}
 use Rattle.policy_lawful.proofs.ExtentsByIndex.{extents_by_index}
-use Rattle.policy_rules.specs.Windows.{addresses_offence, component_ranges, device_extent, device_extents, device_offence, elements_offence, outside, outside_in, overlap_in, physical_extents}
+use Rattle.rules_extents.specs.Windows.{addresses_offence, component_ranges, device_extent, device_extents, device_offence, elements_offence, outside, outside_in, overlap_in, physical_extents}
 
 -- ---- rule 4
 

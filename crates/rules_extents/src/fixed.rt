@@ -3,14 +3,15 @@ ghost use Rattle.std.specs.Prelude.{◌≡◌, None, IfOk};
 ghost use Rattle.policy_lawful.specs.MoreRules.{fixed_extent, offence_19};
 ghost use Rattle.policy_lawful.specs.Resolution.{source_of};
 ghost use Rattle.policy_lawful.specs.Rules.{offence_4, offence_18};
-ghost use Rattle.policy_rules.specs.Fixed.{block_extents, fixed_extents};
+ghost use Rattle.rules_extents.specs.Fixed.{block_extents, fixed_extents};
 
 use crate::apart::block_extents;
+use crate::inside::count_inside;
+use crate::overlap::first_fault;
 use muen_num::NoMemory;
 use policy_lawful::source::Region;
 use policy_lawful::{Extent, Offence};
 use policy_views::Linked;
-use rules_extents::{count_inside, first_fault};
 use std::alloc::{AllocError, Global};
 
 // A region with a fixed address, as a named range of physical memory.
@@ -35,7 +36,7 @@ fn fixed_extents(alloc: Global, memory: &[Region]) -> Result<Vec<Extent>, AllocE
 ///
 /// Answers `NoMemory` where memory was refused.
 #[tactic(auto, using(crate::proofs::FixedByExtent::fixed_blocks_sized, crate::proofs::FixedByExtent::fixed_blocks_apart, crate::proofs::FixedByExtent::fixed_sized, crate::proofs::FixedByExtent::fixed_front_sized, crate::proofs::FixedByExtent::inside_within, crate::proofs::FixedByExtent::fixed_by_extent))]
-pub(crate) fn fixed_regions(alloc: Global, policy: &Linked) -> Result<Option<Offence>, NoMemory>
+pub fn fixed_regions(alloc: Global, policy: &Linked) -> Result<Option<Offence>, NoMemory>
     requires addresses { offence_4 (source_of policy.now) ≡ None }
     requires apart { offence_18 (source_of policy.now) ≡ None }
     ensures { IfOk result (λ o. o ≡ offence_19 (source_of policy.now)) }

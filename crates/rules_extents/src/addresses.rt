@@ -1,10 +1,10 @@
-// Rule 4: addresses and sizes.
+//! Rule 4: addresses and sizes.
 ghost use Rattle.std.specs.Prelude.{◌≡◌, ◌+◌, true};
 ghost use Rattle.muen_num.specs.Search.{first_in, unless};
 ghost use Rattle.policy_lawful.specs.Offences.{alone};
 ghost use Rattle.policy_lawful.specs.Rules.{is_page_aligned, is_page_size, is_physical, is_guest, is_alignment, is_fixed, is_laid, offence_4};
 ghost use Rattle.policy_lawful.specs.Resolution.{IsResolved, source_of};
-ghost use Rattle.policy_rules.specs.Windows.{addresses_offence, component_channel_offence, component_ranges, device_offence, elements_offence, provided_offence, range_offence, required_offence};
+ghost use Rattle.rules_extents.specs.Windows.{addresses_offence, component_channel_offence, component_ranges, device_offence, elements_offence, provided_offence, range_offence, required_offence};
 
 use crate::windows::outside;
 use muen_num::limits::{GUEST_END, LARGE_PAGE, PAGE, PHYSICAL_END};
@@ -193,7 +193,7 @@ fn of_all(policy: &Linked) -> Option<Offence>
 
 /// Rule 4: the first address or size that isn't one.
 #[tactic(auto, using(crate::proofs::RangesByIndex::addresses_by_index))]
-pub(crate) fn addresses(policy: &Linked) -> Option<Offence>
+pub fn addresses(policy: &Linked) -> Option<Offence>
     ensures { result ≡ offence_4 (source_of policy.now) }
 {
     of_all(policy)

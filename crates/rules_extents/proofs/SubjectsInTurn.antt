@@ -2,6 +2,7 @@
 use Rattle.std.proofs.Common.{◌≡◌, ℕ, ◌+◌, ◌<◌, suc, Bool, List, drop, drop-cons, add-one, get_or, length, Option, None, sym, ap, subst, ◌∙◌}
 use Rattle.std.specs.Prelude.{◌||◌}
 use Rattle.std.specs.List.{list_any}
+use Rattle.std.specs.Option.{option_or}
 use Rattle.muen_num.specs.Search.{first_in}
 use Rattle.muen_num.proofs.FirstSteps.{first_step}
 use Rattle.muen_num.proofs.SearchLaws.{none_both}
@@ -21,5 +22,9 @@ module _ (ss read : List Subject) (k : ℕ) (s : Subject) (same : read ≡ ss) (
       ∙ ap (λ n. test s || list_any test (drop n ss)) (sym (add-one k))
 
   -- the first offence is of the first of them or of those behind it
+  pub first_in_turn : {O : Type 0} (at : Subject → Option O) (answer : Option O) → answer ≡ at s → first_in at (drop k ss) ≡ option_or answer (first_in at (drop (k + 1) ss))
+  first_in_turn at answer says = first_step at ss k s answer inside there says
+
+  -- where there is none, neither the first offends nor one behind it
   pub none_in_turn : {O : Type 0} (at : Subject → Option O) → first_in at (drop k ss) ≡ None → (at s ≡ None) × (first_in at (drop (k + 1) ss) ≡ None)
-  none_in_turn at none = none_both (at s) (first_in at (drop (k + 1) ss)) (sym (first_step at ss k s (at s) inside there (λ i. at s)) ∙ none)
+  none_in_turn at none = none_both (at s) (first_in at (drop (k + 1) ss)) (sym (first_in_turn at (at s) (λ i. at s)) ∙ none)
