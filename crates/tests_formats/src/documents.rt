@@ -3,6 +3,7 @@ use policy_json::read;
 use policy_lawful::Refusal;
 use std::alloc::Global;
 use std::test::Fail;
+use tests_agree::{agree, agree_at};
 
 // Each row is a document, with `@` for a processor and a plan, and the text of why it is refused. Of
 // each kind of value and of each object, one isn't as wanted; then rows have two faults, of which the
@@ -38,9 +39,15 @@ const DOCUMENTS: &str = r#"{=>not JSON
 {@,"memory":1,"memory":[{}]}=>shape at /memory/0/name: want present
 {@,"memoryBlocks":[{"name":"ram","physicalAddress":0,"size":"16#1000#"}],"devices":[{"name":"d","memory":[{"name":"m","physicalAddress":0,"size":1}],"ioPorts":[{"name":"p","start":0,"end":1}],"irqs":[{"name":"i"}],"bdf":{"bus":0,"device":3,"function":0}}],"memory":[{"name":"a","size":1,"caching":"UC","alignment":2097152,"physicalAddress":0,"content":{"file":"f","offset":1,"length":2},"sharedMemory":["s"]}],"channels":[{"name":"c","size":1,"hasEvent":"async"}],"components":[{"name":"k","provides":[{"logical":"l","virtualAddress":0,"size":1,"rights":"rx","content":{"hex":"0F"}}],"memory":[{"logical":"m","virtualAddress":0,"size":1,"rights":"r"}],"channels":[{"logical":"n","role":"writer","virtualAddress":0,"size":1,"call":1,"vector":2}]}],"events":[{"name":"e","mode":"self"}],"subjects":[{"name":"s","cpu":0,"entry":0,"component":{"ref":"k","map":[{"logical":"m","physical":"a","rights":"r"}]},"channels":[{"channel":"c","role":"reader","virtualAddress":0,"call":1,"vector":40}],"devices":[{"device":"d","memory":[{"memory":"m","virtualAddress":0,"rights":"rw"}],"ioPorts":["p"],"irqs":[{"irq":"i","vector":41}]}],"msrs":[{"start":0,"end":1,"rights":"w"}],"sources":[{"event":"e","trap":6}],"targets":[{"event":"e","vector":42}],"monitors":[{"subject":"t","virtualAddress":0,"rights":"rw"}]}],"deviceDomains":[{"name":"o","devices":["d"],"memory":[{"region":"a","virtualAddress":0,"rights":"rw"}]}]}=>accepted"#;
 
-// What reading a document answers, as a text.
-fn answer(alloc: Global, document: &[u8]) -> Result<String, Fail> {
-    match read(alloc, document).err() {
+fn refusal(alloc: Global, document: &[u8]) -> Option<Refusal> {
+    read(alloc, document).err()
+}
+
+// What reading the document of a row answers, as a text.
+fn answer(alloc: Global, document: &str) -> Result<String, Fail> {
+    let both = r#""processor":{"logicalCpus":1},"scheduling":{}"#;
+    let text = document.replace(alloc, '@', both)?;
+    match refusal(alloc, text.as_str().as_bytes()) {
         None => Ok(String::from_str(alloc, "accepted")?),
         Some(refusal) => Ok(refusal.to_string(alloc)?),
     }
@@ -53,12 +60,9 @@ fn documents(rt: HostRuntime) -> Result<(), Fail> {
         let Some((document, want)) = row.split_once("=>") else {
             return Err(Fail::new("no row"));
         };
-        let both = r#""processor":{"logicalCpus":1},"scheduling":{}"#;
-        let text = document.replace(alloc, '@', both)?;
-        let found = answer(alloc, text.as_str().as_bytes())?;
-        assert_eq!(rt; found.as_str(), want, "{row}");
+        agree_at(&rt, answer(alloc, document)?.as_str(), want, row);
     }
     let broken = b"{\"processor\":\"\xff\"}";
-    assert_eq!(rt; read(alloc, broken).err(), Some(Refusal::NotJson));
+    agree(&rt, refusal(alloc, broken), Some(Refusal::NotJson));
     Ok(())
 }

@@ -5,6 +5,7 @@ use muen_num::Name;
 use policy_lawful::{Extent, Offence};
 use rules_extents::{first_fault, first_overlap};
 use std::test::Fail;
+use tests_agree::agree;
 
 // The name of one letter.
 fn letter(letter: u8) -> Result<Name, Fail> {
@@ -37,12 +38,13 @@ fn finds_the_first_fault(rt: HostRuntime) -> Result<(), Fail> {
         first: upper,
         second: inner,
     };
-    assert_eq!(rt; first_overlap(rt.alloc(), &extents[..3])?, None);
-    assert_eq!(rt; first_overlap(rt.alloc(), &extents)?, Some(pair));
-    assert_eq!(rt; first_fault(rt.alloc(), &extents, 4)?, Some(pair));
-    assert_eq!(rt;
+    agree(&rt, first_overlap(rt.alloc(), &extents[..3])?, None);
+    agree(&rt, first_overlap(rt.alloc(), &extents)?, Some(pair));
+    agree(&rt, first_fault(rt.alloc(), &extents, 4)?, Some(pair));
+    agree(
+        &rt,
         first_fault(rt.alloc(), &extents, 3)?,
-        Some(Offence::alone(inner))
+        Some(Offence::alone(inner)),
     );
     Ok(())
 }

@@ -2,7 +2,10 @@
 use binary_form::fault::{Field, FormError, FormFault, ImageFault};
 use binary_form::reading::{byte_of, bytes_upto, gap_of, name_of, tag_of, u16_of, u32_of, u64_of};
 use binary_form::writing::put_name;
+use std::alloc::Global;
+use std::process::Abort;
 use std::test::Fail;
+use tests_agree::{agree, holds};
 
 fn short(remaining: usize) -> FormError {
     FormError::At(FormFault::Short(remaining))
@@ -15,30 +18,36 @@ fn bad(remaining: usize, field: Field) -> FormError {
 #[test]
 fn reads_numbers(rt: HostRuntime) {
     let bytes = [0x21u8, 0x43, 0x65, 0x87, 0xa9, 0xcb, 0xed, 0x0f, 9];
-    assert_eq!(rt; byte_of(&bytes[..1]), Ok((0x21, &bytes[..0])));
-    assert_eq!(rt; u16_of(&bytes[..3]), Ok((0x4321, &bytes[2..3])));
-    assert_eq!(rt; u32_of(&bytes[..4]), Ok((0x8765_4321, &bytes[..0])));
-    assert_eq!(rt; u64_of(&bytes), Ok((0x0fed_cba9_8765_4321, &bytes[8..])));
-    assert_eq!(rt; u64_of(&bytes[..7]), Err(short(7)));
+    agree(&rt, byte_of(&bytes[..1]), Ok((0x21, &bytes[..0])));
+    agree(&rt, u16_of(&bytes[..3]), Ok((0x4321, &bytes[2..3])));
+    agree(&rt, u32_of(&bytes[..4]), Ok((0x8765_4321, &bytes[..0])));
+    agree(
+        &rt,
+        u64_of(&bytes),
+        Ok((0x0fed_cba9_8765_4321, &bytes[8..])),
+    );
+    agree(&rt, u64_of(&bytes[..7]), Err(short(7)));
 }
 
 #[test]
 fn reads_bytes(rt: HostRuntime) -> Result<(), Fail> {
     let bytes = [77u8, 85, 0, 0, 7];
-    assert_eq!(rt; tag_of(&bytes, b"MU", Field::Magic), Ok(&bytes[2..]));
-    assert_eq!(rt;
+    agree(&rt, tag_of(&bytes, b"MU", Field::Magic), Ok(&bytes[2..]));
+    agree(
+        &rt,
         tag_of(&bytes, b"MN", Field::Magic),
-        Err(bad(5, Field::Magic))
+        Err(bad(5, Field::Magic)),
     );
-    assert_eq!(rt; gap_of(&bytes[2..], 2, Field::Zero), Ok(&bytes[4..]));
-    assert_eq!(rt;
+    agree(&rt, gap_of(&bytes[2..], 2, Field::Zero), Ok(&bytes[4..]));
+    agree(
+        &rt,
         gap_of(&bytes[2..], 3, Field::Zero),
-        Err(bad(3, Field::Zero))
+        Err(bad(3, Field::Zero)),
     );
-    assert_eq!(rt; bytes_upto(rt.alloc(), &bytes, 6).err(), Some(short(5)));
+    agree(&rt, bytes_upto(rt.alloc(), &bytes, 6).err(), Some(short(5)));
     let (front, rest) = bytes_upto(rt.alloc(), &bytes, 4).ok().ok_or("bytes")?;
-    assert_eq!(rt; front.items(), &bytes[..4]);
-    assert_eq!(rt; rest, &bytes[4..]);
+    agree(&rt, front.items(), &bytes[..4]);
+    agree(&rt, rest, &bytes[4..]);
     Ok(())
 }
 
@@ -52,6 +61,31 @@ fn name_field(first: u8, text: &[u8]) -> [u8; 64] {
     bytes
 }
 
+// A field is read as a name of this text and written the same, or is no name.
+fn read_and_write(
+    rt: &impl Abort,
+    alloc: Global,
+    field: &[u8],
+    text: &[u8],
+    wanted: bool,
+) -> Result<(), Fail> {
+    match name_of(field) {
+        Ok((name, rest)) => {
+            holds(rt, wanted);
+            agree(rt, name.bytes(), text);
+            holds(rt, rest.is_empty());
+            let mut out = Vec::new(alloc);
+            put_name(&mut out, &name)?;
+            agree(rt, out.as_slice(), field);
+        }
+        Err(halt) => {
+            holds(rt, !wanted);
+            agree(rt, halt, bad(64, Field::Name));
+        }
+    }
+    Ok(())
+}
+
 #[test]
 fn reads_names(rt: HostRuntime) -> Result<(), Fail> {
     let longest = [b'a'; 63];
@@ -63,21 +97,7 @@ fn reads_names(rt: HostRuntime) -> Result<(), Fail> {
         (3, b"a b", false),
     ];
     for (first, text, wanted) in cases {
-        let bytes = name_field(first, text);
-        match name_of(&bytes) {
-            Ok((name, rest)) => {
-                assert!(rt; wanted);
-                assert_eq!(rt; name.bytes(), text);
-                assert!(rt; rest.is_empty());
-                let mut out = Vec::new(rt.alloc());
-                put_name(&mut out, &name)?;
-                assert_eq!(rt; out.as_slice(), bytes.as_slice());
-            }
-            Err(halt) => {
-                assert!(rt; !wanted);
-                assert_eq!(rt; halt, bad(64, Field::Name));
-            }
-        }
+        read_and_write(&rt, rt.alloc(), &name_field(first, text), text, wanted)?;
     }
     Ok(())
 }
@@ -86,11 +106,12 @@ fn reads_names(rt: HostRuntime) -> Result<(), Fail> {
 fn writes_faults(rt: HostRuntime) -> Result<(), Fail> {
     let alloc = rt.alloc();
     let last = ImageFault::Trailing { at: u64::MAX };
-    assert_eq!(rt;
+    agree(
+        &rt,
         last.to_string(alloc)?.as_str(),
-        "image refused at 18446744073709551615: trailing"
+        "image refused at 18446744073709551615: trailing",
     );
     let refused = ImageFault::NoMemory;
-    assert_eq!(rt; refused.to_string(alloc)?.as_str(), "out of memory");
+    agree(&rt, refused.to_string(alloc)?.as_str(), "out of memory");
     Ok(())
 }

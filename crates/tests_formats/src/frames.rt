@@ -3,6 +3,7 @@ use frame_clock::{FrameAt, FrameSlot, GroupPart, Major, Minor, Plan, advance, sl
 use muen_num::Seq;
 use std::alloc::{AllocError, Global};
 use std::test::Fail;
+use tests_agree::{agree, agree_at};
 
 fn frame(group: u8, ticks: u32) -> Minor {
     Minor { group, ticks }
@@ -50,31 +51,27 @@ fn frame_slot(major: usize, group: u8, first: bool, remaining: u32) -> FrameSlot
     }
 }
 
-#[test]
-fn the_frames_begin_anew(rt: HostRuntime) -> Result<(), Fail> {
-    let plan = plan(rt.alloc())?;
-    // a round of each CPU
-    let round: [(FrameSlot, FrameSlot); 5] = [
+// The slots of CPU 0 and CPU 1 at a tick: the five of a round, over and over.
+fn slots_at(tick: usize) -> (FrameSlot, FrameSlot) {
+    let round = [
         (frame_slot(0, 0, true, 1), frame_slot(0, 3, true, 2)),
         (frame_slot(0, 1, true, 2), frame_slot(0, 3, false, 1)),
         (frame_slot(0, 1, false, 1), frame_slot(0, 2, true, 1)),
         (frame_slot(1, 1, true, 2), frame_slot(1, 2, true, 1)),
         (frame_slot(1, 1, false, 1), frame_slot(1, 3, true, 1)),
     ];
+    round[tick % 5]
+}
+
+#[test]
+fn the_frames_begin_anew(rt: HostRuntime) -> Result<(), Fail> {
+    let plan = plan(rt.alloc())?;
     let mut at = FrameAt::first();
     for tick in 0usize..13 {
         at = advance(&plan, at, None, tick as u32);
-        let (zero, one) = round[tick % 5];
-        assert_eq!(rt;
-            slot(&plan, at, 0, tick as u32),
-            Some(zero),
-            "CPU 0 at {tick}"
-        );
-        assert_eq!(rt;
-            slot(&plan, at, 1, tick as u32),
-            Some(one),
-            "CPU 1 at {tick}"
-        );
+        let (zero, one) = slots_at(tick);
+        agree_at(&rt, slot(&plan, at, 0, tick as u32), Some(zero), tick);
+        agree_at(&rt, slot(&plan, at, 1, tick as u32), Some(one), tick);
     }
     Ok(())
 }
@@ -84,7 +81,7 @@ fn frames_picked(rt: HostRuntime) -> Result<(), Fail> {
     let plan = plan(rt.alloc())?;
     let first = FrameAt::first();
     // within a major frame nothing is picked
-    assert_eq!(rt; advance(&plan, first, Some(1), 2), first);
+    agree(&rt, advance(&plan, first, Some(1), 2), first);
     let start = 3;
     let cases = [
         (Some(0u8), 0usize),
@@ -94,17 +91,22 @@ fn frames_picked(rt: HostRuntime) -> Result<(), Fail> {
         (None, 1),
     ];
     for (pick, major) in cases {
-        assert_eq!(rt; advance(&plan, first, pick, 3), FrameAt { major, start });
+        agree(
+            &rt,
+            advance(&plan, first, pick, 3),
+            FrameAt { major, start },
+        );
     }
     let last = FrameAt { major: 1, start: 3 };
     let again = FrameAt { major: 1, start: 5 };
-    assert_eq!(rt;
+    agree(
+        &rt,
         advance(&plan, last, None, 5),
-        FrameAt { major: 0, start: 5 }
+        FrameAt { major: 0, start: 5 },
     );
-    assert_eq!(rt; advance(&plan, last, Some(9), 5), again);
+    agree(&rt, advance(&plan, last, Some(9), 5), again);
     // no such CPU, no such tick of the major frame
-    assert_eq!(rt; slot(&plan, first, 2, 0), None);
-    assert_eq!(rt; slot(&plan, first, 0, 3), None);
+    agree(&rt, slot(&plan, first, 2, 0), None);
+    agree(&rt, slot(&plan, first, 0, 3), None);
     Ok(())
 }

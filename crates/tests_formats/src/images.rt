@@ -9,6 +9,7 @@ mod faults;
 mod spelled;
 
 use spelled::{CHOSEN, PLAIN, adler32, spelled};
+use tests_agree::{agree, holds};
 
 // What unpacking bytes answers, as a text: `image`, or the fault.
 fn answer(alloc: Global, bytes: &[u8]) -> Result<String, Fail> {
@@ -35,10 +36,10 @@ fn comes_back(alloc: Global, bytes: &[u8]) -> Result<bool, Fail> {
 fn there_and_back(rt: HostRuntime) -> Result<(), Fail> {
     let alloc = rt.alloc();
     let bytes = spelled(alloc, PLAIN)?;
-    assert_eq!(rt; bytes.len(), 42_576);
+    agree(&rt, bytes.len(), 42_576);
     // that of the bytes that `share/spell_image.py` spells of `examples/one_subject.json`
-    assert_eq!(rt; adler32(&bytes), 0x8EB4_E317);
-    assert!(rt; comes_back(alloc, &bytes)?);
+    agree(&rt, adler32(&bytes), 0x8EB4_E317);
+    holds(&rt, comes_back(alloc, &bytes)?);
     Ok(())
 }
 
@@ -116,10 +117,11 @@ fn has_its_parts(alloc: Global, bytes: &[u8]) -> (Option<u16>, [Option<bool>; 4]
 #[test]
 fn parts_of_an_image(rt: HostRuntime) -> Result<(), Fail> {
     let bytes = spelled(rt.alloc(), CHOSEN)?;
-    assert_eq!(rt;
+    agree(
+        &rt,
         has_its_parts(rt.alloc(), &bytes),
-        (Some(4), [Some(true); 4])
+        (Some(4), [Some(true); 4]),
     );
-    assert!(rt; comes_back(rt.alloc(), &bytes)?);
+    holds(&rt, comes_back(rt.alloc(), &bytes)?);
     Ok(())
 }

@@ -8,6 +8,7 @@ use std::alloc::Global;
 use std::io::{ErrorKind, Read};
 use std::test::Fail;
 use std::{fs, io};
+use tests_agree::{agree, holds};
 
 fn bytes_found(alloc: Global, bytes: &[u8]) -> Result<Found, Fail> {
     Ok(Found::Bytes(Seq::of(Vec::from_slice(alloc, bytes)?)))
@@ -21,13 +22,17 @@ fn files_in_memory(rt: HostRuntime) -> Result<(), Fail> {
     let held = vec![in alloc; (String::from_str(alloc, "a")?, bytes)]?;
     let mut files = MemFiles::make(held, Vec::from_slice(alloc, &[3, 5])?);
     let whole = bytes_found(alloc, b"xyz")?;
-    assert_eq!(rt; files.read(alloc, "a", 3), Ok(whole));
-    assert_eq!(rt; files.read(alloc, "a", 2), Ok(Found::TooLong(3)));
-    assert_eq!(rt; files.read(alloc, "b", 9), Ok(Found::Missing));
-    assert_eq!(rt; files.read(alloc, "a", 9), Err(FileError::Failed));
-    assert_eq!(rt; files.write(alloc, "b", b"new"), Ok(()));
-    assert_eq!(rt; files.write(alloc, "b", b"lost"), Err(FileError::Failed));
-    assert_eq!(rt; files.get("b"), Some(b"new".as_slice()));
+    agree(&rt, files.read(alloc, "a", 3), Ok(whole));
+    agree(&rt, files.read(alloc, "a", 2), Ok(Found::TooLong(3)));
+    agree(&rt, files.read(alloc, "b", 9), Ok(Found::Missing));
+    agree(&rt, files.read(alloc, "a", 9), Err(FileError::Failed));
+    agree(&rt, files.write(alloc, "b", b"new"), Ok(()));
+    agree(
+        &rt,
+        files.write(alloc, "b", b"lost"),
+        Err(FileError::Failed),
+    );
+    agree(&rt, files.get("b"), Some(b"new".as_slice()));
     Ok(())
 }
 
@@ -36,15 +41,15 @@ fn files_in_a_folder(rt: HostRuntime) -> Result<(), Fail> {
     let alloc = rt.alloc();
     let name = "muen_outside_test";
     let mut files = FolderFiles::system(rt);
-    assert_eq!(rt; files.write(alloc, name, b"lost"), Ok(()));
-    assert_eq!(rt; files.write(alloc, name, b"xyz"), Ok(()));
+    agree(&rt, files.write(alloc, name, b"lost"), Ok(()));
+    agree(&rt, files.write(alloc, name, b"xyz"), Ok(()));
     let whole = bytes_found(alloc, b"xyz")?;
-    assert_eq!(rt; files.read(alloc, name, 3), Ok(whole));
-    assert_eq!(rt; files.read(alloc, name, 1), Ok(Found::TooLong(2)));
+    agree(&rt, files.read(alloc, name, 3), Ok(whole));
+    agree(&rt, files.read(alloc, name, 1), Ok(Found::TooLong(2)));
     let none = "muen_outside_none";
-    assert_eq!(rt; files.read(alloc, none, 9), Ok(Found::Missing));
-    assert_eq!(rt; files.read(alloc, ".", 9), Err(FileError::Failed));
-    assert_eq!(rt; files.write(alloc, ".", b"xyz"), Err(FileError::Failed));
+    agree(&rt, files.read(alloc, none, 9), Ok(Found::Missing));
+    agree(&rt, files.read(alloc, ".", 9), Err(FileError::Failed));
+    agree(&rt, files.write(alloc, ".", b"xyz"), Err(FileError::Failed));
     fs::remove_file(&rt, name)?;
     Ok(())
 }
@@ -54,10 +59,10 @@ fn files_in_a_folder(rt: HostRuntime) -> Result<(), Fail> {
 fn sink_in_memory(rt: HostRuntime) -> Result<(), Fail> {
     let alloc = rt.alloc();
     let mut sink = MemSink::make(alloc, 8, Vec::from_slice(alloc, &[1])?, 2)?;
-    assert_eq!(rt; sink.put(b"abc"), Ok(()));
-    assert_eq!(rt; sink.put(b"def"), Err(SinkFault));
-    assert_eq!(rt; sink.put(b"fghi"), Err(SinkFault));
-    assert_eq!(rt; sink.text(), b"abcdefgh".as_slice());
+    agree(&rt, sink.put(b"abc"), Ok(()));
+    agree(&rt, sink.put(b"def"), Err(SinkFault));
+    agree(&rt, sink.put(b"fghi"), Err(SinkFault));
+    agree(&rt, sink.text(), b"abcdefgh".as_slice());
     Ok(())
 }
 
@@ -68,17 +73,17 @@ fn puts_wait_in_a_buffer(rt: HostRuntime) -> Result<(), Fail> {
     let mut sink = MemSink::make(alloc, 1_000_000, Vec::new(alloc), 0)?;
     let mut buffer = Buffer::make(alloc)?;
     for _ in 0..20_000 {
-        assert_eq!(rt; buffer.put(b"twelve bytes", &mut sink), Ok(()));
+        agree(&rt, buffer.put(b"twelve bytes", &mut sink), Ok(()));
     }
     let large = vec![in alloc; b'!'; 70_000]?;
-    assert_eq!(rt; buffer.put(&large, &mut sink), Ok(()));
-    assert_eq!(rt; buffer.put(b"1\n2\n", &mut sink), Ok(()));
-    assert_eq!(rt; sink.calls(), 5);
-    assert_eq!(rt; sink.text().len(), 310_000);
-    assert_eq!(rt; buffer.flush(&mut sink), Ok(()));
-    assert_eq!(rt; sink.calls(), 6);
-    assert_eq!(rt; sink.text().len(), 310_004);
-    assert!(rt; sink.text().ends_with(b"!1\n2\n"));
+    agree(&rt, buffer.put(&large, &mut sink), Ok(()));
+    agree(&rt, buffer.put(b"1\n2\n", &mut sink), Ok(()));
+    agree(&rt, sink.calls(), 5);
+    agree(&rt, sink.text().len(), 310_000);
+    agree(&rt, buffer.flush(&mut sink), Ok(()));
+    agree(&rt, sink.calls(), 6);
+    agree(&rt, sink.text().len(), 310_004);
+    holds(&rt, sink.text().ends_with(b"!1\n2\n"));
     Ok(())
 }
 
@@ -86,9 +91,13 @@ fn puts_wait_in_a_buffer(rt: HostRuntime) -> Result<(), Fail> {
 fn sink_over_a_writer(rt: HostRuntime) -> Result<(), Fail> {
     let mut text = Vec::new(rt.alloc());
     let mut sink = WriterSink::new(&mut text);
-    assert_eq!(rt; put_pieces(&["one", "", " two", "\n"], &mut sink), Ok(()));
+    agree(
+        &rt,
+        put_pieces(&["one", "", " two", "\n"], &mut sink),
+        Ok(()),
+    );
     drop(sink);
-    assert_eq!(rt; text.as_slice(), b"one two\n".as_slice());
+    agree(&rt, text.as_slice(), b"one two\n".as_slice());
     Ok(())
 }
 
@@ -168,13 +177,14 @@ impl Disk for BadDisk {
 fn a_flush_that_fails_is_a_fault(rt: HostRuntime) {
     let alloc = rt.alloc();
     let mut sink = WriterSink::new(Clogged { failed: 0 });
-    assert_eq!(rt; sink.put(b"twelve bytes"), Err(SinkFault));
-    assert_eq!(rt; sink.put(b"twelve bytes"), Err(SinkFault));
-    assert_eq!(rt; sink.put(b"twelve bytes"), Ok(()));
+    agree(&rt, sink.put(b"twelve bytes"), Err(SinkFault));
+    agree(&rt, sink.put(b"twelve bytes"), Err(SinkFault));
+    agree(&rt, sink.put(b"twelve bytes"), Ok(()));
     let mut files = FolderFiles::new(BadDisk);
-    assert_eq!(rt;
+    agree(
+        &rt,
         files.write(alloc, "a", b"twelve bytes"),
-        Err(FileError::Failed)
+        Err(FileError::Failed),
     );
 }
 
@@ -183,15 +193,15 @@ fn an_interrupted_read_is_made_again(rt: HostRuntime) -> Result<(), Fail> {
     let alloc = rt.alloc();
     let mut files = FolderFiles::new(BadDisk);
     let whole = bytes_found(alloc, b"xxx")?;
-    assert_eq!(rt; files.read(alloc, "a", 3), Ok(whole));
-    assert_eq!(rt; files.read(alloc, "a", 2), Ok(Found::TooLong(3)));
+    agree(&rt, files.read(alloc, "a", 3), Ok(whole));
+    agree(&rt, files.read(alloc, "a", 2), Ok(Found::TooLong(3)));
     Ok(())
 }
 
 #[test]
 fn standard_streams_take_a_line(rt: HostRuntime) {
     let mut out = WriterSink::standard_output(&rt);
-    assert_eq!(rt; out.put(b"a line put to the standard output\n"), Ok(()));
+    agree(&rt, out.put(b"a line put to the standard output\n"), Ok(()));
     let mut err = WriterSink::standard_error(&rt);
-    assert_eq!(rt; err.put(b"a line put to the standard error\n"), Ok(()));
+    agree(&rt, err.put(b"a line put to the standard error\n"), Ok(()));
 }

@@ -3,6 +3,7 @@ use muen_num::{IrqTarget, Name, PortSpan, Seq};
 use record_text::{Devices, RecordDevice, RecordIrq, RecordMemory, read};
 use std::alloc::Global;
 use std::test::Fail;
+use tests_agree::{agree, agree_at};
 
 fn name(text: &str) -> Result<Name, Fail> {
     match Name::read(text.as_bytes()) {
@@ -127,6 +128,12 @@ fn answer(alloc: Global, record: &[u8], devices: &Devices) -> Result<String, Fai
     }
 }
 
+// The same of the record of a row.
+fn answer_of_row(alloc: Global, record: &str, devices: &Devices) -> Result<String, Fail> {
+    let text = record.replace(alloc, ';', "\n")?;
+    answer(alloc, text.as_str().as_bytes(), devices)
+}
+
 #[test]
 fn faults(rt: HostRuntime) -> Result<(), Fail> {
     let alloc = rt.alloc();
@@ -135,10 +142,9 @@ fn faults(rt: HostRuntime) -> Result<(), Fail> {
         let Some((record, want)) = row.split_once("=>") else {
             return Err(Fail::new("no row"));
         };
-        let text = record.replace(alloc, ';', "\n")?;
-        let found = answer(alloc, text.as_str().as_bytes(), &devices)?;
+        let found = answer_of_row(alloc, record, &devices)?;
         let want = want.replace(alloc, '@', "record refused at line ")?;
-        assert_eq!(rt; found.as_str(), want.as_str(), "{row}");
+        agree_at(&rt, found.as_str(), want.as_str(), row);
     }
     Ok(())
 }
@@ -151,6 +157,6 @@ fn values(rt: HostRuntime) -> Result<(), Fail> {
     let found = format!(in alloc; "{:?}", read(alloc, text, &devices(alloc)?))?;
     let wanted =
         "Ok(Record { end: 3, inputs: Seq { vec: [TickInput { tick: 0, input: Port { port: 768, value: 255 } }, TickInput { tick: 1, input: Mem { at: 2101246, bytes: Seq { vec: [255, 1] } } }, TickInput { tick: 1, input: Irq { subject: 3, vector: 43 } }, TickInput { tick: 2, input: Idle }, TickInput { tick: 2, input: Dma { device: 1, addr: 7, bytes: Seq { vec: [10] } } }, TickInput { tick: 3, input: Port { port: 783, value: 0 } }] }, orders: Seq { vec: [TickOrder { tick: 0, cpus: Seq { vec: [1, 0] } }, TickOrder { tick: 2, cpus: Seq { vec: [0, 1] } }] } })";
-    assert_eq!(rt; found.as_str(), wanted);
+    agree(&rt, found.as_str(), wanted);
     Ok(())
 }

@@ -1,5 +1,6 @@
 //! The rights against the bits of an EPT entry.
 use policy_lawful::Rights;
+use tests_agree::{agree, holds};
 
 #[test]
 fn has_the_bits_of_an_ept_entry(rt: HostRuntime) {
@@ -10,10 +11,10 @@ fn has_the_bits_of_an_ept_entry(rt: HostRuntime) {
         (Rights::Rwx, 7),
     ];
     for (rights, bits) in cases {
-        assert_eq!(rt; rights.bits(), bits);
-        assert_eq!(rt; rights.may_write(), bits & 2 != 0);
-        assert_eq!(rt; rights.may_execute(), bits & 4 != 0);
+        agree(&rt, rights.bits(), bits);
+        agree(&rt, rights.may_write(), bits & 2 != 0);
+        agree(&rt, rights.may_execute(), bits & 4 != 0);
     }
-    assert!(rt; Rights::Rwx.includes(Rights::Rw));
-    assert!(rt; !Rights::Rx.includes(Rights::Rw));
+    holds(&rt, Rights::Rwx.includes(Rights::Rw));
+    holds(&rt, !Rights::Rx.includes(Rights::Rw));
 }

@@ -5,6 +5,7 @@ use muen_num::text::{
 };
 use muen_num::{Name, Seq, Tag, TagPart, first_pair};
 use std::test::Fail;
+use tests_agree::agree;
 
 // Each row is a text, and that of the name that it is, or `none`.
 const NAMES: &str = r#"=>none
@@ -25,8 +26,8 @@ fn reads_names(rt: HostRuntime) -> Result<(), Fail> {
             return Err(Fail::new("no row"));
         };
         match Name::read(text.as_bytes()) {
-            Some(name) => assert_eq!(rt; name.as_str(), want),
-            None => assert_eq!(rt; want, "none"),
+            Some(name) => agree(&rt, name.as_str(), want),
+            None => agree(&rt, want, "none"),
         }
     }
     Ok(())
@@ -52,7 +53,7 @@ fn writes_tags(rt: HostRuntime) -> Result<(), Fail> {
         text.push(' ')?;
     }
     let wanted = "net net|ring net:state net:ept net:iobm net:msrbm net:msrs ";
-    assert_eq!(rt; text.as_str(), wanted);
+    agree(&rt, text.as_str(), wanted);
     Ok(())
 }
 
@@ -67,9 +68,10 @@ fn writes_numbers(rt: HostRuntime) {
     let at = append_hex8(&mut out, at, 0xdead_beef);
     let at = append_hex4(&mut out, at, 768);
     let at = append_hex32(&mut out, at, &[0xa5; 32]);
-    assert_eq!(rt;
+    agree(
+        &rt,
         &out[..at],
-        b"= 184467440737095516154294967295255000000000000010edeadbeef0300a5a5a5a5a5a5a5a5a5a5a5a5a5a5a5a5a5a5a5a5a5a5a5a5a5a5a5a5a5a5a5a5".as_slice()
+        b"= 184467440737095516154294967295255000000000000010edeadbeef0300a5a5a5a5a5a5a5a5a5a5a5a5a5a5a5a5a5a5a5a5a5a5a5a5a5a5a5a5a5a5a5a5".as_slice(),
     );
 }
 
@@ -78,7 +80,7 @@ fn keeps_a_list(rt: HostRuntime) -> Result<(), Fail> {
     let mut list: Seq<u8> = Seq::new(rt.alloc());
     list.push(7)?;
     list.push(9)?;
-    assert_eq!(rt; list.clone()?.into_vec().as_slice(), [7, 9].as_slice());
+    agree(&rt, list.clone()?.into_vec().as_slice(), [7, 9].as_slice());
     Ok(())
 }
 
@@ -88,5 +90,5 @@ fn finds_the_first_pair(rt: HostRuntime) {
     let found = first_pair(&[5, 20, 2, 20, 5], |a: &u64, b: &u64| {
         if a == b { Some(*a) } else { None }
     });
-    assert_eq!(rt; found, Some(20));
+    agree(&rt, found, Some(20));
 }

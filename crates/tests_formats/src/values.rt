@@ -1,10 +1,11 @@
 //! Values, with what they stand for.
 use muen_num::EventMode;
-use policy_lawful::{MsrRights, Role};
+use policy_lawful::{MsrRights, Rights, Role};
 use policy_values::{byte_of, mode_of, msr_rights_of, number_of, rights_of, role_of};
 use serde_json::Value;
 use std::alloc::Global;
 use std::test::Fail;
+use tests_agree::{agree, agree_at};
 
 // The value of a JSON text.
 fn value(alloc: Global, text: &str) -> Result<Value, Fail> {
@@ -39,6 +40,14 @@ true=>none
 "16#10000000000000000#"=>none
 "0x10"=>none"##;
 
+// The number that a JSON text is, as a text, or `none`.
+fn number(alloc: Global, text: &str) -> Result<String, Fail> {
+    match number_of(&value(alloc, text)?) {
+        Some(number) => Ok(number.to_string(alloc)?),
+        None => Ok(String::from_str(alloc, "none")?),
+    }
+}
+
 #[test]
 fn numbers(rt: HostRuntime) -> Result<(), Fail> {
     let alloc = rt.alloc();
@@ -46,29 +55,45 @@ fn numbers(rt: HostRuntime) -> Result<(), Fail> {
         let Some((text, want)) = row.split_once("=>") else {
             return Err(Fail::new("no row"));
         };
-        let found = match number_of(&value(alloc, text)?) {
-            Some(number) => number.to_string(alloc)?,
-            None => String::from_str(alloc, "none")?,
-        };
-        assert_eq!(rt; found.as_str(), want, "{text}");
+        agree_at(&rt, number(alloc, text)?.as_str(), want, text);
     }
     Ok(())
+}
+
+fn byte(alloc: Global, text: &str) -> Result<Option<u8>, Fail> {
+    Ok(byte_of(&value(alloc, text)?))
+}
+
+fn mode(alloc: Global, text: &str) -> Result<Option<EventMode>, Fail> {
+    Ok(mode_of(&value(alloc, text)?))
+}
+
+fn role(alloc: Global, text: &str) -> Result<Option<Role>, Fail> {
+    Ok(role_of(&value(alloc, text)?))
+}
+
+fn msr_rights(alloc: Global, text: &str) -> Result<Option<MsrRights>, Fail> {
+    Ok(msr_rights_of(&value(alloc, text)?))
+}
+
+fn rights(alloc: Global, text: &str) -> Result<Option<Rights>, Fail> {
+    Ok(rights_of(&value(alloc, text)?))
 }
 
 #[test]
 fn other_kinds(rt: HostRuntime) -> Result<(), Fail> {
     let alloc = rt.alloc();
-    assert_eq!(rt; byte_of(&value(alloc, "\"16#FF#\"")?), Some(255));
-    assert_eq!(rt; byte_of(&value(alloc, "256")?), None);
-    assert_eq!(rt; mode_of(&value(alloc, "\"self\"")?), Some(EventMode::Own));
-    assert_eq!(rt; mode_of(&value(alloc, "\"own\"")?), None);
-    assert_eq!(rt; role_of(&value(alloc, "\"reader\"")?), Some(Role::Reader));
+    agree(&rt, byte(alloc, "\"16#FF#\"")?, Some(255));
+    agree(&rt, byte(alloc, "256")?, None);
+    agree(&rt, mode(alloc, "\"self\"")?, Some(EventMode::Own));
+    agree(&rt, mode(alloc, "\"own\"")?, None);
+    agree(&rt, role(alloc, "\"reader\"")?, Some(Role::Reader));
     let write = MsrRights {
         read: false,
         write: true,
     };
-    assert_eq!(rt; msr_rights_of(&value(alloc, "\"w\"")?), Some(write));
-    assert_eq!(rt; msr_rights_of(&value(alloc, "\"rx\"")?), None);
-    assert_eq!(rt; rights_of(&value(alloc, "\"w\"")?), None);
+    agree(&rt, msr_rights(alloc, "\"w\"")?, Some(write));
+    agree(&rt, msr_rights(alloc, "\"rx\"")?, None);
+    agree(&rt, rights(alloc, "\"w\"")?, None);
     Ok(())
 }

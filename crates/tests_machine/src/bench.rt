@@ -6,6 +6,7 @@ use device_bench::{Bench, Effect, Record, TickInput, TickOrder};
 use muen_num::{AccessSize, Seq};
 use std::alloc::Global;
 use std::test::Fail;
+use tests_agree::{agree, agree_at};
 
 /// The byte of this port becomes 7.
 fn port(tick: u32, port: u16) -> TickInput<Effect>
@@ -65,22 +66,22 @@ const TICKS: [(u32, usize, Option<u8>); 6] = [
 #[test]
 fn inputs_and_orders(rt: HostRuntime) -> Result<(), Fail> {
     let bench = bench(rt.alloc())?;
-    assert_eq!(rt; bench.end(), 9);
+    agree(&rt, bench.end(), 9);
     for (tick, count, first) in TICKS {
-        assert_eq!(rt; bench.inputs(tick).len(), count, "{tick}");
-        assert_eq!(rt; first_of(&bench, tick), first, "{tick}");
+        agree_at(&rt, bench.inputs(tick).len(), count, tick);
+        agree_at(&rt, first_of(&bench, tick), first, tick);
     }
-    assert_eq!(rt; bench.inputs(3).last(), Some(&port(3, 4)));
+    agree(&rt, bench.inputs(3).last(), Some(&port(3, 4)));
     Ok(())
 }
 
 #[test]
 fn bytes_of_ports(rt: HostRuntime) -> Result<(), Fail> {
     let mut bench = bench(rt.alloc())?;
-    assert_eq!(rt; bench.port_in(0xfffe, AccessSize::Two), 0);
+    agree(&rt, bench.port_in(0xfffe, AccessSize::Two), 0);
     bench.set_port(0xffff, 0x12);
     bench.set_port(0xfffc, 0xff);
     bench.set_port(0xfffc, 0x34);
-    assert_eq!(rt; bench.port_in(0xfffc, AccessSize::Four), 0x1200_0034);
+    agree(&rt, bench.port_in(0xfffc, AccessSize::Four), 0x1200_0034);
     Ok(())
 }

@@ -2,6 +2,7 @@
 use machine_layout::{bits, msr_exits, port_exits, with_bits};
 use muen_num::AccessSize;
 use std::test::Fail;
+use tests_agree::{agree, agree_at};
 
 #[test]
 fn ports_at_the_ends_of_bitmaps(rt: HostRuntime) -> Result<(), Fail> {
@@ -28,7 +29,7 @@ fn ports_at_the_ends_of_bitmaps(rt: HostRuntime) -> Result<(), Fail> {
         (0xFFFE, AccessSize::Four, true),
     ];
     for (port, size, exits) in table {
-        assert_eq!(rt; port_exits(&a, &b, port, size), exits, "port {port}");
+        agree_at(&rt, port_exits(&a, &b, port, size), exits, port);
     }
     Ok(())
 }
@@ -53,15 +54,15 @@ fn msrs_of_four_parts(rt: HostRuntime) -> Result<(), Fail> {
         (0xC000_2000, true, true),
     ];
     for (index, write, exits) in table {
-        assert_eq!(rt; msr_exits(&bitmap, index, write), exits, "MSR {index}");
+        agree_at(&rt, msr_exits(&bitmap, index, write), exits, index);
     }
     Ok(())
 }
 
 #[test]
 fn fields_of_an_entry(rt: HostRuntime) {
-    assert_eq!(rt; bits(0x8000_00b3, 12, 51), 0x80000);
-    assert_eq!(rt; bits(u64::MAX, 0, 63), u64::MAX);
-    assert_eq!(rt; with_bits(u64::MAX, 12, 51, 1), 0xfff0_0000_0000_1fff);
-    assert_eq!(rt; with_bits(7, 63, 63, 1), 0x8000_0000_0000_0007);
+    agree(&rt, bits(0x8000_00b3, 12, 51), 0x80000);
+    agree(&rt, bits(u64::MAX, 0, 63), u64::MAX);
+    agree(&rt, with_bits(u64::MAX, 12, 51, 1), 0xfff0_0000_0000_1fff);
+    agree(&rt, with_bits(7, 63, 63, 1), 0x8000_0000_0000_0007);
 }

@@ -3,6 +3,7 @@ ghost use Rattle.std.specs.Prelude.{◌≡◌};
 
 use ept_emit::{GuestRange, pages};
 use std::test::Fail;
+use tests_agree::agree;
 
 fn range(guest: u64, size: u64) -> GuestRange
     ensures { (result.guest ≡ guest) × (result.size ≡ size) }
@@ -12,15 +13,17 @@ fn range(guest: u64, size: u64) -> GuestRange
 
 #[test]
 fn pages_of_few_windows(rt: HostRuntime) -> Result<(), Fail> {
-    assert_eq!(rt; pages(&[]), 1);
-    assert_eq!(rt; pages(&[range(0x40_0000, 4096)]), 4);
-    assert_eq!(rt;
+    agree(&rt, pages(&[]), 1);
+    agree(&rt, pages(&[range(0x40_0000, 4096)]), 4);
+    agree(
+        &rt,
         pages(&[range(0x40_0000, 4096), range(0x80_0000, 0x20_0000)]),
-        5
+        5,
     );
-    assert_eq!(rt;
+    agree(
+        &rt,
         pages(&[range(0, 1 << 48)]),
-        1 + (1 << 9) + (1 << 18) + (1 << 27)
+        1 + (1 << 9) + (1 << 18) + (1 << 27),
     );
     Ok(())
 }

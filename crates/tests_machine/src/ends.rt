@@ -2,6 +2,7 @@
 use guest_isa::{Finish, inject};
 use state_page::SubjectState;
 use std::test::Fail;
+use tests_agree::{agree, agree_at};
 
 #[test]
 fn after_each_exit(rt: HostRuntime) -> Result<(), Fail> {
@@ -14,7 +15,7 @@ fn after_each_exit(rt: HostRuntime) -> Result<(), Fail> {
         (0, false, Finish::Stop),
     ];
     for (reason, has_trap, finish) in table {
-        assert_eq!(rt; Finish::after(reason, has_trap), finish, "{reason}");
+        agree_at(&rt, Finish::after(reason, has_trap), finish, reason);
     }
     Ok(())
 }
@@ -26,11 +27,11 @@ fn addresses_wrap(rt: HostRuntime) -> Result<(), Fail> {
     s.halted = true;
     let mut on = s;
     Finish::On.apply(&mut on);
-    assert_eq!(rt; on.pc, 4);
+    agree(&rt, on.pc, 4);
     let mut stopped = s;
     Finish::Stop.apply(&mut stopped);
-    assert_eq!(rt; stopped.pc, u64::MAX - 3);
+    agree(&rt, stopped.pc, u64::MAX - 3);
     inject(&mut s, 255);
-    assert_eq!(rt; (s.pc, s.epc, s.halted), (2039, u64::MAX - 3, false));
+    agree(&rt, (s.pc, s.epc, s.halted), (2039, u64::MAX - 3, false));
     Ok(())
 }

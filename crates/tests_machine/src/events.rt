@@ -4,6 +4,7 @@ use image_pack::{EventPart, GroupPart, SubjectPart};
 use muen_num::{EventMode, Name, Seq};
 use std::alloc::Global;
 use std::test::Fail;
+use tests_agree::{agree, holds};
 
 fn subject(alloc: Global, group: u8) -> Result<SubjectPart, Fail> {
     let Some(name) = Name::read(b"one") else {
@@ -48,13 +49,13 @@ fn greatest_vector_first(rt: HostRuntime) -> Result<(), Fail> {
     router.raise_irq(1, 40);
     router.raise(&event(EventMode::Own, 1, Some(200)));
     router.raise(&event(EventMode::Async, 1, Some(255)));
-    assert!(rt; router.pending(1, 255));
-    assert_eq!(rt; router.deliver(1, false), Some(200));
-    assert_eq!(rt; router.deliver(1, true), Some(255));
-    assert_eq!(rt; router.deliver(1, true), Some(40));
-    assert_eq!(rt; router.deliver(1, true), None);
-    assert!(rt; !router.pending(1, 200));
-    assert_eq!(rt; router.deliver(9, true), None);
+    holds(&rt, router.pending(1, 255));
+    agree(&rt, router.deliver(1, false), Some(200));
+    agree(&rt, router.deliver(1, true), Some(255));
+    agree(&rt, router.deliver(1, true), Some(40));
+    agree(&rt, router.deliver(1, true), None);
+    holds(&rt, !router.pending(1, 200));
+    agree(&rt, router.deliver(9, true), None);
     Ok(())
 }
 
@@ -62,15 +63,16 @@ fn greatest_vector_first(rt: HostRuntime) -> Result<(), Fail> {
 fn handovers(rt: HostRuntime) -> Result<(), Fail> {
     let mut router = router(rt.alloc())?;
     router.raise(&event(EventMode::Switch, 2, None));
-    assert_eq!(rt;
+    agree(
+        &rt,
         (router.active(0), router.active(1), router.active(2)),
-        (Some(2), Some(1), None)
+        (Some(2), Some(1), None),
     );
     router.raise(&event(EventMode::Switch, 0, Some(33)));
-    assert_eq!(rt; router.active(0), Some(0));
-    assert_eq!(rt; router.deliver(0, false), Some(33));
+    agree(&rt, router.active(0), Some(0));
+    agree(&rt, router.deliver(0, false), Some(33));
     router.raise(&event(EventMode::Asap, 2, Some(40)));
-    assert!(rt; router.pending(2, 40));
-    assert_eq!(rt; router.active(0), Some(0));
+    holds(&rt, router.pending(2, 40));
+    agree(&rt, router.active(0), Some(0));
     Ok(())
 }

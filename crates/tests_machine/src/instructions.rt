@@ -1,6 +1,7 @@
 //! The table, spelled by hand. What instructions do is worked out in `proofs/Examples.antt`.
 use guest_isa::{decode, encode};
 use std::test::Fail;
+use tests_agree::agree;
 
 // Each row has eight bytes, and the instruction that they spell, or `None`.
 const TABLE: &str = r#"0000000000000000=>Some(Nop)
@@ -43,6 +44,13 @@ ff00000000000000=>None
 1a02000001000000=>None
 1b10000000000000=>None"#;
 
+fn spelled(digits: &str) -> Result<[u8; 8], Fail> {
+    match u64::from_str_radix(digits, 16) {
+        Ok(word) => Ok(word.to_be_bytes()),
+        Err(_) => Err(Fail::new("no bytes")),
+    }
+}
+
 #[test]
 fn decodes_and_encodes(rt: HostRuntime) -> Result<(), Fail> {
     let alloc = rt.alloc();
@@ -50,14 +58,11 @@ fn decodes_and_encodes(rt: HostRuntime) -> Result<(), Fail> {
         let Some((digits, want)) = row.split_once("=>") else {
             return Err(Fail::new("no row"));
         };
-        let bytes = match u64::from_str_radix(digits, 16) {
-            Ok(word) => word.to_be_bytes(),
-            Err(_) => return Err(Fail::new("no bytes")),
-        };
+        let bytes = spelled(digits)?;
         let found = decode(bytes);
-        assert_eq!(rt; format!(in alloc; "{found:?}")?.as_str(), want);
+        agree(&rt, format!(in alloc; "{found:?}")?.as_str(), want);
         if let Some(i) = found {
-            assert_eq!(rt; encode(&i), bytes);
+            agree(&rt, encode(&i), bytes);
         }
     }
     Ok(())

@@ -5,6 +5,7 @@ use muen_num::{AccessSize, Seq};
 use phys_mem::{FrameMem, MemorySpan, PhysMem, RegionMem};
 use std::alloc::Global;
 use std::test::Fail;
+use tests_agree::{agree, holds};
 
 /// Two pages from 1 MiB on, and one page at 2 GiB.
 fn spans(alloc: Global) -> Result<Vec<MemorySpan>, Fail>
@@ -64,10 +65,18 @@ fn loads<M: PhysMem>(mem: &M) -> bool {
 fn what_is_stored_is_loaded(rt: HostRuntime) -> Result<(), Fail> {
     let alloc = rt.alloc();
     let mut region = RegionMem::start(alloc, spans(alloc)?)?;
-    assert_eq!(rt; store_some(&mut region), [true, true, false, false, false]);
-    assert!(rt; loads(&region));
+    agree(
+        &rt,
+        store_some(&mut region),
+        [true, true, false, false, false],
+    );
+    holds(&rt, loads(&region));
     let mut frame = FrameMem::start(alloc, spans(alloc)?)?;
-    assert_eq!(rt; store_some(&mut frame), [true, true, false, false, false]);
-    assert!(rt; loads(&frame));
+    agree(
+        &rt,
+        store_some(&mut frame),
+        [true, true, false, false, false],
+    );
+    holds(&rt, loads(&frame));
     Ok(())
 }

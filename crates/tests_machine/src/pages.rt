@@ -1,6 +1,11 @@
 //! The page of a state, byte by byte.
 use state_page::{SubjectState, read, write};
 use std::test::Fail;
+use tests_agree::{agree, holds};
+
+fn byte_at(page: &[u8], at: usize) -> Option<u8> {
+    page.get(at).copied()
+}
 
 #[test]
 fn bytes_of_a_state(rt: HostRuntime) -> Result<(), Fail> {
@@ -12,16 +17,16 @@ fn bytes_of_a_state(rt: HostRuntime) -> Result<(), Fail> {
     state.halted = true;
     let mut page = vec![in rt.alloc(); 0xFFu8; 4096]?;
     write(&state, &mut page);
-    let registers = (page.get(0).copied(), page.get(121).copied());
+    let registers = (byte_at(&page, 0), byte_at(&page, 121));
     let words = (
-        page.get(128).copied(),
-        page.get(136).copied(),
-        page.get(144).copied(),
+        byte_at(&page, 128),
+        byte_at(&page, 136),
+        byte_at(&page, 144),
     );
-    let flags = (page.get(152).copied(), page.get(153).copied());
-    assert!(rt; registers == (Some(0x11), Some(0x22)));
-    assert!(rt; words == (Some(0x08), Some(0x33), Some(0x44)));
-    assert!(rt; flags == (Some(0x0A), Some(0)));
-    assert!(rt; read(&page) == state);
+    let flags = (byte_at(&page, 152), byte_at(&page, 153));
+    agree(&rt, registers, (Some(0x11), Some(0x22)));
+    agree(&rt, words, (Some(0x08), Some(0x33), Some(0x44)));
+    agree(&rt, flags, (Some(0x0A), Some(0)));
+    holds(&rt, read(&page) == state);
     Ok(())
 }

@@ -1,6 +1,7 @@
 //! Bits of I/O bitmaps that were computed by hand.
 use iobm_emit::{PortRange, emit};
 use std::test::Fail;
+use tests_agree::agree;
 
 #[test]
 fn bits_of_two_ranges(rt: HostRuntime) -> Result<(), Fail> {
@@ -15,10 +16,7 @@ fn bits_of_two_ranges(rt: HostRuntime) -> Result<(), Fail> {
         end: 0x8000,
     };
     emit(&[keyboard, first_of_b], &mut a, &mut b);
-    assert_eq!(rt; a.get(11).copied(), Some(0xFF));
-    assert_eq!(rt; a.get(12).copied(), Some(0xE0));
-    assert_eq!(rt; a.get(13).copied(), Some(0xFF));
-    assert_eq!(rt; b.get(0).copied(), Some(0xFE));
-    assert_eq!(rt; b.get(1).copied(), Some(0xFF));
+    agree(&rt, a.get(11..14), Some([0xFF, 0xE0, 0xFF].as_slice()));
+    agree(&rt, b.get(..2), Some([0xFE, 0xFF].as_slice()));
     Ok(())
 }

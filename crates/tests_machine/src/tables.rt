@@ -8,6 +8,7 @@ use ept_emit::{Caching, GuestRange, Leaf, Rights, Window, emit, eptp, pages};
 use muen_num::limits::{GUEST_END, LARGE_PAGE, PAGE, PHYSICAL_END};
 use std::alloc::{AllocError, Global};
 use std::test::Fail;
+use tests_agree::agree;
 
 const TABLES_AT: u64 = 0x10_0000;
 
@@ -165,8 +166,8 @@ fn a_large_page_beside_a_small_one(rt: HostRuntime) -> Result<(), Fail> {
         (2, 4, 0x20_00b3),
         (3, 0, 0x10_7035),
     ];
-    assert_eq!(rt; eptp(TABLES_AT), 0x10_001E);
-    assert_eq!(rt; emits(rt.alloc(), &[code, data], &expected)?, true);
+    agree(&rt, eptp(TABLES_AT), 0x10_001E);
+    agree(&rt, emits(rt.alloc(), &[code, data], &expected)?, true);
     Ok(())
 }
 
@@ -181,7 +182,7 @@ fn a_page_of_a_gigabyte(rt: HostRuntime) -> Result<(), Fail> {
         leaf: Leaf::Huge,
     };
     let expected = [(0, 0, 0x10_1007), (1, 1, 0x8000_00b3)];
-    assert_eq!(rt; emits(rt.alloc(), &[window], &expected)?, true);
+    agree(&rt, emits(rt.alloc(), &[window], &expected)?, true);
     Ok(())
 }
 
@@ -194,6 +195,6 @@ fn the_highest_page(rt: HostRuntime) -> Result<(), Fail> {
         (2, 511, 0x10_3007),
         (3, 511, 0x10_6001),
     ];
-    assert_eq!(rt; emits(rt.alloc(), &[window], &expected)?, true);
+    agree(&rt, emits(rt.alloc(), &[window], &expected)?, true);
     Ok(())
 }

@@ -7,6 +7,7 @@ use muen_num::{AccessKind, AccessSize, Seq};
 use phys_mem::{FrameMem, MemorySpan, PhysMem, RegionMem};
 use std::alloc::Global;
 use std::test::Fail;
+use tests_agree::{agree, agree_at};
 
 /// The EPTP whose PML4 table is the first page of the tables.
 const EPTP: u64 = 0x10_001e;
@@ -82,8 +83,8 @@ const ENTRIES: [(u64, u64, Walk); 28] = [
 fn each_check(rt: HostRuntime) -> Result<(), Fail> {
     let alloc = rt.alloc();
     let mut mem = RegionMem::start(alloc, spans(alloc)?)?;
-    for (level, entry, end) in ENTRIES {
-        assert_eq!(rt; walk_with(&mut mem, level, entry), end, "{level} {entry:x}");
+    for (row, &(level, entry, end)) in ENTRIES.iter().enumerate() {
+        agree_at(&rt, walk_with(&mut mem, level, entry), end, row);
     }
     Ok(())
 }
@@ -108,6 +109,16 @@ fn set_tables<M: PhysMem>(mem: &mut M) {
     write(mem, 0, 0, 0x10_6035);
 }
 
+// Which of four guest addresses are kept, the last of them by no EPTP that there is.
+fn kept(walk: &CachedWalk) -> [bool; 4] {
+    [
+        walk.holds(EPTP, 0x40_0123),
+        walk.holds(EPTP, 0x4000_0000),
+        walk.holds(EPTP, 0x40_1000),
+        walk.holds(u64::MAX, 0),
+    ]
+}
+
 #[test]
 fn worked_tables(rt: HostRuntime) -> Result<(), Fail> {
     let alloc = rt.alloc();
@@ -116,17 +127,13 @@ fn worked_tables(rt: HostRuntime) -> Result<(), Fail> {
     let mut keeping = CachedWalk::new(alloc, 4096)?;
     for (eptp, guest, kind, end) in WALKS {
         let guest = u64::from(guest);
-        assert_eq!(rt;
-            PlainWalk::new().walk(&mem, eptp, guest, kind),
-            end,
-            "{guest:x}"
-        );
-        assert_eq!(rt; keeping.walk(&mem, eptp, guest, kind), end, "{guest:x}");
+        let plain = PlainWalk::new().walk(&mem, eptp, guest, kind);
+        agree_at(&rt, plain, end, guest);
+        agree_at(&rt, keeping.walk(&mem, eptp, guest, kind), end, guest);
     }
     // What is kept is given up where its page table changes.
-    assert!(rt; keeping.holds(EPTP, 0x40_0123) && keeping.holds(EPTP, 0x4000_0000));
-    assert!(rt; !keeping.holds(EPTP, 0x40_1000) && !keeping.holds(u64::MAX, 0));
+    agree(&rt, kept(&keeping), [true, true, false, false]);
     keeping.stored(PAGE_TABLE + 4, 2);
-    assert!(rt; !keeping.holds(EPTP, 0x40_0123) && keeping.holds(EPTP, 0x4000_0000));
+    agree(&rt, kept(&keeping), [false, true, false, false]);
     Ok(())
 }

@@ -2,11 +2,13 @@
 //! and of damaged ones, where a device reaches, and what a record's lines become.
 use super::spelled::{CHOSEN, spelled};
 use dma_tables::{DmaTables, Effect, dma_fault_pieces, lower, pack, unpack};
+use image_pack::Parts;
 use itoa::Buffer;
 use muen_num::{Name, Seq};
 use record_text::{Input, Record, TickInput};
 use std::alloc::Global;
 use std::test::Fail;
+use tests_agree::{agree, agree_at, holds};
 
 /// Six pages from address 0 on: a device `none` on bus 0, with devfn 24, reaches the page at 0x1000 by
 /// its addresses 4,096 to 8,191.
@@ -30,16 +32,27 @@ fn answer(alloc: Global, bytes: &[u8]) -> Result<String, Fail> {
     }
 }
 
-// The same of the file with other bytes from an offset on.
-fn damaged(alloc: Global, at: usize, bytes: &[u8]) -> Result<String, Fail> {
+// The same of the file with another byte at an offset.
+fn damaged(alloc: Global, at: usize, byte: u8) -> Result<String, Fail> {
     let mut file = spelled(alloc, TABLES)?;
-    for (i, byte) in bytes.iter().enumerate() {
-        if let Some(place) = file.get_mut(at.saturating_add(i)) {
-            *place = *byte;
-        }
+    if let Some(place) = file.get_mut(at) {
+        *place = byte;
     }
     answer(alloc, &file)
 }
+
+/// The file with another byte at an offset, and the fault.
+const DAMAGES: [(usize, u8, &str); 9] = [
+    (7, 50, "dma refused at 0: magic"),
+    (8, 1, "dma refused at 8: place"),
+    (16, 0, "dma refused at 16: pages"),
+    (13, 1, "dma refused at 16: pages"),
+    (20, 33, "dma refused at 20: count"),
+    (23, 1, "dma refused at 21: zero"),
+    (72, 32, "dma refused at 24: name"),
+    (91, 1, "dma refused at 90: zero"),
+    (20, 0, "dma refused at 24600: trailing"),
+];
 
 // The same of so many of its bytes.
 fn cut(alloc: Global, count: usize) -> Result<String, Fail> {
@@ -47,6 +60,14 @@ fn cut(alloc: Global, count: usize) -> Result<String, Fail> {
     match file.get(..count) {
         Some(bytes) => answer(alloc, bytes),
         None => Ok(String::from_str(alloc, "no so many bytes")?),
+    }
+}
+
+// Whether the file is one of tables that are packed as it again.
+fn comes_back(alloc: Global, file: &[u8]) -> Result<bool, Fail> {
+    match unpack(alloc, file) {
+        Ok(tables) => Ok(pack(alloc, &tables)?.as_slice() == file),
+        Err(_) => Ok(false),
     }
 }
 
@@ -59,56 +80,20 @@ fn reaches(alloc: Global, file: &[u8], device: &[u8], address: u64, write: bool)
 fn there_and_back(rt: HostRuntime) -> Result<(), Fail> {
     let alloc = rt.alloc();
     let file = spelled(alloc, TABLES)?;
-    assert_eq!(rt; file.len(), 24_668);
-    assert_eq!(rt; answer(alloc, &file)?.as_str(), "tables");
-    match unpack(alloc, &file) {
-        Ok(tables) => assert!(rt; pack(alloc, &tables)?.as_slice() == file.as_slice()),
-        Err(_) => assert!(rt; false),
-    }
+    agree(&rt, file.len(), 24_668);
+    agree(&rt, answer(alloc, &file)?.as_str(), "tables");
+    holds(&rt, comes_back(alloc, &file)?);
     Ok(())
 }
 
 #[test]
 fn first_faults(rt: HostRuntime) -> Result<(), Fail> {
     let alloc = rt.alloc();
-    assert_eq!(rt; answer(alloc, &[])?.as_str(), "dma refused at 0: short");
-    assert_eq!(rt;
-        damaged(alloc, 7, &[50])?.as_str(),
-        "dma refused at 0: magic"
-    );
-    assert_eq!(rt;
-        damaged(alloc, 8, &[1])?.as_str(),
-        "dma refused at 8: place"
-    );
-    assert_eq!(rt;
-        damaged(alloc, 16, &[0])?.as_str(),
-        "dma refused at 16: pages"
-    );
-    assert_eq!(rt;
-        damaged(alloc, 13, &[1])?.as_str(),
-        "dma refused at 16: pages"
-    );
-    assert_eq!(rt;
-        damaged(alloc, 20, &[33])?.as_str(),
-        "dma refused at 20: count"
-    );
-    assert_eq!(rt;
-        damaged(alloc, 23, &[1])?.as_str(),
-        "dma refused at 21: zero"
-    );
-    assert_eq!(rt;
-        damaged(alloc, 72, &[32])?.as_str(),
-        "dma refused at 24: name"
-    );
-    assert_eq!(rt;
-        damaged(alloc, 91, &[1])?.as_str(),
-        "dma refused at 90: zero"
-    );
-    assert_eq!(rt;
-        damaged(alloc, 20, &[0])?.as_str(),
-        "dma refused at 24600: trailing"
-    );
-    assert_eq!(rt; cut(alloc, 750)?.as_str(), "dma refused at 92: short");
+    agree(&rt, answer(alloc, &[])?.as_str(), "dma refused at 0: short");
+    for (at, byte, fault) in DAMAGES {
+        agree_at(&rt, damaged(alloc, at, byte)?.as_str(), fault, at);
+    }
+    agree(&rt, cut(alloc, 750)?.as_str(), "dma refused at 92: short");
     Ok(())
 }
 
@@ -116,44 +101,46 @@ fn first_faults(rt: HostRuntime) -> Result<(), Fail> {
 fn where_a_device_reaches(rt: HostRuntime) -> Result<(), Fail> {
     let alloc = rt.alloc();
     let file = spelled(alloc, TABLES)?;
-    assert!(rt; reaches(alloc, &file, b"none", 4104, true) == Some(0x1008));
-    assert!(rt; reaches(alloc, &file, b"none", 8191, false) == Some(0x1FFF));
-    assert!(rt; reaches(alloc, &file, b"none", 8192, true).is_none());
-    assert!(rt; reaches(alloc, &file, b"none", 1 << 48, true).is_none());
-    assert!(rt; reaches(alloc, &file, b"card", 4104, true).is_none());
+    holds(
+        &rt,
+        reaches(alloc, &file, b"none", 4104, true) == Some(0x1008),
+    );
+    holds(
+        &rt,
+        reaches(alloc, &file, b"none", 8191, false) == Some(0x1FFF),
+    );
+    holds(&rt, reaches(alloc, &file, b"none", 8192, true).is_none());
+    holds(&rt, reaches(alloc, &file, b"none", 1 << 48, true).is_none());
+    holds(&rt, reaches(alloc, &file, b"card", 4104, true).is_none());
     Ok(())
 }
 
-// What reaches the machine of two lines, inside and across the end, and of an interrupt of nobody.
-fn lowered(
-    alloc: Global,
-    tables: Option<&DmaTables>,
-) -> Result<Option<Seq<TickInput<Effect>>>, Fail> {
-    let line = |addr: u64, bytes: Seq<u8>| TickInput {
+// A line of direct memory access.
+fn line(alloc: Global, addr: u64, bytes: &[u8]) -> Result<TickInput<Input>, Fail> {
+    Ok(TickInput {
         tick: 1,
         input: Input::Dma {
             device: 1,
             addr,
-            bytes,
+            bytes: Seq::of(Vec::from_slice(alloc, bytes)?),
         },
-    };
+    })
+}
+
+// Two lines, inside and across the end, and an interrupt of nobody.
+fn record(alloc: Global) -> Result<Record<Input>, Fail> {
     let mut inputs = Seq::new(alloc);
-    inputs.push(line(4104, Seq::of(Vec::from_slice(alloc, &[7, 0])?)))?;
-    inputs.push(line(8191, Seq::of(Vec::from_slice(alloc, &[7, 7])?)))?;
+    inputs.push(line(alloc, 4104, &[7, 0])?)?;
+    inputs.push(line(alloc, 8191, &[7, 7])?)?;
     inputs.push(TickInput {
         tick: 2,
         input: Input::Idle,
     })?;
-    let record = Record {
+    Ok(Record {
         end: 3,
         inputs,
         orders: Seq::new(alloc),
-    };
-    let image = spelled(alloc, CHOSEN)?;
-    match image_pack::unpack(alloc, &image) {
-        Ok(parts) => Ok(Some(lower(alloc, record, &parts, tables)?.inputs)),
-        Err(_) => Ok(None),
-    }
+    })
 }
 
 // Whether 7 and 0 are written from 0x1008 on.
@@ -164,20 +151,31 @@ fn is_written(entry: &TickInput<Effect>) -> bool {
     }
 }
 
+// How many of its inputs reach the machine, and whether each is that.
+fn written_in(
+    alloc: Global,
+    parts: &Parts,
+    tables: Option<&DmaTables>,
+) -> Result<(usize, bool), Fail> {
+    let inputs = lower(alloc, record(alloc)?, parts, tables)?.inputs;
+    Ok((inputs.len(), inputs.items().iter().all(is_written)))
+}
+
+// The same of a machine with the spelled image.
+fn written(alloc: Global, tables: Option<&DmaTables>) -> Result<Option<(usize, bool)>, Fail> {
+    let image = spelled(alloc, CHOSEN)?;
+    match image_pack::unpack(alloc, &image) {
+        Ok(parts) => Ok(Some(written_in(alloc, &parts, tables)?)),
+        Err(_) => Ok(None),
+    }
+}
+
 #[test]
 fn lines_of_a_record(rt: HostRuntime) -> Result<(), Fail> {
     let alloc = rt.alloc();
     let file = spelled(alloc, TABLES)?;
     let tables = unpack(alloc, &file).ok();
-    let with = lowered(alloc, tables.as_ref())?;
-    let without = lowered(alloc, None)?;
-    match (with, without) {
-        (Some(with), Some(without)) => {
-            assert_eq!(rt; with.len(), 1);
-            assert!(rt; with.items().iter().all(is_written));
-            assert!(rt; without.is_empty());
-        }
-        _ => assert!(rt; false),
-    }
+    agree(&rt, written(alloc, tables.as_ref())?, Some((1, true)));
+    agree(&rt, written(alloc, None)?, Some((0, true)));
     Ok(())
 }

@@ -3,6 +3,7 @@ use super::answer;
 use super::spelled::{CHOSEN, PLAIN, spelled};
 use std::alloc::Global;
 use std::test::Fail;
+use tests_agree::agree_at;
 
 // Each row has the answer and, behind bars, changes to the image: an offset in it, and the bytes that
 // are put there in hexadecimal. An offset alone is the image's new length.
@@ -145,22 +146,28 @@ image refused at 2600: name | 2600 0 | 2814 0
 image refused at 2743: irq | 2747 72 | 2743 1f
 image refused at 2678: span | 2665 2 | 2678 7 0"#;
 
+// Puts the bytes of a change at its offset, or gives the image its length.
+fn change(alloc: Global, image: &mut Vec<u8>, change: &str) -> Result<(), Fail> {
+    let (offset, new) = match change.split_once(' ') {
+        Some(parts) => parts,
+        None => (change, ""),
+    };
+    let offset: usize = offset.parse().ok().ok_or("a place")?;
+    if new.is_empty() {
+        image.resize(offset, 0)?;
+    }
+    let new = spelled(alloc, new)?;
+    for (old, byte) in image.iter_mut().skip(offset).zip(&new) {
+        *old = *byte;
+    }
+    Ok(())
+}
+
 // An image with the changes of a row.
 fn changed(alloc: Global, image: &[u8], changes: &str) -> Result<Vec<u8>, Fail> {
     let mut bytes = image.to_vec(alloc)?;
-    for change in changes.split(" | ") {
-        let (offset, new) = match change.split_once(' ') {
-            Some(parts) => parts,
-            None => (change, ""),
-        };
-        let offset: usize = offset.parse().ok().ok_or("a place")?;
-        if new.is_empty() {
-            bytes.resize(offset, 0)?;
-        }
-        let new = spelled(alloc, new)?;
-        for (old, byte) in bytes.iter_mut().skip(offset).zip(&new) {
-            *old = *byte;
-        }
+    for one in changes.split(" | ") {
+        change(alloc, &mut bytes, one)?;
     }
     Ok(bytes)
 }
@@ -179,7 +186,7 @@ fn faults(rt: HostRuntime) -> Result<(), Fail> {
         for row in rows.split('\n') {
             let (want, changes) = row.split_once(" | ").ok_or("a row")?;
             let found = answer_with(alloc, &image, changes)?;
-            assert_eq!(rt; found.as_str(), want, "{row}");
+            agree_at(&rt, found.as_str(), want, row);
         }
     }
     Ok(())

@@ -1,8 +1,12 @@
 //! How steps end: every fault, and what comes of steps without one.
-use super::world::{PC, bench, exit, machine, set_register, subject_at};
+use super::world::{PC, Start, bench, exit, machine, set_register, subject_at};
+use device_bench::Bench;
 use guest_isa::{Change, StepEnd};
 use muen_num::AccessSize;
+use std::alloc::Global;
+use std::process::Abort;
 use std::test::Fail;
+use tests_agree::agree_at;
 
 /// The end of guest addresses.
 const END: u64 = 1 << 48;
@@ -49,16 +53,25 @@ const EXITS: [(u64, u64, u64, u8, u64, u64); 31] = [
     (PC, 0x2114, 0xc000_2000, 32, 0, 0),
 ];
 
+// Ends the test unless the first instruction ends so.
+fn ends_so(
+    rt: &impl Abort,
+    alloc: Global,
+    bench: &Bench,
+    start: Start,
+    wanted: StepEnd,
+) -> Result<(), Fail> {
+    let mut machine = machine(alloc, start)?;
+    agree_at(rt, machine.step(0, 7, bench), wanted, start);
+    Ok(())
+}
+
 #[test]
 fn exits(rt: HostRuntime) -> Result<(), Fail> {
     let bench = bench(rt.alloc())?;
     for (pc, word, r1, reason, qualification, addr) in EXITS {
-        let mut machine = machine(rt.alloc(), subject_at(pc, word, r1))?;
-        assert_eq!(rt;
-            machine.step(0, 7, &bench),
-            exit(reason, qualification, addr),
-            "{pc:x} {word:x} {r1:x}"
-        );
+        let end = exit(reason, qualification, addr);
+        ends_so(&rt, rt.alloc(), &bench, subject_at(pc, word, r1), end)?;
     }
     Ok(())
 }
@@ -86,8 +99,7 @@ fn ends_without_a_fault(rt: HostRuntime) -> Result<(), Fail> {
         (0x01_2112, out),
     ];
     for (word, end) in table {
-        let mut machine = machine(rt.alloc(), subject_at(PC, word, 0x3fc))?;
-        assert_eq!(rt; machine.step(0, 7, &bench), end, "{word:x}");
+        ends_so(&rt, rt.alloc(), &bench, subject_at(PC, word, 0x3fc), end)?;
     }
     Ok(())
 }

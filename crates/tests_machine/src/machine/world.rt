@@ -11,6 +11,7 @@ use guest_isa::{Change, StepEnd};
 use muen_num::{AccessSize, Seq};
 use phys_mem::{FrameMem, MemorySpan, PhysMem, RegionMem};
 use std::alloc::Global;
+use std::fmt::{self, Display, Formatter, Write};
 use std::test::Fail;
 use vmx_machine::{Control, Machine};
 
@@ -80,13 +81,23 @@ const WORDS: [(u64, u64); 17] = [
 ];
 
 /// A subject at an instruction, and two of its registers.
-#[derive(Clone, Copy, Debug)]
+#[derive(Clone, Copy)]
 pub(super) struct Start {
     pub pc: u64,
     /// The instruction at the start of the code, as a word.
     pub word: u64,
     pub r1: u64,
     pub r2: u64,
+}
+
+impl Display for Start {
+    fn fmt<W: Write>(&self, f: &mut Formatter<W>) -> Result<(), fmt::Error> {
+        let Start { pc, word, r1, r2 } = *self;
+        write!(
+            f,
+            "pc {pc:x}, instruction {word:x}, registers {r1:x} {r2:x}"
+        )
+    }
 }
 
 /// A subject with 7 in register 2.

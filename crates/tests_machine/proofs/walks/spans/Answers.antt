@@ -1,4 +1,4 @@
-use Rattle.std.proofs.Common.{◌≡◌, ◌+◌, ◌≤◌, length, ap, arith}
+use Rattle.std.proofs.Common.{◌≡◌, length, ap, arith}
 use Rattle.phys_mem.specs.declared.spans.MemorySpan.{MemorySpan}
 use Rattle.phys_mem.proofs.Rising.{two_spans}
 use Rattle.tests_machine.proofs.walks.spans.Goals as goal
