@@ -1,9 +1,9 @@
 //! Documents, with the text of the first place that breaks the schema, or with none.
+use crate::agree::{agree, agree_at};
 use policy_json::read;
 use policy_lawful::Refusal;
 use std::alloc::Global;
 use std::test::Fail;
-use tests_agree::{agree, agree_at};
 
 // Each row is a document, with `@` for a processor and a plan, and the text of why it is refused. Of
 // each kind of value and of each object, one isn't as wanted; then rows have two faults, of which the

@@ -1,11 +1,11 @@
 //! The calls that take memory, with ample of it.
 ghost use Rattle.std.specs.Prelude.{◌≡◌};
 
+use crate::agree::agree;
 use muen_num::Name;
 use policy_lawful::{Extent, Offence};
 use rules_extents::{first_fault, first_overlap};
 use std::test::Fail;
-use tests_agree::agree;
 
 // The name of one letter.
 fn letter(letter: u8) -> Result<Name, Fail> {

@@ -1,11 +1,11 @@
 //! Each reader of a field on bytes made by hand, and the printed texts.
+use crate::agree::agree;
 use binary_form::fault::{Field, FormError, FormFault, ImageFault};
 use binary_form::reading::{byte_of, bytes_upto, gap_of, name_of, tag_of, u16_of, u32_of, u64_of};
 use binary_form::writing::put_name;
 use std::alloc::Global;
 use std::process::Abort;
 use std::test::Fail;
-use tests_agree::{agree, holds};
 
 fn short(remaining: usize) -> FormError {
     FormError::At(FormFault::Short(remaining))
@@ -71,15 +71,15 @@ fn read_and_write(
 ) -> Result<(), Fail> {
     match name_of(field) {
         Ok((name, rest)) => {
-            holds(rt, wanted);
+            assert!(rt; wanted);
             agree(rt, name.bytes(), text);
-            holds(rt, rest.is_empty());
+            assert!(rt; rest.is_empty());
             let mut out = Vec::new(alloc);
             put_name(&mut out, &name)?;
             agree(rt, out.as_slice(), field);
         }
         Err(halt) => {
-            holds(rt, !wanted);
+            assert!(rt; !wanted);
             agree(rt, halt, bad(64, Field::Name));
         }
     }

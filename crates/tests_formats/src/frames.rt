@@ -1,9 +1,9 @@
 //! Two CPUs over three rounds of a plan, against slots that were worked out by hand.
+use crate::agree::{agree, agree_at};
 use frame_clock::{FrameAt, FrameSlot, GroupPart, Major, Minor, Plan, advance, slot};
 use muen_num::Seq;
 use std::alloc::{AllocError, Global};
 use std::test::Fail;
-use tests_agree::{agree, agree_at};
 
 fn frame(group: u8, ticks: u32) -> Minor {
     Minor { group, ticks }

@@ -1,4 +1,5 @@
 //! Images that are spelled here byte by byte, and what unpacking says of them and of damaged ones.
+use crate::agree::agree;
 use image_pack::{EventPart, Image, Parts, pack, unpack};
 use muen_num::{EventMode, IrqTarget, PortSpan};
 use std::alloc::Global;
@@ -9,7 +10,6 @@ mod faults;
 mod spelled;
 
 use spelled::{CHOSEN, PLAIN, adler32, spelled};
-use tests_agree::{agree, holds};
 
 // What unpacking bytes answers, as a text: `image`, or the fault.
 fn answer(alloc: Global, bytes: &[u8]) -> Result<String, Fail> {
@@ -39,7 +39,7 @@ fn there_and_back(rt: HostRuntime) -> Result<(), Fail> {
     agree(&rt, bytes.len(), 42_576);
     // that of the bytes that `share/spell_image.py` spells of `examples/one_subject.json`
     agree(&rt, adler32(&bytes), 0x8EB4_E317);
-    holds(&rt, comes_back(alloc, &bytes)?);
+    assert!(rt; comes_back(alloc, &bytes)?);
     Ok(())
 }
 
@@ -122,6 +122,6 @@ fn parts_of_an_image(rt: HostRuntime) -> Result<(), Fail> {
         has_its_parts(rt.alloc(), &bytes),
         (Some(4), [Some(true); 4]),
     );
-    holds(&rt, comes_back(rt.alloc(), &bytes)?);
+    assert!(rt; comes_back(rt.alloc(), &bytes)?);
     Ok(())
 }

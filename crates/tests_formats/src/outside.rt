@@ -1,4 +1,5 @@
 //! Runs of the traits' implementations.
+use crate::agree::agree;
 use muen_num::Seq;
 use muen_outside::{
     Buffer, Device, Disk, FileError, Files, FolderFiles, Found, MemFiles, MemSink, Sink, SinkFault,
@@ -8,7 +9,6 @@ use std::alloc::Global;
 use std::io::{ErrorKind, Read};
 use std::test::Fail;
 use std::{fs, io};
-use tests_agree::{agree, holds};
 
 fn bytes_found(alloc: Global, bytes: &[u8]) -> Result<Found, Fail> {
     Ok(Found::Bytes(Seq::of(Vec::from_slice(alloc, bytes)?)))
@@ -83,7 +83,7 @@ fn puts_wait_in_a_buffer(rt: HostRuntime) -> Result<(), Fail> {
     agree(&rt, buffer.flush(&mut sink), Ok(()));
     agree(&rt, sink.calls(), 6);
     agree(&rt, sink.text().len(), 310_004);
-    holds(&rt, sink.text().ends_with(b"!1\n2\n"));
+    assert!(rt; sink.text().ends_with(b"!1\n2\n"));
     Ok(())
 }
 

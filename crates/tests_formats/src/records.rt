@@ -1,9 +1,9 @@
 //! Records with their faults, and with their values.
+use crate::agree::{agree, agree_at};
 use muen_num::{IrqTarget, Name, PortSpan, Seq};
 use record_text::{Devices, RecordDevice, RecordIrq, RecordMemory, read};
 use std::alloc::Global;
 use std::test::Fail;
-use tests_agree::{agree, agree_at};
 
 fn name(text: &str) -> Result<Name, Fail> {
     match Name::read(text.as_bytes()) {

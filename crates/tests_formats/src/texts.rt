@@ -1,11 +1,11 @@
 //! Names, tags, numbers and a list, as they are printed.
+use crate::agree::agree;
 use muen_num::text::{
     append, append_decimal, append_decimal8, append_decimal32, append_hex4, append_hex8,
     append_hex16, append_hex32,
 };
 use muen_num::{Name, Seq, Tag, TagPart, first_pair};
 use std::test::Fail;
-use tests_agree::agree;
 
 // Each row is a text, and that of the name that it is, or `none`.
 const NAMES: &str = r#"=>none
@@ -80,7 +80,7 @@ fn keeps_a_list(rt: HostRuntime) -> Result<(), Fail> {
     let mut list: Seq<u8> = Seq::new(rt.alloc());
     list.push(7)?;
     list.push(9)?;
-    agree(&rt, list.clone()?.into_vec().as_slice(), [7, 9].as_slice());
+    agree(&rt, list.into_vec().as_slice(), [7, 9].as_slice());
     Ok(())
 }
 

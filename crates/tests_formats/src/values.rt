@@ -1,11 +1,11 @@
 //! Values, with what they stand for.
+use crate::agree::{agree, agree_at};
 use muen_num::EventMode;
 use policy_lawful::{MsrRights, Rights, Role};
 use policy_values::{byte_of, mode_of, msr_rights_of, number_of, rights_of, role_of};
 use serde_json::Value;
 use std::alloc::Global;
 use std::test::Fail;
-use tests_agree::{agree, agree_at};
 
 // The value of a JSON text.
 fn value(alloc: Global, text: &str) -> Result<Value, Fail> {

@@ -2,11 +2,11 @@
 ghost use Rattle.std.specs.Prelude.{◌≡◌, IfOk};
 ghost use Rattle.device_bench.specs.Devices.{IsInOrder};
 
+use crate::agree::{agree, agree_at};
 use device_bench::{Bench, Effect, Record, TickInput, TickOrder};
 use muen_num::{AccessSize, Seq};
 use std::alloc::Global;
 use std::test::Fail;
-use tests_agree::{agree, agree_at};
 
 /// The byte of this port becomes 7.
 fn port(tick: u32, port: u16) -> TickInput<Effect>

@@ -1,8 +1,8 @@
 //! Fields of an entry, and bits of bitmaps.
+use crate::agree::{agree, agree_at};
 use machine_layout::{bits, msr_exits, port_exits, with_bits};
 use muen_num::AccessSize;
 use std::test::Fail;
-use tests_agree::{agree, agree_at};
 
 #[test]
 fn ports_at_the_ends_of_bitmaps(rt: HostRuntime) -> Result<(), Fail> {

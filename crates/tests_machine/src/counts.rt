@@ -1,9 +1,9 @@
 //! Pages of tables, counted by hand.
 ghost use Rattle.std.specs.Prelude.{◌≡◌};
 
+use crate::agree::agree;
 use ept_emit::{GuestRange, pages};
 use std::test::Fail;
-use tests_agree::agree;
 
 fn range(guest: u64, size: u64) -> GuestRange
     ensures { (result.guest ≡ guest) × (result.size ≡ size) }

@@ -1,8 +1,8 @@
 //! What the kernel makes of exits and events.
+use crate::agree::{agree, agree_at};
 use guest_isa::{Finish, inject};
 use state_page::SubjectState;
 use std::test::Fail;
-use tests_agree::{agree, agree_at};
 
 #[test]
 fn after_each_exit(rt: HostRuntime) -> Result<(), Fail> {

@@ -1,7 +1,7 @@
 //! The table, spelled by hand. What instructions do is worked out in `proofs/Examples.antt`.
+use crate::agree::agree;
 use guest_isa::{decode, encode};
 use std::test::Fail;
-use tests_agree::agree;
 
 // Each row has eight bytes, and the instruction that they spell, or `None`.
 const TABLE: &str = r#"0000000000000000=>Some(Nop)

@@ -4,6 +4,8 @@
 #![tactic(auto)]
 
 #[cfg(test)]
+mod agree;
+#[cfg(test)]
 mod bench;
 #[cfg(test)]
 mod bits;

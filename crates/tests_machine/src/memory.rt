@@ -1,11 +1,11 @@
 ghost use Rattle.std.specs.Prelude.{IfOk};
 ghost use Rattle.phys_mem.specs.Spans.{AreSpans};
 
+use crate::agree::agree;
 use muen_num::{AccessSize, Seq};
 use phys_mem::{FrameMem, MemorySpan, PhysMem, RegionMem};
 use std::alloc::Global;
 use std::test::Fail;
-use tests_agree::{agree, holds};
 
 /// Two pages from 1 MiB on, and one page at 2 GiB.
 fn spans(alloc: Global) -> Result<Vec<MemorySpan>, Fail>
@@ -70,13 +70,13 @@ fn what_is_stored_is_loaded(rt: HostRuntime) -> Result<(), Fail> {
         store_some(&mut region),
         [true, true, false, false, false],
     );
-    holds(&rt, loads(&region));
+    assert!(rt; loads(&region));
     let mut frame = FrameMem::start(alloc, spans(alloc)?)?;
     agree(
         &rt,
         store_some(&mut frame),
         [true, true, false, false, false],
     );
-    holds(&rt, loads(&frame));
+    assert!(rt; loads(&frame));
     Ok(())
 }

@@ -1,7 +1,6 @@
 //! Bytes at offsets that were computed by hand.
 use msrbm_emit::{MsrGrant, emit, emit_area};
 use std::test::Fail;
-use tests_agree::holds;
 
 // The three MSRs of SYSENTER, to be read and written.
 const SYSENTER: MsrGrant = MsrGrant {
@@ -28,8 +27,8 @@ fn bits_of_two_grants(rt: HostRuntime) -> Result<(), Fail> {
         bitmap.get(2048 + 46).copied(),
         bitmap.get(3072 + 16).copied(),
     );
-    holds(&rt, reads == (Some(0x8F), Some(0xFE)));
-    holds(&rt, writes == (Some(0x8F), Some(0xFF)));
+    assert!(rt; reads == (Some(0x8F), Some(0xFE)));
+    assert!(rt; writes == (Some(0x8F), Some(0xFF)));
     Ok(())
 }
 
@@ -48,7 +47,7 @@ fn area_of_two_grants(rt: HostRuntime) -> Result<(), Fail> {
         area.get(51).copied(),
         area.get(64).copied(),
     );
-    holds(&rt, first == (Some(0x74), Some(0x01), Some(0)));
-    holds(&rt, last == (Some(0x80), Some(0xC0), Some(0)));
+    assert!(rt; first == (Some(0x74), Some(0x01), Some(0)));
+    assert!(rt; last == (Some(0x80), Some(0xC0), Some(0)));
     Ok(())
 }

@@ -1,7 +1,7 @@
 //! The page of a state, byte by byte.
+use crate::agree::agree;
 use state_page::{SubjectState, read, write};
 use std::test::Fail;
-use tests_agree::{agree, holds};
 
 fn byte_at(page: &[u8], at: usize) -> Option<u8> {
     page.get(at).copied()
@@ -27,6 +27,6 @@ fn bytes_of_a_state(rt: HostRuntime) -> Result<(), Fail> {
     agree(&rt, registers, (Some(0x11), Some(0x22)));
     agree(&rt, words, (Some(0x08), Some(0x33), Some(0x44)));
     agree(&rt, flags, (Some(0x0A), Some(0)));
-    holds(&rt, read(&page) == state);
+    assert!(rt; read(&page) == state);
     Ok(())
 }

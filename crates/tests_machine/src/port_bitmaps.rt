@@ -1,7 +1,7 @@
 //! Bits of I/O bitmaps that were computed by hand.
+use crate::agree::agree;
 use iobm_emit::{PortRange, emit};
 use std::test::Fail;
-use tests_agree::agree;
 
 #[test]
 fn bits_of_two_ranges(rt: HostRuntime) -> Result<(), Fail> {

@@ -4,11 +4,11 @@ ghost use Rattle.ept_emit.specs.Pages.{AreApart, IsMapped, range_of, ranges_of};
 ghost use Rattle.ept_emit.specs.Entries.{IsEmittable, level_of};
 ghost use Rattle.machine_layout.specs.Walks.{entry_size};
 
+use crate::agree::agree;
 use ept_emit::{Caching, GuestRange, Leaf, Rights, Window, emit, eptp, pages};
 use muen_num::limits::{GUEST_END, LARGE_PAGE, PAGE, PHYSICAL_END};
 use std::alloc::{AllocError, Global};
 use std::test::Fail;
-use tests_agree::agree;
 
 const TABLES_AT: u64 = 0x10_0000;
 

@@ -1,13 +1,13 @@
 ghost use Rattle.std.specs.Prelude.{IfOk};
 ghost use Rattle.phys_mem.specs.Spans.{AreSpans};
 
+use crate::agree::{agree, agree_at};
 use ept_walk::{CachedWalk, PlainWalk, Translate};
 use machine_layout::Walk;
 use muen_num::{AccessKind, AccessSize, Seq};
 use phys_mem::{FrameMem, MemorySpan, PhysMem, RegionMem};
 use std::alloc::Global;
 use std::test::Fail;
-use tests_agree::{agree, agree_at};
 
 /// The EPTP whose PML4 table is the first page of the tables.
 const EPTP: u64 = 0x10_001e;

@@ -1,6 +1,7 @@
 //! Files of tables for direct memory access that are spelled byte by byte: what unpacking says of them
 //! and of damaged ones, where a device reaches, and what a record's lines become.
 use super::spelled::{CHOSEN, spelled};
+use crate::agree::{agree, agree_at};
 use dma_tables::{DmaTables, Effect, dma_fault_pieces, lower, pack, unpack};
 use image_pack::Parts;
 use itoa::Buffer;
@@ -8,7 +9,6 @@ use muen_num::{Name, Seq};
 use record_text::{Input, Record, TickInput};
 use std::alloc::Global;
 use std::test::Fail;
-use tests_agree::{agree, agree_at, holds};
 
 /// Six pages from address 0 on: a device `none` on bus 0, with devfn 24, reaches the page at 0x1000 by
 /// its addresses 4,096 to 8,191.
@@ -82,7 +82,7 @@ fn there_and_back(rt: HostRuntime) -> Result<(), Fail> {
     let file = spelled(alloc, TABLES)?;
     agree(&rt, file.len(), 24_668);
     agree(&rt, answer(alloc, &file)?.as_str(), "tables");
-    holds(&rt, comes_back(alloc, &file)?);
+    assert!(rt; comes_back(alloc, &file)?);
     Ok(())
 }
 
@@ -101,17 +101,11 @@ fn first_faults(rt: HostRuntime) -> Result<(), Fail> {
 fn where_a_device_reaches(rt: HostRuntime) -> Result<(), Fail> {
     let alloc = rt.alloc();
     let file = spelled(alloc, TABLES)?;
-    holds(
-        &rt,
-        reaches(alloc, &file, b"none", 4104, true) == Some(0x1008),
-    );
-    holds(
-        &rt,
-        reaches(alloc, &file, b"none", 8191, false) == Some(0x1FFF),
-    );
-    holds(&rt, reaches(alloc, &file, b"none", 8192, true).is_none());
-    holds(&rt, reaches(alloc, &file, b"none", 1 << 48, true).is_none());
-    holds(&rt, reaches(alloc, &file, b"card", 4104, true).is_none());
+    assert!(rt; reaches(alloc, &file, b"none", 4104, true) == Some(0x1008));
+    assert!(rt; reaches(alloc, &file, b"none", 8191, false) == Some(0x1FFF));
+    assert!(rt; reaches(alloc, &file, b"none", 8192, true).is_none());
+    assert!(rt; reaches(alloc, &file, b"none", 1 << 48, true).is_none());
+    assert!(rt; reaches(alloc, &file, b"card", 4104, true).is_none());
     Ok(())
 }
 

@@ -1,9 +1,9 @@
 //! Damaged images, and what unpacking answers: the first fault, or that they are images.
 use super::answer;
 use super::spelled::{CHOSEN, PLAIN, spelled};
+use crate::agree::agree_at;
 use std::alloc::Global;
 use std::test::Fail;
-use tests_agree::agree_at;
 
 // Each row has the answer and, behind bars, changes to the image: an offset in it, and the bytes that
 // are put there in hexadecimal. An offset alone is the image's new length.

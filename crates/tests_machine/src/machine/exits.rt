@@ -1,12 +1,12 @@
 //! How steps end: every fault, and what comes of steps without one.
 use super::world::{PC, Start, bench, exit, machine, set_register, subject_at};
+use crate::agree::agree_at;
 use device_bench::Bench;
 use guest_isa::{Change, StepEnd};
 use muen_num::AccessSize;
 use std::alloc::Global;
 use std::process::Abort;
 use std::test::Fail;
-use tests_agree::agree_at;
 
 /// The end of guest addresses.
 const END: u64 = 1 << 48;

@@ -5,6 +5,7 @@ use super::world::{
     AREA, CODE, CONTROL, DEVICE, MSR, OTHER, PC, STATE, Start, bench, exit, keeping_machine,
     machine, set_register, subject_at, word,
 };
+use crate::agree::{agree, agree_at};
 use device_bench::Bench;
 use ept_walk::Translate;
 use guest_isa::{Change, Finish, StepEnd};
@@ -12,7 +13,6 @@ use muen_num::AccessSize;
 use phys_mem::PhysMem;
 use std::alloc::Global;
 use std::test::Fail;
-use tests_agree::{agree, agree_at};
 use vmx_machine::{Control, Machine};
 
 // A subject that stores a byte.
