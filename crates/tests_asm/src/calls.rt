@@ -1,4 +1,5 @@
 //! Each command once, and each status with its line.
+use crate::agree::agree_at;
 use asm_top::muen_asm;
 use muen_outside::{MemFiles, MemSink};
 use std::alloc::Global;
@@ -52,7 +53,7 @@ pub(crate) fn call(
     Ok(answer)
 }
 
-const CALLS: [(&str, &str); 17] = [
+const CALLS: &[(&str, &str)] = &[
     ("hex wait", "0 17000000000000000d000000f8ffffff01ff\n"),
     ("hex empty", "0 \n"),
     (
@@ -88,10 +89,10 @@ const CALLS: [(&str, &str); 17] = [
 fn answers(rt: HostRuntime) -> Result<(), Fail> {
     let alloc = rt.alloc();
     let mut files = files(alloc, Vec::new(alloc))?;
-    for (words, want) in CALLS {
+    for &(words, want) in CALLS {
         let mut out = MemSink::make(alloc, 200, Vec::new(alloc), 0)?;
         let answer = call(alloc, words, &mut files, &mut out)?;
-        assert_eq!(rt; answer.as_str(), want, "{words}");
+        agree_at(&rt, answer.as_str(), want, words);
     }
     let bytes = b"\x17\0\0\0\0\0\0\0\x0d\0\0\0\xf8\xff\xff\xff\x01\xff";
     assert!(rt; files.get("made") == Some(bytes.as_slice()));
@@ -125,7 +126,7 @@ fn the_longest_files(rt: HostRuntime) -> Result<(), Fail> {
         let mut files = MemFiles::make(held, Vec::new(alloc));
         let mut out = MemSink::make(alloc, 10, vec![in alloc; 0]?, 0)?;
         let answer = call(alloc, words, &mut files, &mut out)?;
-        assert_eq!(rt; answer.as_str(), want, "{words}");
+        agree_at(&rt, answer.as_str(), want, words);
     }
     Ok(())
 }
@@ -138,7 +139,7 @@ fn files_that_fail(rt: HostRuntime) -> Result<(), Fail> {
         let mut files = files(alloc, vec![in alloc; call_that_fails]?)?;
         let mut out = MemSink::make(alloc, 200, Vec::new(alloc), 0)?;
         let answer = call(alloc, words, &mut files, &mut out)?;
-        assert_eq!(rt; answer.as_str(), "4 muen_asm: file fault\n", "{words}");
+        agree_at(&rt, answer.as_str(), "4 muen_asm: file fault\n", words);
     }
     Ok(())
 }
@@ -174,7 +175,7 @@ fn an_output_that_fails(rt: HostRuntime) -> Result<(), Fail> {
     ] {
         let mut out = MemSink::make(alloc, 200, vec![in alloc; 0]?, 3)?;
         let answer = call(alloc, words, &mut files, &mut out)?;
-        assert_eq!(rt; answer.as_str(), want, "{words}");
+        agree_at(&rt, answer.as_str(), want, words);
     }
     Ok(())
 }

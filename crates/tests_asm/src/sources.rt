@@ -5,7 +5,7 @@ use std::alloc::Global;
 use std::test::Fail;
 
 // The digits that each says.
-const DIGITS: [(&str, &str); 19] = [
+const DIGITS: &[(&str, &str)] = &[
     ("\tLI\tr1,5\r\n\nHLT\r", "01100000050000001700000000000000"),
     ("NOP;é", "0000000000000000"),
     (
@@ -55,7 +55,7 @@ const DIGITS: [(&str, &str); 19] = [
 ];
 
 // The line of each one's first fault, the column, and what is wrong there.
-const FAULTS: [(&str, &str); 61] = [
+const FAULTS: &[(&str, &str)] = &[
     (
         " hlt",
         "1, column 2: want an instruction, data, .at or a name",
@@ -179,7 +179,7 @@ fn between<'a>(text: &'a str, before: &str, behind: &str) -> Option<&'a str> {
 #[test]
 fn what_is_said(rt: HostRuntime) -> Result<(), Fail> {
     let alloc = rt.alloc();
-    for (text, want) in DIGITS {
+    for &(text, want) in DIGITS {
         let answer = answer(alloc, text)?;
         assert!(rt;
             between(answer.as_str(), "0 ", "\n") == Some(want),
@@ -192,7 +192,7 @@ fn what_is_said(rt: HostRuntime) -> Result<(), Fail> {
 #[test]
 fn what_is_refused(rt: HostRuntime) -> Result<(), Fail> {
     let alloc = rt.alloc();
-    for (text, want) in FAULTS {
+    for &(text, want) in FAULTS {
         let answer = answer(alloc, text)?;
         assert!(rt;
             between(answer.as_str(), "2 muen_asm: line ", "\n") == Some(want),

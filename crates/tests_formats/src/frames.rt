@@ -70,8 +70,11 @@ fn the_frames_begin_anew(rt: HostRuntime) -> Result<(), Fail> {
     for tick in 0usize..13 {
         at = advance(&plan, at, None, tick as u32);
         let (zero, one) = slots_at(tick);
-        agree_at(&rt, slot(&plan, at, 0, tick as u32), Some(zero), tick);
-        agree_at(&rt, slot(&plan, at, 1, tick as u32), Some(one), tick);
+        let found = (
+            slot(&plan, at, 0, tick as u32),
+            slot(&plan, at, 1, tick as u32),
+        );
+        agree_at(&rt, found, (Some(zero), Some(one)), tick);
     }
     Ok(())
 }
