@@ -4,7 +4,7 @@ use Rattle.std.specs.Prelude.{codes, replicate}
 use Rattle.guest_isa.specs.GuestIsa.{encoding_of}
 use Rattle.record_text.specs.DeviceRecord.{irq_input, port_input}
 use Rattle.generated_system.specs.Record.{inputs_at, order_at}
-use Rattle.generated_system.specs.System.{code_of, cpus_for, first_ticks_for, group, one_before}
+use Rattle.generated_system.specs.System.{code_of, cpus_for, first_ticks_for, one_before}
 
 code_of_the_first : code_of 1 0
     ≡ 1 ∷ 16 ∷ 0 ∷ 0 ∷ 1 ∷ 0 ∷ 0 ∷ 0
@@ -46,9 +46,6 @@ before_the_first = refl
 
 before_the_last : one_before 3 5 ≡ 4
 before_the_last = refl
-
-group_of_the_last : group 5 ≡ record { name = codes "g5"; cpu = 2; subjects = codes "s5" ∷ [] }
-group_of_the_last = refl
 
 -- the last inputs, and the last order of turns, of number 6
 last_inputs : inputs_at 6 199 ≡ (19900, port_input (codes "dev") 16 205) ∷ (19900, irq_input (codes "dev") (codes "t")) ∷ []
