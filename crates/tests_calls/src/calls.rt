@@ -1,7 +1,11 @@
 //! Whole calls over files and sinks in memory.
 use std::alloc::Global;
+use std::process::Abort;
 use std::test::Fail;
-use tests_support::{MemFiles, MemSink, call, changed, file, has_pieces, numbers, text_of};
+use tests_support::{
+    MemFiles, agree, agree_at, answered, changed, cut, file, filled, has_pieces, holds, numbers,
+    printed, refused, text_of,
+};
 
 pub(crate) const POLICY: &str = r#"{"processor":{"logicalCpus":1},
 "memoryBlocks":[{"name":"ram","physicalAddress":1048576,"size":65536}],
@@ -130,7 +134,7 @@ const LOOP: &str = r#"{"processor":{"logicalCpus":1},
 "majorFrames":[{"cpus":[{"cpu":0,"minorFrames":[{"group":"g","ticks":10}]}]}]}}"#;
 
 // The files of the calls below, besides the policy `p`.
-const FILES: [(&str, &str); 12] = [
+const FILES: &[(&str, &str)] = &[
     ("zero", "end 0"),
     ("three", "end 3\n"),
     ("late", "end 100001\n"),
@@ -149,30 +153,34 @@ const FILES: [(&str, &str); 12] = [
 pub(crate) fn files(alloc: Global, policy: &str, fails: &str) -> Result<MemFiles, Fail> {
     let mut held = Vec::new(alloc);
     held.push(file(alloc, "p", policy.as_bytes())?)?;
-    for (name, text) in FILES {
+    for &(name, text) in FILES {
         held.push(file(alloc, name, text.as_bytes())?)?;
     }
-    held.push((String::from_str(alloc, "page")?, vec![in alloc; 1; 4096]?))?;
-    held.push((String::from_str(alloc, "long")?, vec![in alloc; 1; 5000]?))?;
+    held.push(filled(alloc, "page", 1, 4096)?)?;
+    held.push(filled(alloc, "long", 1, 5000)?)?;
     Ok(MemFiles::make(held, numbers(alloc, fails)?))
 }
+
+const ANSWERS: &[(&str, &str)] = &[
+    ("boot p three", THREE_TICKS),
+    ("boot p zero", NO_TICK),
+    ("boot several three", SEVERAL_RAN),
+    ("boot past three", PAST_RAN),
+    ("boot ro three", READ_ONLY_RAN),
+    ("boot two three", TWO_CPUS_RAN),
+];
 
 #[test]
 fn answers(rt: HostRuntime) -> Result<(), Fail> {
     let alloc = rt.alloc();
     let mut files = files(alloc, POLICY, "")?;
-    for (words, text) in [
-        ("boot p three", THREE_TICKS),
-        ("boot p zero", NO_TICK),
-        ("boot several three", SEVERAL_RAN),
-        ("boot past three", PAST_RAN),
-        ("boot ro three", READ_ONLY_RAN),
-        ("boot two three", TWO_CPUS_RAN),
-    ] {
-        let mut out = MemSink::make(alloc, 1000, Vec::new(alloc), 0)?;
-        let ended = call(alloc, words, &mut files, &mut out)?;
-        assert_eq!(rt; ended.answer(alloc)?.as_str(), "0 ", "{words}");
-        assert_eq!(rt; ended.out.as_str(), text, "{words}");
+    for &(words, text) in ANSWERS {
+        agree_at(
+            &rt,
+            printed(alloc, words, &mut files)?.as_str(),
+            text,
+            words,
+        );
     }
     Ok(())
 }
@@ -244,39 +252,59 @@ const PROVIDED_CONTENTS: &str =
     r#"2 muen: one|text: 5000 bytes in room for 4096 |  | boot p absent | MEMORY=>{"name":"r","size":4096,"content":{"file":"page"}}
 3 muen: missing file nothing |  | boot p absent | MEMORY=>{"name":"r","size":4096,"content":{"file":"nothing"}}"#;
 
-// Nothing is put, and no file is made or changed.
+// A document with the changes of a row, in which a page of zeros is put for `@`.
+fn with_page(alloc: Global, document: &str, changes: &str, page: &str) -> Result<String, Fail> {
+    let policy = changed(alloc, document, changes)?;
+    Ok(policy.as_str().replace(alloc, '@', page)?)
+}
+
+// The line of a call on a policy. Nothing is put, and no file is made or changed.
+fn line_of(alloc: Global, policy: &str, fails: &str, words: &str) -> Result<String, Fail> {
+    let mut files = files(alloc, policy, fails)?;
+    let line = refused(alloc, words, &mut files)?;
+    if files.get("image").is_some() || files.get("p") != Some(policy.as_bytes()) {
+        return Ok(String::from_str(alloc, "a file is made or changed")?);
+    }
+    Ok(line)
+}
+
+// The line of the call of a row, of which the line is taken off.
+fn refusal(alloc: Global, document: &str, page: &str, asked: &str) -> Result<String, Fail> {
+    let Some((fails, rest)) = asked.split_once(" | ") else {
+        return Err(Fail::new("no words"));
+    };
+    let (words, changes) = match rest.split_once(" | ") {
+        Some(parts) => parts,
+        None => (rest, ""),
+    };
+    let policy = with_page(alloc, document, changes, page)?;
+    line_of(alloc, policy.as_str(), fails, words)
+}
+
+fn refuses(
+    rt: &impl Abort,
+    alloc: Global,
+    document: &str,
+    page: &str,
+    rows: &str,
+) -> Result<(), Fail> {
+    for row in rows.split('\n') {
+        let Some((want, asked)) = row.split_once(" | ") else {
+            return Err(Fail::new("no calls"));
+        };
+        let line = refusal(alloc, document, page, asked)?;
+        agree_at(rt, line.as_str(), want, row);
+    }
+    Ok(())
+}
+
 #[test]
 fn refusals(rt: HostRuntime) -> Result<(), Fail> {
     let alloc = rt.alloc();
     let page = text_of(alloc, &vec![in alloc; b'0'; 8192]?)?;
-    for (document, rows) in [
-        (POLICY, REFUSALS),
-        (FROM_FILES, CONTENTS),
-        (PROVIDED, PROVIDED_CONTENTS),
-    ] {
-        for row in rows.split('\n') {
-            let Some((want, rest)) = row.split_once(" | ") else {
-                return Err(Fail::new("no calls"));
-            };
-            let Some((fails, rest)) = rest.split_once(" | ") else {
-                return Err(Fail::new("no words"));
-            };
-            let (words, changes) = match rest.split_once(" | ") {
-                Some(parts) => parts,
-                None => (rest, ""),
-            };
-            let policy = changed(alloc, document, changes)?;
-            let policy = policy.as_str().replace(alloc, '@', page.as_str())?;
-            let mut files = files(alloc, policy.as_str(), fails)?;
-            let mut out = MemSink::make(alloc, 10, Vec::new(alloc), 0)?;
-            let ended = call(alloc, words, &mut files, &mut out)?;
-            assert_eq!(rt; ended.line(alloc)?.as_str(), want, "{row}");
-            assert_eq!(rt; out.calls(), 0, "{row}");
-            assert!(rt; files.get("image").is_none(), "{row}");
-            assert!(rt; files.get("p") == Some(policy.as_bytes()), "{row}");
-        }
-    }
-    Ok(())
+    refuses(&rt, alloc, POLICY, page.as_str(), REFUSALS)?;
+    refuses(&rt, alloc, FROM_FILES, page.as_str(), CONTENTS)?;
+    refuses(&rt, alloc, PROVIDED, page.as_str(), PROVIDED_CONTENTS)
 }
 
 const STOPPED: &str = "\
@@ -291,31 +319,24 @@ fn a_record_that_was_read(rt: HostRuntime) -> Result<(), Fail> {
     let change = r#"MEMORY=>{"name":"r","size":4096,"content":{"file":"three"}}"#;
     let policy = changed(alloc, FROM_FILES, change)?;
     let mut files = files(alloc, policy.as_str(), "2")?;
-    let mut out = MemSink::make(alloc, 1000, Vec::new(alloc), 0)?;
-    let ended = call(alloc, "boot p three", &mut files, &mut out)?;
-    assert_eq!(rt; ended.answer(alloc)?.as_str(), "0 ");
-    assert!(rt; has_pieces(ended.out.as_str(), STOPPED));
+    let text = printed(alloc, "boot p three", &mut files)?;
+    holds(&rt, has_pieces(text.as_str(), STOPPED));
     Ok(())
 }
+
+const BEGUN: &str = "7 muen: output fault
+0 0 one 0000000000400000 r1=0000000000000005
+1 0 one 0000000";
 
 // A put that fails, and one without room.
 #[test]
 fn faults(rt: HostRuntime) -> Result<(), Fail> {
     let alloc = rt.alloc();
     let mut files = files(alloc, POLICY, "")?;
-    for (room, fails, begin) in [
-        (1000, "0", "0 0"),
-        (
-            60,
-            "",
-            "0 0 one 0000000000400000 r1=0000000000000005\n1 0 one 0000000",
-        ),
-    ] {
-        let mut out = MemSink::make(alloc, room, numbers(alloc, fails)?, 3)?;
-        let ended = call(alloc, "boot p three", &mut files, &mut out)?;
-        assert_eq!(rt; ended.answer(alloc)?.as_str(), "7 muen: output fault\n");
-        assert_eq!(rt; ended.out.as_str(), begin);
-    }
+    let failed = cut(alloc, "boot p three", &mut files, 1000, "0")?;
+    agree(&rt, failed.as_str(), "7 muen: output fault\n0 0");
+    let no_room = cut(alloc, "boot p three", &mut files, 60, "")?;
+    agree(&rt, no_room.as_str(), BEGUN);
     Ok(())
 }
 
@@ -325,19 +346,27 @@ fn faults(rt: HostRuntime) -> Result<(), Fail> {
 #[test]
 fn blocks(rt: HostRuntime) -> Result<(), Fail> {
     let alloc = rt.alloc();
-    let mut held = Vec::new(alloc);
-    held.push(file(alloc, "loop", LOOP.as_bytes())?)?;
-    held.push(file(alloc, "long", b"end 3000")?)?;
-    let mut files = MemFiles::make(held, Vec::new(alloc));
-    let mut out = MemSink::make(alloc, 200_000, Vec::new(alloc), 0)?;
-    let whole = call(alloc, "boot loop long", &mut files, &mut out)?;
-    assert_eq!(rt; whole.status, 0);
-    assert_eq!(rt; whole.out.len(), 89_345);
-    let mut failing = MemSink::make(alloc, 200_000, numbers(alloc, "1")?, 5)?;
-    let cut = call(alloc, "boot loop long", &mut files, &mut failing)?;
-    assert_eq!(rt; cut.status, 7);
-    assert_eq!(rt; cut.out.len(), 65_310 + 5);
-    assert!(rt; whole.out.as_str().starts_with(cut.out.as_str()));
+    let list = [("loop", LOOP.as_bytes()), ("long", "end 3000".as_bytes())];
+    let mut files = tests_support::files(alloc, &list, "")?;
+    let whole = printed(alloc, "boot loop long", &mut files)?;
+    agree(&rt, whole.len(), 89_345);
+    let cut = cut(alloc, "boot loop long", &mut files, 200_000, "1")?;
+    let Some(kept) = cut.as_str().strip_prefix("7 muen: output fault\n") else {
+        return Err(Fail::new("no fault"));
+    };
+    agree(&rt, kept.len(), 65_310 + 3);
+    holds(&rt, whole.as_str().starts_with(kept));
+    Ok(())
+}
+
+// The lines of the calls of rows, each of which has the words and the line. Nothing is put.
+fn lines(rt: &impl Abort, alloc: Global, files: &mut MemFiles, rows: &str) -> Result<(), Fail> {
+    for row in rows.split('\n') {
+        let Some((words, want)) = row.split_once(" | ") else {
+            return Err(Fail::new("no row"));
+        };
+        agree_at(rt, refused(alloc, words, files)?.as_str(), want, row);
+    }
     Ok(())
 }
 
@@ -348,35 +377,29 @@ boot p longer | 3 muen: file longer has 16777217 bytes
 boot q absent | 3 muen: file component has 67108865 bytes
 boot s longer | 3 muen: file longer has 16777217 bytes"#;
 
+// A policy with a content of one byte of this file.
+fn with_content(alloc: Global, file: &str) -> Result<String, Fail> {
+    let memory = r#"{"name":"r","size":4096,"content":{"file":"FILE","length":1}}"#;
+    let text = FROM_FILES.replacen(alloc, "MEMORY", memory, 1)?;
+    Ok(text.as_str().replacen(alloc, "FILE", file, 1)?)
+}
+
+// The policies `p`, `q` and `s`, and files of spaces that are longer than such files may be; call 7 fails.
+fn too_long(alloc: Global) -> Result<MemFiles, Fail> {
+    let mut held = Vec::new(alloc);
+    held.push(file(alloc, "p", POLICY.as_bytes())?)?;
+    held.push(filled(alloc, "long", b' ', 4_194_305)?)?;
+    held.push(filled(alloc, "longer", b' ', 16_777_217)?)?;
+    held.push(filled(alloc, "component", b' ', 67_108_865)?)?;
+    held.push(file(alloc, "s", with_content(alloc, "longer")?.as_bytes())?)?;
+    held.push(file(alloc, "q", with_content(alloc, "component")?.as_bytes())?)?;
+    Ok(MemFiles::make(held, numbers(alloc, "7")?))
+}
+
 #[test]
 fn long_files(rt: HostRuntime) -> Result<(), Fail> {
     let alloc = rt.alloc();
-    let mut held = Vec::new(alloc);
-    held.push(file(alloc, "p", POLICY.as_bytes())?)?;
-    for (name, length, policy) in [
-        ("long", 4_194_305, ""),
-        ("longer", 16_777_217, "s"),
-        ("component", 67_108_865, "q"),
-    ] {
-        held.push((
-            String::from_str(alloc, name)?,
-            vec![in alloc; b' '; length]?,
-        ))?;
-        let memory = r#"{"name":"r","size":4096,"content":{"file":"FILE","length":1}}"#;
-        let text = FROM_FILES.replacen(alloc, "MEMORY", memory, 1)?;
-        let text = text.as_str().replacen(alloc, "FILE", name, 1)?;
-        held.push(file(alloc, policy, text.as_str().as_bytes())?)?;
-    }
-    let mut files = MemFiles::make(held, numbers(alloc, "7")?);
-    let mut out = MemSink::make(alloc, 10, Vec::new(alloc), 0)?;
-    for row in LONG.split('\n') {
-        let Some((words, want)) = row.split_once(" | ") else {
-            return Err(Fail::new("no row"));
-        };
-        let ended = call(alloc, words, &mut files, &mut out)?;
-        assert_eq!(rt; ended.line(alloc)?.as_str(), want, "{row}");
-    }
-    Ok(())
+    lines(&rt, alloc, &mut too_long(alloc)?, LONG)
 }
 
 // Each command keeps the limit of each kind of file: what has a byte more than tables may have is no image.
@@ -388,32 +411,25 @@ run i longer | 3 muen: file longer has 16777217 bytes
 run i three longest | 3 muen: file longest has 67108865 bytes
 run longest three | 5 muen: image refused at 0: magic"#;
 
-#[test]
-fn limits_of_each_command(rt: HostRuntime) -> Result<(), Fail> {
-    let alloc = rt.alloc();
+// A policy, a record, and files of spaces.
+fn spaces(alloc: Global) -> Result<MemFiles, Fail> {
     let mut held = Vec::new(alloc);
     held.push(file(alloc, "p", POLICY.as_bytes())?)?;
     held.push(file(alloc, "three", b"end 3\n")?)?;
-    for (name, length) in [
-        ("long", 4_194_305),
-        ("longer", 16_777_217),
-        ("longest", 67_108_865),
-    ] {
-        held.push((
-            String::from_str(alloc, name)?,
-            vec![in alloc; b' '; length]?,
-        ))?;
-    }
-    let mut files = MemFiles::make(held, Vec::new(alloc));
-    let mut out = MemSink::make(alloc, 10, Vec::new(alloc), 0)?;
-    let built = call(alloc, "build p i", &mut files, &mut out)?;
-    assert_eq!(rt; built.answer(alloc)?.as_str(), "0 ");
-    for row in LIMITS.split('\n') {
-        let Some((words, want)) = row.split_once(" | ") else {
-            return Err(Fail::new("no row"));
-        };
-        let ended = call(alloc, words, &mut files, &mut out)?;
-        assert_eq!(rt; ended.line(alloc)?.as_str(), want, "{row}");
-    }
-    Ok(())
+    held.push(filled(alloc, "long", b' ', 4_194_305)?)?;
+    held.push(filled(alloc, "longer", b' ', 16_777_217)?)?;
+    held.push(filled(alloc, "longest", b' ', 67_108_865)?)?;
+    Ok(MemFiles::make(held, Vec::new(alloc)))
+}
+
+#[test]
+fn limits_of_each_command(rt: HostRuntime) -> Result<(), Fail> {
+    let alloc = rt.alloc();
+    let mut files = spaces(alloc)?;
+    agree(
+        &rt,
+        answered(alloc, "build p i", &mut files)?.as_str(),
+        "0 ",
+    );
+    lines(&rt, alloc, &mut files, LIMITS)
 }

@@ -1,7 +1,7 @@
 //! Calls of `build`. Which bytes an image has is tested where it is packed.
 use crate::calls::{FROM_FILES, POLICY, files};
 use std::test::Fail;
-use tests_support::{MemFiles, MemSink, call, changed};
+use tests_support::{MemFiles, agree_at, answered, changed, holds_at};
 
 // Whether an image stands under a name: the bytes with which it begins.
 fn has_image(files: &MemFiles, name: &str) -> bool {
@@ -11,21 +11,25 @@ fn has_image(files: &MemFiles, name: &str) -> bool {
     }
 }
 
+const IMAGES: &[(&str, &str)] = &[
+    ("build p image", "image"),
+    ("build several three", "three"),
+    ("build p p", "p"),
+];
+
 // The image may have the name of the policy itself, or of a file that there is.
 #[test]
 fn images(rt: HostRuntime) -> Result<(), Fail> {
     let alloc = rt.alloc();
-    for (words, image) in [
-        ("build p image", "image"),
-        ("build several three", "three"),
-        ("build p p", "p"),
-    ] {
+    for &(words, image) in IMAGES {
         let mut files = files(alloc, POLICY, "")?;
-        let mut out = MemSink::make(alloc, 10, Vec::new(alloc), 0)?;
-        let ended = call(alloc, words, &mut files, &mut out)?;
-        assert_eq!(rt; ended.answer(alloc)?.as_str(), "0 ");
-        assert_eq!(rt; out.calls(), 0);
-        assert!(rt; has_image(&files, image), "{image}");
+        agree_at(
+            &rt,
+            answered(alloc, words, &mut files)?.as_str(),
+            "0 ",
+            image,
+        );
+        holds_at(&rt, has_image(&files, image), image);
     }
     Ok(())
 }
@@ -36,43 +40,45 @@ const THREE: &str = r#"MEMORY=>{"name":"r0","size":4096,"content":{"file":"zero"
 {"name":"r2","size":4096,"content":{"file":"late"}}"#;
 
 // Call 0 reads the policy, the calls 1 to 3 read the files of contents, and call 4 writes the image.
+const FAILING: &[(&str, &str)] = &[
+    ("0", "4 muen: file fault\n"),
+    ("1", "4 muen: file fault\n"),
+    ("2", "4 muen: file fault\n"),
+    ("3", "4 muen: file fault\n"),
+    ("4", "4 muen: file fault\n"),
+    ("5", "0 "),
+];
+
 #[test]
 fn each_call_on_files_fails(rt: HostRuntime) -> Result<(), Fail> {
     let alloc = rt.alloc();
     let policy = changed(alloc, FROM_FILES, THREE)?;
-    for (failing, want) in [
-        ("0", "4 muen: file fault\n"),
-        ("1", "4 muen: file fault\n"),
-        ("2", "4 muen: file fault\n"),
-        ("3", "4 muen: file fault\n"),
-        ("4", "4 muen: file fault\n"),
-        ("5", "0 "),
-    ] {
+    for &(failing, want) in FAILING {
         let mut files = files(alloc, policy.as_str(), failing)?;
-        let mut out = MemSink::make(alloc, 10, Vec::new(alloc), 0)?;
-        let ended = call(alloc, "build p image", &mut files, &mut out)?;
-        assert_eq!(rt; ended.answer(alloc)?.as_str(), want, "{failing}");
-        assert_eq!(rt; has_image(&files, "image"), want == "0 ");
-        assert!(rt; files.get("p") == Some(policy.as_bytes()));
+        let answer = answered(alloc, "build p image", &mut files)?;
+        agree_at(&rt, answer.as_str(), want, failing);
+        agree_at(&rt, has_image(&files, "image"), want == "0 ", failing);
+        holds_at(&rt, files.get("p") == Some(policy.as_bytes()), failing);
     }
     Ok(())
 }
 
 // Call 1 writes the image, and call 2 the tables: where one fails, nothing more is written.
+const WRITES: &[(&str, &str, bool, bool)] = &[
+    ("1", "4 muen: file fault\n", false, false),
+    ("2", "4 muen: file fault\n", true, false),
+    ("3", "0 ", true, true),
+];
+
 #[test]
 fn each_write_fails(rt: HostRuntime) -> Result<(), Fail> {
     let alloc = rt.alloc();
-    for (failing, want, image, tables) in [
-        ("1", "4 muen: file fault\n", false, false),
-        ("2", "4 muen: file fault\n", true, false),
-        ("3", "0 ", true, true),
-    ] {
+    for &(failing, want, image, tables) in WRITES {
         let mut files = files(alloc, POLICY, failing)?;
-        let mut out = MemSink::make(alloc, 10, Vec::new(alloc), 0)?;
-        let ended = call(alloc, "build p image tables", &mut files, &mut out)?;
-        assert_eq!(rt; ended.answer(alloc)?.as_str(), want, "{failing}");
-        assert_eq!(rt; has_image(&files, "image"), image);
-        assert_eq!(rt; files.get("tables").is_some(), tables);
+        let answer = answered(alloc, "build p image tables", &mut files)?;
+        agree_at(&rt, answer.as_str(), want, failing);
+        agree_at(&rt, has_image(&files, "image"), image, failing);
+        agree_at(&rt, files.get("tables").is_some(), tables, failing);
     }
     Ok(())
 }

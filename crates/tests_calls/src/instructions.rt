@@ -1,8 +1,9 @@
 //! Whole calls of `boot` on systems of one and of two subjects, over files and sinks in memory. The
 //! expected lines were worked out by hand.
 use std::alloc::Global;
+use std::process::Abort;
 use std::test::Fail;
-use tests_support::{MemFiles, MemSink, call, changed, file, has_pieces};
+use tests_support::{changed, files, has_pieces, holds_at, printed};
 
 // A subject with a page to read and write, one to read, and the last page of guest addresses to read.
 const ONE: &str = r#"{"processor":{"logicalCpus":1},
@@ -274,40 +275,37 @@ end 2 | CODE=>01200000000040000c12010002000000
 ..."#;
 
 // What a policy prints on a record.
-fn booted(alloc: Global, policy: &str, record: &str) -> Result<String, Fail> {
-    let mut held = Vec::new(alloc);
-    held.push(file(alloc, "p", policy.as_bytes())?)?;
-    held.push(file(alloc, "r", record.as_bytes())?)?;
-    let mut files = MemFiles::make(held, Vec::new(alloc));
-    let mut out = MemSink::make(alloc, 3000, Vec::new(alloc), 0)?;
-    let ended = call(alloc, "boot p r", &mut files, &mut out)?;
-    match ended.status {
-        0 => Ok(ended.out),
-        _ => Err(Fail::new("refused")),
+fn booted<'a>(alloc: Global, policy: &'a str, record: &'a str) -> Result<String, Fail> {
+    let list = [("p", policy.as_bytes()), ("r", record.as_bytes())];
+    printed(alloc, "boot p r", &mut files(alloc, &list, "")?)
+}
+
+// What a document prints with the changes of a block's first line, on the record of that line.
+fn changed_and_booted(alloc: Global, document: &str, inputs: &str) -> Result<String, Fail> {
+    let Some((record, changes)) = inputs.split_once(" | ") else {
+        return Err(Fail::new("no changes"));
+    };
+    let policy = changed(alloc, document, changes)?;
+    booted(alloc, policy.as_str(), record)
+}
+
+fn blocks_print(rt: &impl Abort, alloc: Global, document: &str, blocks: &str) -> Result<(), Fail> {
+    for block in blocks.split("\n\n") {
+        let Some((inputs, lines)) = block.split_once('\n') else {
+            return Err(Fail::new("no lines"));
+        };
+        let text = changed_and_booted(alloc, document, inputs)?;
+        holds_at(rt, has_pieces(text.as_str(), lines), block);
     }
+    Ok(())
 }
 
 #[test]
 fn instructions(rt: HostRuntime) -> Result<(), Fail> {
     let alloc = rt.alloc();
-    for (document, blocks) in [
-        (ONE, MEMORY),
-        (ONE, OTHERS),
-        (ONE, SYSTEM),
-        (TWO, TURNS),
-        (ENTERED, FAULTS),
-    ] {
-        for block in blocks.split("\n\n") {
-            let Some((inputs, lines)) = block.split_once('\n') else {
-                return Err(Fail::new("no lines"));
-            };
-            let Some((record, changes)) = inputs.split_once(" | ") else {
-                return Err(Fail::new("no changes"));
-            };
-            let policy = changed(alloc, document, changes)?;
-            let text = booted(alloc, policy.as_str(), record)?;
-            assert!(rt; has_pieces(text.as_str(), lines), "{block}");
-        }
-    }
-    Ok(())
+    blocks_print(&rt, alloc, ONE, MEMORY)?;
+    blocks_print(&rt, alloc, ONE, OTHERS)?;
+    blocks_print(&rt, alloc, ONE, SYSTEM)?;
+    blocks_print(&rt, alloc, TWO, TURNS)?;
+    blocks_print(&rt, alloc, ENTERED, FAULTS)
 }

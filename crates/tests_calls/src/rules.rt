@@ -3,8 +3,9 @@
 use crate::elements::{DEVICES_AND_EVENTS, PLAN_AND_DOMAINS, REFERENCES_AND_CHANNELS, WHOLE};
 use muen_build::lawful;
 use std::alloc::Global;
+use std::process::Abort;
 use std::test::Fail;
-use tests_support::changed;
+use tests_support::{agree_at, changed};
 
 const LAWFUL: &str = r#"{"processor":{"logicalCpus":1},
 "memoryBlocks":[{"name":"low","physicalAddress":1048576,"size":131072},{"name":"high","physicalAddress":2097152,"size":131072}],
@@ -81,26 +82,27 @@ fn answer(alloc: Global, text: &str) -> Result<String, Fail> {
     }
 }
 
+// The document with the changes of each row has its answer.
+fn answers(rt: &impl Abort, alloc: Global, document: &str, rows: &str) -> Result<(), Fail> {
+    for row in rows.split('\n') {
+        let (want, changes) = match row.split_once(" | ") {
+            Some(parts) => parts,
+            None => (row, ""),
+        };
+        let text = changed(alloc, document, changes)?;
+        agree_at(rt, answer(alloc, text.as_str())?.as_str(), want, row);
+    }
+    Ok(())
+}
+
 #[test]
 fn rules(rt: HostRuntime) -> Result<(), Fail> {
     let alloc = rt.alloc();
-    for (document, rows) in [
-        (LAWFUL, MEMORY_AND_PLAN),
-        (ON_TWO, CPUS),
-        (WHOLE, REFERENCES_AND_CHANNELS),
-        (WHOLE, DEVICES_AND_EVENTS),
-        (WHOLE, PLAN_AND_DOMAINS),
-    ] {
-        for row in rows.split('\n') {
-            let (want, changes) = match row.split_once(" | ") {
-                Some(parts) => parts,
-                None => (row, ""),
-            };
-            let text = changed(alloc, document, changes)?;
-            assert_eq!(rt; answer(alloc, text.as_str())?.as_str(), want, "{row}");
-        }
-    }
-    Ok(())
+    answers(&rt, alloc, LAWFUL, MEMORY_AND_PLAN)?;
+    answers(&rt, alloc, ON_TWO, CPUS)?;
+    answers(&rt, alloc, WHOLE, REFERENCES_AND_CHANNELS)?;
+    answers(&rt, alloc, WHOLE, DEVICES_AND_EVENTS)?;
+    answers(&rt, alloc, WHOLE, PLAN_AND_DOMAINS)
 }
 
 // One subject that loads 5 and halts.
@@ -132,94 +134,96 @@ fn longer(alloc: Global, document: &str, lists: &str, count: u32) -> Result<Stri
     Ok(text)
 }
 
+// How many more items are lawful; the answer to one more, and the lists of which it is one.
+const LISTS: &[(&str, u32, &str)] = &[
+    (
+        ONE_SUBJECT,
+        15,
+        r#"rule 20: memoryBlocks memoryBlocks | {"name":"ram"=>{"name":"b@","physicalAddress":"16#@000#","size":4096}"#,
+    ),
+    (
+        ONE_SUBJECT,
+        31,
+        r#"rule 20: subjects subjects | {"name":"one"=>{"name":"s@","cpu":0,"entry":0} | "one"]=>"s@""#,
+    ),
+    (
+        ONE_SUBJECT,
+        127,
+        r#"rule 20: one one | {"region":"code"=>{"region":"code","virtualAddress":"16#@000#","rights":"r"}"#,
+    ),
+    (
+        ONE_SUBJECT,
+        15,
+        r#"rule 20: majorFrames majorFrames | {"cpus":=>{"cpus":[{"cpu":0,"minorFrames":[{"group":"g","ticks":1}]}]}"#,
+    ),
+    (
+        ONE_SUBJECT,
+        63,
+        r#"rule 20: major.0 major.0 | {"group":=>{"group":"g","ticks":1}"#,
+    ),
+    (
+        WHOLE,
+        30,
+        r#"rule 20: devices devices | {"name":"net"=>{"name":"x@"}"#,
+    ),
+    (
+        WHOLE,
+        14,
+        r#"rule 20: net net | {"name":"buf"=>{"name":"x@","physicalAddress":"16#9@000#","size":4096}"#,
+    ),
+    (
+        WHOLE,
+        14,
+        r#"rule 20: net net | {"name":"p0"=>{"name":"x@","start":7@,"end":7@}"#,
+    ),
+    (
+        WHOLE,
+        15,
+        r#"rule 20: net net | {"name":"rx"=>{"name":"x@"}"#,
+    ),
+    (
+        WHOLE,
+        126,
+        r#"rule 20: channels channels | {"name":"job"=>{"name":"x@","size":4096} | {"channel":"log","role":"writer"=>{"channel":"x@","role":"writer","virtualAddress":"16#9@000#"} | {"channel":"log","role":"reader"=>{"channel":"x@","role":"reader","virtualAddress":"16#9@000#"}"#,
+    ),
+    (
+        WHOLE,
+        63,
+        r#"rule 20: components components | {"name":"feed"=>{"name":"x@"}"#,
+    ),
+    (
+        WHOLE,
+        61,
+        r#"rule 20: feed feed | {"logical":"text"=>{"logical":"x@","virtualAddress":"16#8@000#","size":4096,"rights":"r"}"#,
+    ),
+    (
+        WHOLE,
+        984,
+        r#"rule 20: memory memory | {"name":"page"=>{"name":"x@","size":4096}"#,
+    ),
+    (
+        WHOLE,
+        30,
+        r#"rule 21: deviceDomains deviceDomains | {"name":"d0"=>{"name":"x@"}"#,
+    ),
+];
+
 #[test]
 fn longest_lists(rt: HostRuntime) -> Result<(), Fail> {
     let alloc = rt.alloc();
-    // How many more items are lawful; the answer to one more, and the lists of which it is one.
-    let cases = [
-        (
-            ONE_SUBJECT,
-            15,
-            r#"rule 20: memoryBlocks memoryBlocks | {"name":"ram"=>{"name":"b@","physicalAddress":"16#@000#","size":4096}"#,
-        ),
-        (
-            ONE_SUBJECT,
-            31,
-            r#"rule 20: subjects subjects | {"name":"one"=>{"name":"s@","cpu":0,"entry":0} | "one"]=>"s@""#,
-        ),
-        (
-            ONE_SUBJECT,
-            127,
-            r#"rule 20: one one | {"region":"code"=>{"region":"code","virtualAddress":"16#@000#","rights":"r"}"#,
-        ),
-        (
-            ONE_SUBJECT,
-            15,
-            r#"rule 20: majorFrames majorFrames | {"cpus":=>{"cpus":[{"cpu":0,"minorFrames":[{"group":"g","ticks":1}]}]}"#,
-        ),
-        (
-            ONE_SUBJECT,
-            63,
-            r#"rule 20: major.0 major.0 | {"group":=>{"group":"g","ticks":1}"#,
-        ),
-        (
-            WHOLE,
-            30,
-            r#"rule 20: devices devices | {"name":"net"=>{"name":"x@"}"#,
-        ),
-        (
-            WHOLE,
-            14,
-            r#"rule 20: net net | {"name":"buf"=>{"name":"x@","physicalAddress":"16#9@000#","size":4096}"#,
-        ),
-        (
-            WHOLE,
-            14,
-            r#"rule 20: net net | {"name":"p0"=>{"name":"x@","start":7@,"end":7@}"#,
-        ),
-        (
-            WHOLE,
-            15,
-            r#"rule 20: net net | {"name":"rx"=>{"name":"x@"}"#,
-        ),
-        (
-            WHOLE,
-            126,
-            r#"rule 20: channels channels | {"name":"job"=>{"name":"x@","size":4096} | {"channel":"log","role":"writer"=>{"channel":"x@","role":"writer","virtualAddress":"16#9@000#"} | {"channel":"log","role":"reader"=>{"channel":"x@","role":"reader","virtualAddress":"16#9@000#"}"#,
-        ),
-        (
-            WHOLE,
-            63,
-            r#"rule 20: components components | {"name":"feed"=>{"name":"x@"}"#,
-        ),
-        (
-            WHOLE,
-            61,
-            r#"rule 20: feed feed | {"logical":"text"=>{"logical":"x@","virtualAddress":"16#8@000#","size":4096,"rights":"r"}"#,
-        ),
-        (
-            WHOLE,
-            984,
-            r#"rule 20: memory memory | {"name":"page"=>{"name":"x@","size":4096}"#,
-        ),
-        (
-            WHOLE,
-            30,
-            r#"rule 21: deviceDomains deviceDomains | {"name":"d0"=>{"name":"x@"}"#,
-        ),
-    ];
-    for (document, most, row) in cases {
+    for &(document, most, row) in LISTS {
         let Some((want, lists)) = row.split_once(" | ") else {
             return Err(Fail::new("no lists"));
         };
         let most_of_all = longer(alloc, document, lists, most)?;
-        assert_eq!(rt;
+        agree_at(
+            &rt,
             answer(alloc, most_of_all.as_str())?.as_str(),
             "lawful",
-            "{row}"
+            row,
         );
         let too_many = longer(alloc, document, lists, most.saturating_add(1))?;
-        assert_eq!(rt; answer(alloc, too_many.as_str())?.as_str(), want, "{row}");
+        agree_at(&rt, answer(alloc, too_many.as_str())?.as_str(), want, row);
     }
     Ok(())
 }

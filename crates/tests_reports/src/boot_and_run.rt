@@ -3,46 +3,44 @@
 use crate::run_systems::{CHANNEL, DEVICE, EVENT, HANDOVER};
 use crate::systems::{CHOICE, GATEWAY, MONITOR, ONE, SHARED};
 use std::alloc::Global;
+use std::process::Abort;
 use std::test::Fail;
-use tests_support::{Ended, MemFiles, MemSink, call, changed, file, has_pieces};
+use tests_support::{
+    Ended, MemFiles, agree, agree_at, answered, called, changed, files, has_pieces, holds,
+    holds_at, printed,
+};
 
 // A file whose sixteen bytes behind the first eight are the code of ONE_RAN.
 const CODE_FILE: &[u8] = b"\xff\xff\xff\xff\xff\xff\xff\xff\
 \x01\x10\x00\x00\x05\x00\x00\x00\x17\x00\x00\x00\x00\x00\x00\x00";
 
 // The policy `p`, the record `r`, and the file `code.bin`.
-fn held(alloc: Global, policy: &str, record: &str) -> Result<MemFiles, Fail> {
-    let mut held = Vec::new(alloc);
-    held.push(file(alloc, "p", policy.as_bytes())?)?;
-    held.push(file(alloc, "r", record.as_bytes())?)?;
-    held.push(file(alloc, "code.bin", CODE_FILE)?)?;
-    Ok(MemFiles::make(held, Vec::new(alloc)))
+fn held<'a>(alloc: Global, policy: &'a str, record: &'a str) -> Result<MemFiles, Fail> {
+    let list = [
+        ("p", policy.as_bytes()),
+        ("r", record.as_bytes()),
+        ("code.bin", CODE_FILE),
+    ];
+    files(alloc, &list, "")
 }
 
-// How `boot` ends.
-fn booted(alloc: Global, policy: &str, record: &str) -> Result<Ended, Fail> {
+// The same, and the image `i` that `build` writes.
+fn built(alloc: Global, policy: &str, record: &str) -> Result<MemFiles, Fail> {
     let mut files = held(alloc, policy, record)?;
-    let mut out = MemSink::make(alloc, 1_000_000, Vec::new(alloc), 0)?;
-    call(alloc, "boot p r", &mut files, &mut out)
-}
-
-// How `run` ends on the image that `build` writes.
-fn built_and_ran(alloc: Global, policy: &str, record: &str) -> Result<Ended, Fail> {
-    let mut files = held(alloc, policy, record)?;
-    let mut out = MemSink::make(alloc, 1_000_000, Vec::new(alloc), 0)?;
-    let built = call(alloc, "build p i", &mut files, &mut out)?;
-    if built.status != 0 || !built.out.is_empty() {
+    if answered(alloc, "build p i", &mut files)?.as_str() != "0 " {
         return Err(Fail::new("no image"));
     }
-    call(alloc, "run i r", &mut files, &mut out)
+    Ok(files)
 }
 
-// What was put by a call that ended well.
-fn text_of(ended: Ended) -> Result<String, Fail> {
-    if ended.status != 0 || !ended.err.is_empty() {
-        return Err(Fail::new("refused"));
-    }
-    Ok(ended.out)
+// What `boot` prints.
+fn booted(alloc: Global, policy: &str, record: &str) -> Result<String, Fail> {
+    printed(alloc, "boot p r", &mut held(alloc, policy, record)?)
+}
+
+// What `run` prints of the image that `build` writes.
+fn built_and_ran(alloc: Global, policy: &str, record: &str) -> Result<String, Fail> {
+    printed(alloc, "run i r", &mut built(alloc, policy, record)?)
 }
 
 // Systems of several elements. Each block has a record, whose lines end with strokes, and changes to the
@@ -212,36 +210,60 @@ regs one 8 0000000000000000 00000000003fff20 0000000000000000 0000000000000000
 device net|buf 366447bf910f46ae2d5c302a63775e8ab920e6f692c00a1b8d68f6a1f08055d6
 ...";
 
+// What both print, which is the same.
+fn printed_by_both(
+    rt: &impl Abort,
+    alloc: Global,
+    policy: &str,
+    record: &str,
+    row: &str,
+) -> Result<String, Fail> {
+    let at_once = booted(alloc, policy, record)?;
+    let in_two = built_and_ran(alloc, policy, record)?;
+    agree_at(rt, at_once.as_str(), in_two.as_str(), row);
+    Ok(at_once)
+}
+
+// What both print of a system, with the inputs of a block.
+fn printed_of_block(
+    rt: &impl Abort,
+    alloc: Global,
+    system: &str,
+    inputs: &str,
+    row: &str,
+) -> Result<String, Fail> {
+    let (record, changes) = match inputs.split_once(" | ") {
+        Some(parts) => parts,
+        None => (inputs, ""),
+    };
+    let record = record.replace(alloc, '/', "\n")?;
+    let policy = changed(alloc, system, changes)?;
+    printed_by_both(rt, alloc, policy.as_str(), record.as_str(), row)
+}
+
+// The blocks of a system.
+fn blocks_print(rt: &impl Abort, alloc: Global, system: &str, blocks: &str) -> Result<(), Fail> {
+    for block in blocks.split("\n\n") {
+        let Some((inputs, pieces)) = block.split_once('\n') else {
+            return Err(Fail::new("no pieces"));
+        };
+        let text = printed_of_block(rt, alloc, system, inputs, block)?;
+        holds_at(rt, has_pieces(text.as_str(), pieces), block);
+    }
+    Ok(())
+}
+
 #[test]
 fn both_print_the_same(rt: HostRuntime) -> Result<(), Fail> {
     let alloc = rt.alloc();
-    for (system, blocks) in [
-        (CHANNEL, CHANNEL_RUNS),
-        (EVENT, EVENT_RUNS),
-        (HANDOVER, HANDOVER_RUNS),
-        (GATEWAY, GATEWAY_RUNS),
-        (SHARED, SHARED_RUNS),
-        (CHOICE, CHOICE_RUNS),
-        (MONITOR, MONITOR_RUNS),
-        (DEVICE, DEVICE_RUNS),
-    ] {
-        for block in blocks.split("\n\n") {
-            let Some((inputs, pieces)) = block.split_once('\n') else {
-                return Err(Fail::new("no pieces"));
-            };
-            let (record, changes) = match inputs.split_once(" | ") {
-                Some(parts) => parts,
-                None => (inputs, ""),
-            };
-            let record = record.replace(alloc, '/', "\n")?;
-            let policy = changed(alloc, system, changes)?;
-            let at_once = text_of(booted(alloc, policy.as_str(), record.as_str())?)?;
-            let in_two = text_of(built_and_ran(alloc, policy.as_str(), record.as_str())?)?;
-            assert!(rt; at_once.as_str() == in_two.as_str(), "{block}");
-            assert!(rt; has_pieces(at_once.as_str(), pieces), "{block}");
-        }
-    }
-    Ok(())
+    blocks_print(&rt, alloc, CHANNEL, CHANNEL_RUNS)?;
+    blocks_print(&rt, alloc, EVENT, EVENT_RUNS)?;
+    blocks_print(&rt, alloc, HANDOVER, HANDOVER_RUNS)?;
+    blocks_print(&rt, alloc, GATEWAY, GATEWAY_RUNS)?;
+    blocks_print(&rt, alloc, SHARED, SHARED_RUNS)?;
+    blocks_print(&rt, alloc, CHOICE, CHOICE_RUNS)?;
+    blocks_print(&rt, alloc, MONITOR, MONITOR_RUNS)?;
+    blocks_print(&rt, alloc, DEVICE, DEVICE_RUNS)
 }
 
 // The text of one subject, which loads 5 into register 1 and halts.
@@ -264,43 +286,40 @@ fn one_subject(rt: HostRuntime) -> Result<(), Fail> {
     ];
     for content in contents {
         let policy = changed(alloc, ONE, content)?;
-        let at_once = booted(alloc, policy.as_str(), "end 3\n")?;
-        let in_two = built_and_ran(alloc, policy.as_str(), "end 3\n")?;
-        assert_eq!(rt; text_of(at_once)?.as_str(), ONE_RAN, "{content}");
-        assert_eq!(rt; text_of(in_two)?.as_str(), ONE_RAN, "{content}");
+        let text = printed_by_both(&rt, alloc, policy.as_str(), "end 3\n", content)?;
+        agree_at(&rt, text.as_str(), ONE_RAN, content);
     }
     Ok(())
 }
 
 // Records that aren't for the system, each at its first fault.
+const REFUSED: &[(&str, &str, &str)] = &[
+    (CHANNEL, "order 0 0 2\nend 5\n", "line 1: range\n"),
+    (CHANNEL, "end 5\nirq 0 net rx\n", "line 2: after end\n"),
+    (CHANNEL, "irq 0 net rx\nend 5\n", "line 1: unknown\n"),
+    (DEVICE, "irq 0 net tx\nend 5\n", "line 1: unknown\n"),
+    (
+        DEVICE,
+        "port 2 net 783 1\nport 2 net 784 1\nend 5\n",
+        "line 2: unknown\n",
+    ),
+    (DEVICE, "mem 0 net buf 4095 0102\n", "line 1: unknown\n"),
+    (DEVICE, "mem 0 net buf 4094 0102\n", "line 2: no end\n"),
+];
+
 #[test]
 fn both_refuse_the_same(rt: HostRuntime) -> Result<(), Fail> {
     let alloc = rt.alloc();
-    let cases = [
-        (CHANNEL, "order 0 0 2\nend 5\n", "line 1: range\n"),
-        (CHANNEL, "end 5\nirq 0 net rx\n", "line 2: after end\n"),
-        (CHANNEL, "irq 0 net rx\nend 5\n", "line 1: unknown\n"),
-        (DEVICE, "irq 0 net tx\nend 5\n", "line 1: unknown\n"),
-        (
-            DEVICE,
-            "port 2 net 783 1\nport 2 net 784 1\nend 5\n",
-            "line 2: unknown\n",
-        ),
-        (DEVICE, "mem 0 net buf 4095 0102\n", "line 1: unknown\n"),
-        (DEVICE, "mem 0 net buf 4094 0102\n", "line 2: no end\n"),
-    ];
-    for (policy, record, line) in cases {
-        let at_once = booted(alloc, policy, record)?;
-        let in_two = built_and_ran(alloc, policy, record)?;
-        assert_eq!(rt; at_once.status, 6, "{record}");
-        assert_eq!(rt; in_two.status, 6, "{record}");
-        assert_eq!(rt; at_once.err.as_str(), in_two.err.as_str(), "{record}");
-        assert!(rt;
-            at_once.err.as_str().starts_with("muen: record refused at "),
-            "{record}"
+    for &(policy, record, line) in REFUSED {
+        let at_once = answered(alloc, "boot p r", &mut held(alloc, policy, record)?)?;
+        let in_two = answered(alloc, "run i r", &mut built(alloc, policy, record)?)?;
+        agree_at(&rt, at_once.as_str(), in_two.as_str(), record);
+        holds_at(
+            &rt,
+            at_once.as_str().starts_with("6 muen: record refused at "),
+            record,
         );
-        assert!(rt; at_once.err.as_str().ends_with(line), "{record}");
-        assert!(rt; at_once.out.is_empty() && in_two.out.is_empty(), "{record}");
+        holds_at(&rt, at_once.as_str().ends_with(line), record);
     }
     Ok(())
 }
@@ -341,9 +360,7 @@ const PAD: &str =
 
 // The lines of `map` that end with this name.
 fn mapped(alloc: Global, policy: &str, name: &str) -> Result<String, Fail> {
-    let mut files = held(alloc, policy, "")?;
-    let mut out = MemSink::make(alloc, 100_000, Vec::new(alloc), 0)?;
-    let text = text_of(call(alloc, "map p", &mut files, &mut out)?)?;
+    let text = printed(alloc, "map p", &mut held(alloc, policy, "")?)?;
     let mut lines = String::new(alloc);
     for line in text.as_str().split('\n') {
         if line.ends_with(name) {
@@ -353,6 +370,45 @@ fn mapped(alloc: Global, policy: &str, name: &str) -> Result<String, Fail> {
     Ok(lines)
 }
 
+// How many lines each of the other four has, and each channel that they write: a line for each tick of a
+// subject in each round; then come five final lines of it.
+const OF_OTHERS: &[(&str, usize)] = &[
+    ("plain", 6 * 30 + 5),
+    ("keys", 6 * 10 + 5),
+    ("slots", 6 * 10 + 5),
+    ("cipher", 6 * 30 + 5),
+    ("job", 1),
+    ("key", 1),
+    ("beat", 1),
+    ("sealed", 1),
+];
+
+// Another text has the same lines of them.
+fn same_of_others(rt: &impl Abort, alloc: Global, whole: &str, other: &str) -> Result<(), Fail> {
+    for &(name, count) in OF_OTHERS {
+        let lines = lines_of(alloc, whole, name)?;
+        let others = lines_of(alloc, other, name)?;
+        agree_at(rt, lines.len(), count, name);
+        agree_at(rt, lines.as_slice(), others.as_slice(), name);
+    }
+    Ok(())
+}
+
+// The six lines of `black` where it halts, which aren't those where it doesn't.
+fn black_halts(rt: &impl Abort, alloc: Global, whole: &str, idles: &str) -> Result<(), Fail> {
+    let black = lines_of(alloc, idles, "black")?;
+    let before = lines_of(alloc, whole, "black")?;
+    let halts = "30 0 black 0000000000400000 exit 12 0000000000000000 0000000000000000 halt";
+    agree(rt, black.len(), 6);
+    agree(rt, black.first(), Some(&halts));
+    holds(
+        rt,
+        before.contains(&"34 0 black 0000000000400020 inject 40"),
+    );
+    holds(rt, before.as_slice() != black.as_slice());
+    Ok(())
+}
+
 // Nothing leads from `black` to the other four. So they, and the channels that they write, are the same
 // where it does something else, which here is to halt; and where it has more memory, which moves theirs.
 #[test]
@@ -360,35 +416,16 @@ fn black_is_another(rt: HostRuntime) -> Result<(), Fail> {
     let alloc = rt.alloc();
     let idle = GATEWAY.replacen(alloc, BLACK_CODE, "1700000000000000", 1)?;
     let more = changed(alloc, GATEWAY, PAD)?;
-    let whole = text_of(built_and_ran(alloc, GATEWAY, GATEWAY_RECORD)?)?;
-    let idles = text_of(built_and_ran(alloc, idle.as_str(), GATEWAY_RECORD)?)?;
-    let has_more = text_of(built_and_ran(alloc, more.as_str(), GATEWAY_RECORD)?)?;
-    // Each round has a line for each tick of a subject; then come five final lines of it.
-    let cases = [
-        ("plain", 6 * 30 + 5),
-        ("keys", 6 * 10 + 5),
-        ("slots", 6 * 10 + 5),
-        ("cipher", 6 * 30 + 5),
-        ("job", 1),
-        ("key", 1),
-        ("beat", 1),
-        ("sealed", 1),
-    ];
-    for (name, count) in cases {
-        let lines = lines_of(alloc, whole.as_str(), name)?;
-        assert_eq!(rt; lines.len(), count, "{name}");
-        for other in [idles.as_str(), has_more.as_str()] {
-            let others = lines_of(alloc, other, name)?;
-            assert_eq!(rt; lines.as_slice(), others.as_slice(), "{name}");
-        }
-    }
-    let black = lines_of(alloc, idles.as_str(), "black")?;
-    let halts = "30 0 black 0000000000400000 exit 12 0000000000000000 0000000000000000 halt";
-    assert_eq!(rt; black.len(), 6);
-    assert_eq!(rt; black.first(), Some(&halts));
-    let before = lines_of(alloc, whole.as_str(), "black")?;
-    assert!(rt; before.contains(&"34 0 black 0000000000400020 inject 40"));
-    assert!(rt; before.as_slice() != black.as_slice());
-    assert!(rt; mapped(alloc, GATEWAY, " job")? != mapped(alloc, more.as_str(), " job")?);
+    let whole = built_and_ran(alloc, GATEWAY, GATEWAY_RECORD)?;
+    let idles = built_and_ran(alloc, idle.as_str(), GATEWAY_RECORD)?;
+    let has_more = built_and_ran(alloc, more.as_str(), GATEWAY_RECORD)?;
+    same_of_others(&rt, alloc, whole.as_str(), idles.as_str())?;
+    same_of_others(&rt, alloc, whole.as_str(), has_more.as_str())?;
+    black_halts(&rt, alloc, whole.as_str(), idles.as_str())?;
+    let moved = mapped(alloc, more.as_str(), " job")?;
+    holds(
+        &rt,
+        mapped(alloc, GATEWAY, " job")?.as_str() != moved.as_str(),
+    );
     Ok(())
 }

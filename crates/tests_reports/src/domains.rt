@@ -2,7 +2,9 @@
 //! that it is handed, and without tables it drops what the device writes.
 use std::alloc::Global;
 use std::test::Fail;
-use tests_support::{Ended, MemFiles, MemSink, call, file, numbers};
+use tests_support::{
+    MemFiles, agree, agree_at, answered, called, cut, files, holds, holds_at, printed,
+};
 
 // The device `nic` is in a domain with `buf` at its address 4096, and with `log`, to read, behind it.
 const NIC: &str = r#"{"processor":{"logicalCpus":1},
@@ -30,36 +32,29 @@ const UNTOUCHED: &str = "\n1 0 one 0000000000400008 r1=0000000000000000\n";
 
 // The policy, the record and an empty file; the calls of these digits fail.
 fn failing(alloc: Global, record: &str, fails: &str) -> Result<MemFiles, Fail> {
-    let mut held = Vec::new(alloc);
-    held.push(file(alloc, "p", NIC.as_bytes())?)?;
-    held.push(file(alloc, "r", record.as_bytes())?)?;
-    held.push(file(alloc, "empty", b"")?)?;
-    Ok(MemFiles::make(held, numbers(alloc, fails)?))
+    let list = [
+        ("p", NIC.as_bytes()),
+        ("r", record.as_bytes()),
+        ("empty", "".as_bytes()),
+    ];
+    files(alloc, &list, fails)
 }
 
 fn held(alloc: Global, record: &str) -> Result<MemFiles, Fail> {
     failing(alloc, record, "")
 }
 
-// What is put by a call that ended well.
-fn text_of(ended: Ended) -> Result<String, Fail> {
-    match ended.status {
-        0 => Ok(ended.out),
-        _ => Err(Fail::new("refused")),
+// The files once `build` has ended well, with these words.
+fn built(alloc: Global, words: &str, record: &str) -> Result<MemFiles, Fail> {
+    let mut files = held(alloc, record)?;
+    if answered(alloc, words, &mut files)?.as_str() != "0 " {
+        return Err(Fail::new("refused"));
     }
+    Ok(files)
 }
 
 fn booted(alloc: Global, record: &str) -> Result<String, Fail> {
-    let mut files = held(alloc, record)?;
-    let mut out = MemSink::make(alloc, 1_000_000, Vec::new(alloc), 0)?;
-    text_of(call(alloc, "boot p r", &mut files, &mut out)?)
-}
-
-fn built_and_ran(alloc: Global, record: &str) -> Result<String, Fail> {
-    let mut files = held(alloc, record)?;
-    let mut out = MemSink::make(alloc, 1_000_000, Vec::new(alloc), 0)?;
-    text_of(call(alloc, "build p i", &mut files, &mut out)?)?;
-    text_of(call(alloc, "run i r", &mut files, &mut out)?)
+    printed(alloc, "boot p r", &mut held(alloc, record)?)
 }
 
 // Whether nothing was written into either region.
@@ -71,7 +66,7 @@ fn is_dropped(text: &str) -> bool {
 fn inside_its_domain(rt: HostRuntime) -> Result<(), Fail> {
     let alloc = rt.alloc();
     let text = booted(alloc, "dma 0 nic 4104 0700\nend 2\n")?;
-    assert!(rt; text.contains(LOADED));
+    holds(&rt, text.contains(LOADED));
     // A window to read, the end of a window with rights, an address before all, a device in no domain.
     for record in [
         "dma 0 nic 8200 0700\nend 2\n",
@@ -79,7 +74,7 @@ fn inside_its_domain(rt: HostRuntime) -> Result<(), Fail> {
         "dma 0 nic 4095 0707\nend 2\n",
         "dma 0 card 4104 0700\nend 2\n",
     ] {
-        assert!(rt; is_dropped(booted(alloc, record)?.as_str()), "{record}");
+        holds_at(&rt, is_dropped(booted(alloc, record)?.as_str()), record);
     }
     Ok(())
 }
@@ -87,8 +82,9 @@ fn inside_its_domain(rt: HostRuntime) -> Result<(), Fail> {
 #[test]
 fn without_tables(rt: HostRuntime) -> Result<(), Fail> {
     let alloc = rt.alloc();
-    let text = built_and_ran(alloc, "dma 0 nic 4104 0700\nend 2\n")?;
-    assert!(rt; is_dropped(text.as_str()));
+    let mut files = built(alloc, "build p i", "dma 0 nic 4104 0700\nend 2\n")?;
+    let text = printed(alloc, "run i r", &mut files)?;
+    holds(&rt, is_dropped(text.as_str()));
     Ok(())
 }
 
@@ -100,23 +96,22 @@ fn with_tables(rt: HostRuntime) -> Result<(), Fail> {
         "dma 0 nic 4104 0700\nend 2\n",
         "dma 0 nic 8191 0707\nend 2\n",
     ] {
-        let mut files = held(alloc, record)?;
-        let mut out = MemSink::make(alloc, 1_000_000, Vec::new(alloc), 0)?;
-        text_of(call(alloc, "build p i t", &mut files, &mut out)?)?;
-        let text = text_of(call(alloc, "run i r t", &mut files, &mut out)?)?;
-        assert!(rt; text == booted(alloc, record)?);
-        let ended = call(alloc, "run i r r", &mut files, &mut out)?;
-        assert_eq!(rt;
-            ended.answer(alloc)?.as_str(),
-            "10 muen: dma refused at 0: magic\n"
+        let mut files = built(alloc, "build p i t", record)?;
+        let text = printed(alloc, "run i r t", &mut files)?;
+        agree_at(&rt, text.as_str(), booted(alloc, record)?.as_str(), record);
+        let refused = "10 muen: dma refused at 0: magic\n";
+        agree(
+            &rt,
+            answered(alloc, "run i r r", &mut files)?.as_str(),
+            refused,
         );
-        let ended = call(alloc, "run i t t", &mut files, &mut out)?;
-        assert_eq!(rt; ended.status, 6);
-        let ended = call(alloc, "run i r i", &mut files, &mut out)?;
-        assert_eq!(rt;
-            ended.answer(alloc)?.as_str(),
-            "10 muen: dma refused at 0: magic\n"
+        agree(
+            &rt,
+            answered(alloc, "run i r i", &mut files)?.as_str(),
+            refused,
         );
+        let no_record = answered(alloc, "run i t t", &mut files)?;
+        holds(&rt, no_record.as_str().starts_with("6 "));
     }
     Ok(())
 }
@@ -137,9 +132,8 @@ const WORDS: [(usize, u64); 8] = [
     (20496, 0x108001),
 ];
 
-#[test]
-fn six_pages_at_zero(rt: HostRuntime) -> Result<(), Fail> {
-    let alloc = rt.alloc();
+// The file of the tables, put together from these.
+fn tables(alloc: Global) -> Result<Vec<u8>, Fail> {
     let mut pages = vec![in alloc; 0; 24576]?;
     for (at, word) in WORDS {
         for (old, byte) in pages.iter_mut().skip(at).zip(&word.to_le_bytes()) {
@@ -150,40 +144,49 @@ fn six_pages_at_zero(rt: HostRuntime) -> Result<(), Fail> {
     tables.resize(88, 0)?;
     tables.extend_from_slice(&[0, 24, 0, 0])?;
     tables.extend_from_slice(&pages)?;
-    let mut files = held(alloc, "end 0\n")?;
-    let mut out = MemSink::make(alloc, 10, Vec::new(alloc), 0)?;
-    text_of(call(alloc, "build p i t", &mut files, &mut out)?)?;
-    assert!(rt; files.get("t") == Some(tables.as_slice()));
-    let ended = call(alloc, "run i r empty", &mut files, &mut out)?;
-    assert_eq!(rt;
-        ended.answer(alloc)?.as_str(),
-        "10 muen: dma refused at 0: short\n"
+    Ok(tables)
+}
+
+#[test]
+fn six_pages_at_zero(rt: HostRuntime) -> Result<(), Fail> {
+    let alloc = rt.alloc();
+    let mut files = built(alloc, "build p i t", "end 0\n")?;
+    let tables = tables(alloc)?;
+    holds(&rt, files.get("t") == Some(tables.as_slice()));
+    agree(
+        &rt,
+        answered(alloc, "run i r empty", &mut files)?.as_str(),
+        "10 muen: dma refused at 0: short\n",
     );
     Ok(())
 }
 
 // Call 0 reads the policy, and the calls 1 and 2 write the image and the tables; 3, 4 and 5 read the
 // image, the tables and the record. Nothing is put before the last.
+const FAILING: &[(&str, &str, &str)] = &[
+    ("0", "4 muen: file fault\n", "3 muen: missing file i\n"),
+    ("1", "4 muen: file fault\n", "3 muen: missing file i\n"),
+    ("2", "4 muen: file fault\n", "3 muen: missing file t\n"),
+    ("3", "0 ", "4 muen: file fault\n"),
+    ("4", "0 ", "4 muen: file fault\n"),
+    ("5", "0 ", "4 muen: file fault\n"),
+    ("6", "0 ", "0 "),
+];
+
 #[test]
 fn each_call_on_files_fails(rt: HostRuntime) -> Result<(), Fail> {
     let alloc = rt.alloc();
-    for (fails, built, ran) in [
-        ("0", "4 muen: file fault\n", "3 muen: missing file i\n"),
-        ("1", "4 muen: file fault\n", "3 muen: missing file i\n"),
-        ("2", "4 muen: file fault\n", "3 muen: missing file t\n"),
-        ("3", "0 ", "4 muen: file fault\n"),
-        ("4", "0 ", "4 muen: file fault\n"),
-        ("5", "0 ", "4 muen: file fault\n"),
-        ("6", "0 ", "0 "),
-    ] {
+    for &(fails, built, ran) in FAILING {
         let mut files = failing(alloc, "end 0\n", fails)?;
-        let mut out = MemSink::make(alloc, 1000, Vec::new(alloc), 0)?;
-        let ended = call(alloc, "build p i t", &mut files, &mut out)?;
-        assert_eq!(rt; ended.answer(alloc)?.as_str(), built, "{fails}");
-        assert_eq!(rt; out.calls(), 0);
-        let ended = call(alloc, "run i r t", &mut files, &mut out)?;
-        assert_eq!(rt; ended.answer(alloc)?.as_str(), ran, "{fails}");
-        assert_eq!(rt; out.calls() == 0, ran != "0 ");
+        agree_at(
+            &rt,
+            answered(alloc, "build p i t", &mut files)?.as_str(),
+            built,
+            fails,
+        );
+        let ended = called(alloc, "run i r t", &mut files, 1000)?;
+        agree_at(&rt, ended.answer(alloc)?.as_str(), ran, fails);
+        agree_at(&rt, ended.calls == 0, ran != "0 ", fails);
     }
     Ok(())
 }
@@ -192,11 +195,11 @@ fn each_call_on_files_fails(rt: HostRuntime) -> Result<(), Fail> {
 #[test]
 fn the_put_fails(rt: HostRuntime) -> Result<(), Fail> {
     let alloc = rt.alloc();
-    let mut files = held(alloc, "end 0\n")?;
-    let mut out = MemSink::make(alloc, 1000, numbers(alloc, "0")?, 3)?;
-    text_of(call(alloc, "build p i t", &mut files, &mut out)?)?;
-    let ended = call(alloc, "run i r t", &mut files, &mut out)?;
-    assert_eq!(rt; ended.answer(alloc)?.as_str(), "7 muen: output fault\n");
-    assert_eq!(rt; ended.out.as_str(), "end");
+    let mut files = built(alloc, "build p i t", "end 0\n")?;
+    agree(
+        &rt,
+        cut(alloc, "run i r t", &mut files, 1000, "0")?.as_str(),
+        "7 muen: output fault\nend",
+    );
     Ok(())
 }

@@ -5,15 +5,18 @@ use crate::systems::{
 };
 use std::alloc::Global;
 use std::test::Fail;
-use tests_support::{Ended, MemFiles, MemSink, call, changed, file, numbers};
+use tests_support::{
+    MemFiles, agree, agree_at, called, changed, files, holds, holds_at, printed, refused,
+};
 
-// How a call ends where the file `p` holds the policy and the calls of these digits fail.
-fn reported(alloc: Global, words: &str, policy: &str, fails: &str) -> Result<Ended, Fail> {
-    let mut held = Vec::new(alloc);
-    held.push(file(alloc, "p", policy.as_bytes())?)?;
-    let mut files = MemFiles::make(held, numbers(alloc, fails)?);
-    let mut out = MemSink::make(alloc, 8000, Vec::new(alloc), 0)?;
-    call(alloc, words, &mut files, &mut out)
+// The file `p` holds the policy; the calls of these digits fail.
+fn held(alloc: Global, policy: &str, fails: &str) -> Result<MemFiles, Fail> {
+    files(alloc, &[("p", policy.as_bytes())], fails)
+}
+
+// What a call prints of a policy.
+fn reported(alloc: Global, words: &str, policy: &str) -> Result<String, Fail> {
+    printed(alloc, words, &mut held(alloc, policy, "")?)
 }
 
 // Ten pages are enough, and no component file is read.
@@ -25,35 +28,37 @@ const NO_ROOM: &str = "65536=>36864";
 // A monitor that may change the state of the other.
 const WRITES: &str = r#""rights":"r"}=>"rights":"rw"}"#;
 
+// The words, the policy and the changes to it, and the whole text.
+const TEXTS: &[(&str, &str, &str, &str)] = &[
+    ("map p", ONE, "", ONE_MAP),
+    ("map p", ONE, FROM_FILE, ONE_MAP),
+    ("map p", FIXED, "", FIXED_MAP),
+    ("flows p", ONE, FROM_FILE, "flow one from one\n"),
+    ("flows p", ONE, NO_ROOM, "flow one from one\n"),
+    ("flows p", GATEWAY, "", GATEWAY_FLOWS),
+    ("flows p", MONITOR, "", "flow s from s\nflow m from s m\n"),
+    (
+        "flows p",
+        MONITOR,
+        WRITES,
+        "flow s from s m\nflow m from s m\n",
+    ),
+    (
+        "flows p",
+        SHARED,
+        "",
+        "flow writer from writer reader\nflow reader from writer reader\n",
+    ),
+    ("flows p", CHOICE, "", "flow t from t\nflow a from t a\n"),
+];
+
 #[test]
 fn whole_texts(rt: HostRuntime) -> Result<(), Fail> {
     let alloc = rt.alloc();
-    for (words, policy, changes, text) in [
-        ("map p", ONE, "", ONE_MAP),
-        ("map p", ONE, FROM_FILE, ONE_MAP),
-        ("map p", FIXED, "", FIXED_MAP),
-        ("flows p", ONE, FROM_FILE, "flow one from one\n"),
-        ("flows p", ONE, NO_ROOM, "flow one from one\n"),
-        ("flows p", GATEWAY, "", GATEWAY_FLOWS),
-        ("flows p", MONITOR, "", "flow s from s\nflow m from s m\n"),
-        (
-            "flows p",
-            MONITOR,
-            WRITES,
-            "flow s from s m\nflow m from s m\n",
-        ),
-        (
-            "flows p",
-            SHARED,
-            "",
-            "flow writer from writer reader\nflow reader from writer reader\n",
-        ),
-        ("flows p", CHOICE, "", "flow t from t\nflow a from t a\n"),
-    ] {
+    for &(words, policy, changes, text) in TEXTS {
         let policy = changed(alloc, policy, changes)?;
-        let ended = reported(alloc, words, policy.as_str(), "")?;
-        assert_eq!(rt; ended.answer(alloc)?.as_str(), "0 ");
-        assert_eq!(rt; ended.out.as_str(), text);
+        let got = reported(alloc, words, policy.as_str())?;
+        agree(&rt, got.as_str(), text);
     }
     Ok(())
 }
@@ -61,25 +66,26 @@ fn whole_texts(rt: HostRuntime) -> Result<(), Fail> {
 #[test]
 fn maps_of_several_subjects(rt: HostRuntime) -> Result<(), Fail> {
     let alloc = rt.alloc();
-    let gateway = reported(alloc, "map p", GATEWAY, "")?;
+    let gateway = reported(alloc, "map p", GATEWAY)?;
     for line in [
         "region 0000000001028000 0000000000001000 plain|text\n",
         "window cipher 0000000000601000 0000000000001000 r job\n",
         "window plain 0000000000400000 0000000000001000 rx plain|text\n",
     ] {
-        assert!(rt;
-            gateway.status == 0 && gateway.out.as_str().contains(line),
-            "{line}"
-        );
+        holds_at(&rt, gateway.as_str().contains(line), line);
     }
-    let monitor = reported(alloc, "map p", MONITOR, "")?;
     let last = "window m 0000000000600000 0000000000001000 r s:state\n";
-    assert!(rt; monitor.status == 0 && monitor.out.as_str().ends_with(last));
-    let device = reported(alloc, "map p", DEVICE, "")?;
+    holds(
+        &rt,
+        reported(alloc, "map p", MONITOR)?.as_str().ends_with(last),
+    );
     let last = "\ndevice 0000000000200000 0000000000001000 net|buf\n\
 window one 0000000000400000 0000000000001000 rx code\n\
 window one 0000000000700000 0000000000001000 rw net|buf\n";
-    assert!(rt; device.status == 0 && device.out.as_str().ends_with(last));
+    holds(
+        &rt,
+        reported(alloc, "map p", DEVICE)?.as_str().ends_with(last),
+    );
     Ok(())
 }
 
@@ -100,52 +106,51 @@ const REFUSALS: &str = r#"2 muen: no room for one:msrs of 4096 bytes |  | map p 
 4 muen: file fault | 0 | map p
 4 muen: file fault | 0 | flows p"#;
 
-// Nothing is put.
+// The answer to the call of a row, of which the answer is taken off. Nothing is put.
+fn refusal(alloc: Global, asked: &str) -> Result<String, Fail> {
+    let Some((fails, rest)) = asked.split_once(" | ") else {
+        return Err(Fail::new("no words"));
+    };
+    let (words, changes) = match rest.split_once(" | ") {
+        Some(parts) => parts,
+        None => (rest, ""),
+    };
+    let policy = match changes.split_once("WHOLE=>") {
+        Some((_, whole)) => String::from_str(alloc, whole)?,
+        None => changed(alloc, ONE, changes)?,
+    };
+    refused(alloc, words, &mut held(alloc, policy.as_str(), fails)?)
+}
+
 #[test]
 fn refusals(rt: HostRuntime) -> Result<(), Fail> {
     let alloc = rt.alloc();
     for row in REFUSALS.split('\n') {
-        let Some((want, rest)) = row.split_once(" | ") else {
+        let Some((want, asked)) = row.split_once(" | ") else {
             return Err(Fail::new("no calls"));
         };
-        let Some((fails, rest)) = rest.split_once(" | ") else {
-            return Err(Fail::new("no words"));
-        };
-        let (words, changes) = match rest.split_once(" | ") {
-            Some(parts) => parts,
-            None => (rest, ""),
-        };
-        let policy = match changes.split_once("WHOLE=>") {
-            Some((_, whole)) => String::from_str(alloc, whole)?,
-            None => changed(alloc, ONE, changes)?,
-        };
-        let ended = reported(alloc, words, policy.as_str(), fails)?;
-        assert_eq!(rt; ended.line(alloc)?.as_str(), want, "{row}");
-        assert!(rt; ended.out.is_empty(), "{row}");
+        agree_at(&rt, refusal(alloc, asked)?.as_str(), want, row);
     }
     Ok(())
+}
+
+// How a call ends whose output has room for ten bytes.
+fn in_little_room(alloc: Global, words: &str) -> Result<String, Fail> {
+    let ended = called(alloc, words, &mut held(alloc, FIXED, "1")?, 10)?;
+    ended.answer(alloc)
 }
 
 // A sink that is too small, and words that are too many.
 #[test]
 fn faults(rt: HostRuntime) -> Result<(), Fail> {
     let alloc = rt.alloc();
-    for (words, status) in [
-        ("map p", 7),
-        ("flows p", 7),
-        ("map p q", 1),
-        ("flows p q", 1),
-    ] {
-        let mut held = Vec::new(alloc);
-        held.push(file(alloc, "p", FIXED.as_bytes())?)?;
-        let mut files = MemFiles::make(held, numbers(alloc, "1")?);
-        let mut out = MemSink::make(alloc, 10, Vec::new(alloc), 0)?;
-        let ended = call(alloc, words, &mut files, &mut out)?;
-        assert_eq!(rt; ended.status, status, "{words}");
-        assert!(rt;
-            status == 1 || ended.err.as_str() == "muen: output fault\n",
-            "{words}"
-        );
+    for words in ["map p", "flows p"] {
+        let answer = in_little_room(alloc, words)?;
+        agree_at(&rt, answer.as_str(), "7 muen: output fault\n", words);
+    }
+    for words in ["map p q", "flows p q"] {
+        let answer = in_little_room(alloc, words)?;
+        holds_at(&rt, answer.as_str().starts_with("1 "), words);
     }
     Ok(())
 }

@@ -1,11 +1,11 @@
 //! Systems of images that are made ready, stepped and driven.
 ghost use Rattle.std.specs.Prelude.{◌≡◌, IfOk};
 
-use crate::runs::{image, text_of};
+use crate::runs::text_of;
 use muen_run::{Ready, Record, Seq, drive, ready, unpack};
 use std::alloc::Global;
 use std::test::Fail;
-use tests_support::MemSink;
+use tests_support::{MemSink, agree, holds, image_of, text_of as text};
 
 /// A subject that loads a number and halts.
 const ONE: &str = r#"{"processor":{"logicalCpus":1},
@@ -52,22 +52,35 @@ fn held_after_a_turn(system: Ready) -> (bool, bool) {
 #[test]
 fn ready_is_cached(rt: HostRuntime) -> Result<(), Fail> {
     let alloc = rt.alloc();
-    let image = image(alloc, ONE)?;
+    let image = image_of(alloc, ONE)?;
     let system = system(alloc, image.as_slice())?;
-    assert_eq!(rt; held_after_a_turn(system), (true, false));
+    agree(&rt, held_after_a_turn(system), (true, false));
     Ok(())
+}
+
+// What driving the system of an image puts.
+fn put(alloc: Global, image: &[u8]) -> Result<String, Fail> {
+    let mut out = MemSink::make(alloc, 10_000, Vec::new(alloc), 0)?;
+    match drive(system(alloc, image)?, &mut out) {
+        Ok(_) => text(alloc, out.text()),
+        Err(_) => Err(Fail::new("not driven")),
+    }
 }
 
 // What driving it puts is what `run` prints.
 #[test]
 fn driven(rt: HostRuntime) -> Result<(), Fail> {
     let alloc = rt.alloc();
-    let image = image(alloc, ONE)?;
-    let mut out = MemSink::make(alloc, 10_000, Vec::new(alloc), 0)?;
-    let driven = drive(system(alloc, image.as_slice())?, &mut out);
-    assert!(rt; driven.is_ok());
+    let image = image_of(alloc, ONE)?;
     let printed = text_of(alloc, image.as_slice(), "end 3\n")?;
-    assert!(rt; out.text() == printed.as_bytes());
-    assert!(rt; printed.starts_with("0 0 one 0000000000400000 r1=0000000000000005\n"));
+    agree(
+        &rt,
+        put(alloc, image.as_slice())?.as_str(),
+        printed.as_str(),
+    );
+    holds(
+        &rt,
+        printed.starts_with("0 0 one 0000000000400000 r1=0000000000000005\n"),
+    );
     Ok(())
 }

@@ -6,11 +6,14 @@ pub use muen_outside::{MemFiles, MemSink};
 use muen_top::muen;
 use std::alloc::Global;
 use std::test::Fail;
+pub use tests_agree::{agree, agree_at, holds, holds_at};
 
 /// How a call ends: its status, and what the sinks hold.
 #[derive(Drop)]
 pub struct Ended {
     pub status: u8,
+    /// How often something was put to the output.
+    pub calls: u64,
     /// What was put to the output.
     pub out: String,
     /// What was put to the error sink.
@@ -43,6 +46,28 @@ pub fn file(alloc: Global, name: &str, bytes: &[u8]) -> Result<(String, Vec<u8>)
     Ok((
         String::from_str(alloc, name)?,
         Vec::from_slice(alloc, bytes)?,
+    ))
+}
+
+/// Files with these names and bytes; the calls of these digits fail.
+pub fn files(alloc: Global, list: &[(&str, &[u8])], fails: &str) -> Result<MemFiles, Fail> {
+    let mut held = Vec::new(alloc);
+    for &(name, bytes) in list {
+        held.push(file(alloc, name, bytes)?)?;
+    }
+    Ok(MemFiles::make(held, numbers(alloc, fails)?))
+}
+
+/// A file of so many bytes that are all this one.
+pub fn filled(
+    alloc: Global,
+    name: &str,
+    byte: u8,
+    length: usize,
+) -> Result<(String, Vec<u8>), Fail> {
+    Ok((
+        String::from_str(alloc, name)?,
+        vec![in alloc; byte; length]?,
     ))
 }
 
@@ -80,9 +105,79 @@ pub fn call(
     let status = muen(alloc, &list, files, out, &mut err);
     Ok(Ended {
         status: u8::from(status),
+        calls: out.calls(),
         out: text_of(alloc, out.text())?,
         err: text_of(alloc, err.text())?,
     })
+}
+
+/// A call as `call` does it, whose output has room for so many bytes.
+pub fn called(
+    alloc: Global,
+    words: &str,
+    files: &mut MemFiles,
+    room: usize,
+) -> Result<Ended, Fail> {
+    let mut out = MemSink::make(alloc, room, Vec::new(alloc), 0)?;
+    call(alloc, words, files, &mut out)
+}
+
+/// The answer of a call that puts nothing to the output. An error where it does.
+pub fn answered(alloc: Global, words: &str, files: &mut MemFiles) -> Result<String, Fail> {
+    let ended = called(alloc, words, files, 10)?;
+    if ended.calls > 0 {
+        return Err(Fail::new("put"));
+    }
+    ended.answer(alloc)
+}
+
+/// The answer's line of a call that puts nothing to the output. An error where it does.
+pub fn refused(alloc: Global, words: &str, files: &mut MemFiles) -> Result<String, Fail> {
+    let ended = called(alloc, words, files, 10)?;
+    if ended.calls > 0 {
+        return Err(Fail::new("put"));
+    }
+    ended.line(alloc)
+}
+
+/// What is put to the output, of at most a million bytes, by a call that ends well. An error where it
+/// doesn't.
+pub fn printed(alloc: Global, words: &str, files: &mut MemFiles) -> Result<String, Fail> {
+    let ended = called(alloc, words, files, 1_000_000)?;
+    if ended.status != 0 || !ended.err.is_empty() {
+        return Err(Fail::new("refused"));
+    }
+    Ok(ended.out)
+}
+
+/// The answer of a call, and what is kept of its output: this has room for so many bytes, and of the puts
+/// of these digits, which fail, three bytes are kept.
+pub fn cut(
+    alloc: Global,
+    words: &str,
+    files: &mut MemFiles,
+    room: usize,
+    fails: &str,
+) -> Result<String, Fail> {
+    let mut out = MemSink::make(alloc, room, numbers(alloc, fails)?, 3)?;
+    let ended = call(alloc, words, files, &mut out)?;
+    let mut text = ended.answer(alloc)?;
+    text.push_str(ended.out.as_str())?;
+    Ok(text)
+}
+
+/// The image `i` that `build` writes for the policy `p`.
+pub fn image_in(alloc: Global, files: &mut MemFiles) -> Result<Vec<u8>, Fail> {
+    let answer = answered(alloc, "build p i", files)?;
+    match files.get("i") {
+        Some(bytes) if answer.as_str() == "0 " => Ok(bytes.to_vec(alloc)?),
+        _ => Err(Fail::new("no image")),
+    }
+}
+
+/// The image that `build` writes for a policy.
+pub fn image_of(alloc: Global, policy: &str) -> Result<Vec<u8>, Fail> {
+    image_in(alloc, &mut files(alloc, &[("p", policy.as_bytes())], "")?)
 }
 
 /// The document with changes, between which are bars: the text before `=>` gives way where it first
