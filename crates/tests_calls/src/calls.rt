@@ -1,10 +1,10 @@
 //! Whole calls over files and sinks in memory.
+use crate::agree::{agree, agree_at};
 use std::alloc::Global;
 use std::process::Abort;
 use std::test::Fail;
 use tests_support::{
-    MemFiles, agree, agree_at, answered, changed, cut, file, filled, has_pieces, holds, numbers,
-    printed, refused, text_of,
+    MemFiles, answered, changed, cut, file, filled, has_pieces, numbers, printed, refused, text_of,
 };
 
 pub(crate) const POLICY: &str = r#"{"processor":{"logicalCpus":1},
@@ -320,7 +320,7 @@ fn a_record_that_was_read(rt: HostRuntime) -> Result<(), Fail> {
     let policy = changed(alloc, FROM_FILES, change)?;
     let mut files = files(alloc, policy.as_str(), "2")?;
     let text = printed(alloc, "boot p three", &mut files)?;
-    holds(&rt, has_pieces(text.as_str(), STOPPED));
+    assert!(rt; has_pieces(text.as_str(), STOPPED));
     Ok(())
 }
 
@@ -355,7 +355,7 @@ fn blocks(rt: HostRuntime) -> Result<(), Fail> {
         return Err(Fail::new("no fault"));
     };
     agree(&rt, kept.len(), 65_310 + 3);
-    holds(&rt, whole.as_str().starts_with(kept));
+    assert!(rt; whole.as_str().starts_with(kept));
     Ok(())
 }
 

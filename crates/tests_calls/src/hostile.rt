@@ -1,12 +1,10 @@
 //! Damaged images and records, and calls that fail, in tables.
+use crate::agree::{agree, agree_at, holds_at};
 use crate::calls::POLICY;
 use std::alloc::Global;
 use std::process::Abort;
 use std::test::Fail;
-use tests_support::{
-    Ended, MemFiles, MemSink, agree, agree_at, call, called, files, holds_at, image_of, numbers,
-    printed,
-};
+use tests_support::{Ended, MemFiles, MemSink, call, called, files, image_of, numbers, printed};
 
 // How a run of these bytes ends on a record.
 fn ran(alloc: Global, image: &[u8], record: &[u8]) -> Result<Ended, Fail> {

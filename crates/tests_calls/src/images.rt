@@ -1,7 +1,8 @@
 //! Calls of `build`. Which bytes an image has is tested where it is packed.
+use crate::agree::{agree_at, holds_at};
 use crate::calls::{FROM_FILES, POLICY, files};
 use std::test::Fail;
-use tests_support::{MemFiles, agree_at, answered, changed, holds_at};
+use tests_support::{MemFiles, answered, changed};
 
 // Whether an image stands under a name: the bytes with which it begins.
 fn has_image(files: &MemFiles, name: &str) -> bool {

@@ -1,9 +1,10 @@
 //! Whole calls of `boot` on systems of one and of two subjects, over files and sinks in memory. The
 //! expected lines were worked out by hand.
+use crate::agree::holds_at;
 use std::alloc::Global;
 use std::process::Abort;
 use std::test::Fail;
-use tests_support::{changed, files, has_pieces, holds_at, printed};
+use tests_support::{changed, files, has_pieces, printed};
 
 // A subject with a page to read and write, one to read, and the last page of guest addresses to read.
 const ONE: &str = r#"{"processor":{"logicalCpus":1},

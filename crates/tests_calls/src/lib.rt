@@ -2,6 +2,8 @@
 #![tactic(auto)]
 
 #[cfg(test)]
+mod agree;
+#[cfg(test)]
 mod calls;
 #[cfg(test)]
 mod elements;

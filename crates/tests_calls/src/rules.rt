@@ -1,11 +1,12 @@
 //! The rules that a policy must keep, over whole documents. Each answer was worked out by hand from the
 //! text of the rules.
+use crate::agree::agree_at;
 use crate::elements::{DEVICES_AND_EVENTS, PLAN_AND_DOMAINS, REFERENCES_AND_CHANNELS, WHOLE};
 use muen_build::lawful;
 use std::alloc::Global;
 use std::process::Abort;
 use std::test::Fail;
-use tests_support::{agree_at, changed};
+use tests_support::changed;
 
 const LAWFUL: &str = r#"{"processor":{"logicalCpus":1},
 "memoryBlocks":[{"name":"low","physicalAddress":1048576,"size":131072},{"name":"high","physicalAddress":2097152,"size":131072}],

@@ -1,14 +1,12 @@
 //! Calls of `boot`. It prints what `run` prints of the image that `build` writes; and what a subject
 //! prints doesn't depend on one from which nothing flows to it.
+use crate::agree::{agree, agree_at, holds_at};
 use crate::run_systems::{CHANNEL, DEVICE, EVENT, HANDOVER};
 use crate::systems::{CHOICE, GATEWAY, MONITOR, ONE, SHARED};
 use std::alloc::Global;
 use std::process::Abort;
 use std::test::Fail;
-use tests_support::{
-    Ended, MemFiles, agree, agree_at, answered, called, changed, files, has_pieces, holds,
-    holds_at, printed,
-};
+use tests_support::{Ended, MemFiles, answered, called, changed, files, has_pieces, printed};
 
 // A file whose sixteen bytes behind the first eight are the code of ONE_RAN.
 const CODE_FILE: &[u8] = b"\xff\xff\xff\xff\xff\xff\xff\xff\
@@ -401,11 +399,8 @@ fn black_halts(rt: &impl Abort, alloc: Global, whole: &str, idles: &str) -> Resu
     let halts = "30 0 black 0000000000400000 exit 12 0000000000000000 0000000000000000 halt";
     agree(rt, black.len(), 6);
     agree(rt, black.first(), Some(&halts));
-    holds(
-        rt,
-        before.contains(&"34 0 black 0000000000400020 inject 40"),
-    );
-    holds(rt, before.as_slice() != black.as_slice());
+    assert!(rt; before.contains(&"34 0 black 0000000000400020 inject 40"));
+    assert!(rt; before.as_slice() != black.as_slice());
     Ok(())
 }
 
@@ -423,9 +418,6 @@ fn black_is_another(rt: HostRuntime) -> Result<(), Fail> {
     same_of_others(&rt, alloc, whole.as_str(), has_more.as_str())?;
     black_halts(&rt, alloc, whole.as_str(), idles.as_str())?;
     let moved = mapped(alloc, more.as_str(), " job")?;
-    holds(
-        &rt,
-        mapped(alloc, GATEWAY, " job")?.as_str() != moved.as_str(),
-    );
+    assert!(rt; mapped(alloc, GATEWAY, " job")?.as_str() != moved.as_str());
     Ok(())
 }

@@ -1,10 +1,9 @@
 //! A device that writes into memory by itself: `boot` holds it to the tables that it makes, `run` to those
 //! that it is handed, and without tables it drops what the device writes.
+use crate::agree::{agree, agree_at, holds_at};
 use std::alloc::Global;
 use std::test::Fail;
-use tests_support::{
-    MemFiles, agree, agree_at, answered, called, cut, files, holds, holds_at, printed,
-};
+use tests_support::{MemFiles, answered, called, cut, files, printed};
 
 // The device `nic` is in a domain with `buf` at its address 4096, and with `log`, to read, behind it.
 const NIC: &str = r#"{"processor":{"logicalCpus":1},
@@ -66,7 +65,7 @@ fn is_dropped(text: &str) -> bool {
 fn inside_its_domain(rt: HostRuntime) -> Result<(), Fail> {
     let alloc = rt.alloc();
     let text = booted(alloc, "dma 0 nic 4104 0700\nend 2\n")?;
-    holds(&rt, text.contains(LOADED));
+    assert!(rt; text.contains(LOADED));
     // A window to read, the end of a window with rights, an address before all, a device in no domain.
     for record in [
         "dma 0 nic 8200 0700\nend 2\n",
@@ -84,7 +83,7 @@ fn without_tables(rt: HostRuntime) -> Result<(), Fail> {
     let alloc = rt.alloc();
     let mut files = built(alloc, "build p i", "dma 0 nic 4104 0700\nend 2\n")?;
     let text = printed(alloc, "run i r", &mut files)?;
-    holds(&rt, is_dropped(text.as_str()));
+    assert!(rt; is_dropped(text.as_str()));
     Ok(())
 }
 
@@ -111,7 +110,7 @@ fn with_tables(rt: HostRuntime) -> Result<(), Fail> {
             refused,
         );
         let no_record = answered(alloc, "run i t t", &mut files)?;
-        holds(&rt, no_record.as_str().starts_with("6 "));
+        assert!(rt; no_record.as_str().starts_with("6 "));
     }
     Ok(())
 }
@@ -152,7 +151,7 @@ fn six_pages_at_zero(rt: HostRuntime) -> Result<(), Fail> {
     let alloc = rt.alloc();
     let mut files = built(alloc, "build p i t", "end 0\n")?;
     let tables = tables(alloc)?;
-    holds(&rt, files.get("t") == Some(tables.as_slice()));
+    assert!(rt; files.get("t") == Some(tables.as_slice()));
     agree(
         &rt,
         answered(alloc, "run i r empty", &mut files)?.as_str(),

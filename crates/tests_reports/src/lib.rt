@@ -3,6 +3,8 @@
 #![tactic(auto)]
 
 #[cfg(test)]
+mod agree;
+#[cfg(test)]
 mod boot_and_run;
 #[cfg(test)]
 mod domains;

@@ -1,13 +1,12 @@
 //! Calls of `map` and `flows`.
+use crate::agree::{agree, agree_at, holds_at};
 use crate::run_systems::DEVICE;
 use crate::systems::{
     CHOICE, FIXED, FIXED_MAP, GATEWAY, GATEWAY_FLOWS, MONITOR, ONE, ONE_MAP, SHARED,
 };
 use std::alloc::Global;
 use std::test::Fail;
-use tests_support::{
-    MemFiles, agree, agree_at, called, changed, files, holds, holds_at, printed, refused,
-};
+use tests_support::{MemFiles, called, changed, files, printed, refused};
 
 // The file `p` holds the policy; the calls of these digits fail.
 fn held(alloc: Global, policy: &str, fails: &str) -> Result<MemFiles, Fail> {
@@ -75,17 +74,11 @@ fn maps_of_several_subjects(rt: HostRuntime) -> Result<(), Fail> {
         holds_at(&rt, gateway.as_str().contains(line), line);
     }
     let last = "window m 0000000000600000 0000000000001000 r s:state\n";
-    holds(
-        &rt,
-        reported(alloc, "map p", MONITOR)?.as_str().ends_with(last),
-    );
+    assert!(rt; reported(alloc, "map p", MONITOR)?.as_str().ends_with(last));
     let last = "\ndevice 0000000000200000 0000000000001000 net|buf\n\
 window one 0000000000400000 0000000000001000 rx code\n\
 window one 0000000000700000 0000000000001000 rw net|buf\n";
-    holds(
-        &rt,
-        reported(alloc, "map p", DEVICE)?.as_str().ends_with(last),
-    );
+    assert!(rt; reported(alloc, "map p", DEVICE)?.as_str().ends_with(last));
     Ok(())
 }
 

@@ -1,12 +1,11 @@
 //! Calls of `build`, and then of `run` on the image that was written.
+use crate::agree::{agree_at, holds_at};
 use crate::run_systems::{CHANNEL, LEAVES, OWN_TABLES};
 use crate::systems::GATEWAY;
 use std::alloc::Global;
 use std::process::Abort;
 use std::test::Fail;
-use tests_support::{
-    MemFiles, MemSink, agree_at, answered, call, called, files, holds, holds_at, image_of, printed,
-};
+use tests_support::{MemFiles, MemSink, answered, call, called, files, image_of, printed};
 
 // The file `i` holds an image and `r` a record; the calls of these digits fail.
 fn inputs(alloc: Global, image: &[u8], record: &str, fails: &str) -> Result<MemFiles, Fail> {
@@ -31,10 +30,7 @@ fn both_orders(rt: HostRuntime) -> Result<(), Fail> {
     let ascending = text(alloc, CHANNEL, "end 5\n")?;
     let other = text(alloc, CHANNEL, "order 4 1 0\nend 5\n")?;
     let first = ascending.as_str().find("end writer");
-    holds(
-        &rt,
-        first.is_some() && first == other.as_str().find("end writer"),
-    );
+    assert!(rt; first.is_some() && first == other.as_str().find("end writer"));
     Ok(())
 }
 
@@ -44,10 +40,7 @@ fn a_changed_leaf(rt: HostRuntime) -> Result<(), Fail> {
     let alloc = rt.alloc();
     let mut image = image_of(alloc, LEAVES)?;
     let whole = text_of(alloc, image.as_slice(), "end 3\n")?;
-    holds(
-        &rt,
-        whole.contains("\n1 0 a 0000000000400008 r1=0000000000000000\n"),
-    );
+    assert!(rt; whole.contains("\n1 0 a 0000000000400008 r1=0000000000000000\n"));
     // The entry of the page at 0x500000 in the last table of `a`, and the page of `b`'s region.
     let leaf = [0x31, 0xf0, 0x10, 0, 0, 0, 0, 0];
     if image.len() < 17_864 {
@@ -55,10 +48,7 @@ fn a_changed_leaf(rt: HostRuntime) -> Result<(), Fail> {
     }
     image[17_856..17_864].copy_from_slice(&leaf);
     let changed = text_of(alloc, image.as_slice(), "end 3\n")?;
-    holds(
-        &rt,
-        changed.contains("\n1 0 a 0000000000400008 r1=abababababababab\n"),
-    );
+    assert!(rt; changed.contains("\n1 0 a 0000000000400008 r1=abababababababab\n"));
     Ok(())
 }
 
@@ -74,18 +64,11 @@ fn own_page_table(rt: HostRuntime) -> Result<(), Fail> {
     image[13_912..13_920].copy_from_slice(&[0x33, 0x30, 0x10, 0, 0, 0, 0, 0]);
     image[13_920..13_928].copy_from_slice(&[0x31, 0x70, 0x10, 0, 0, 0, 0, 0]);
     let text = text_of(alloc, image.as_slice(), "end 5\n")?;
-    holds(
-        &rt,
-        text.contains("\n2 0 one 0000000000400010 r4=0000000000000000\n"),
+    assert!(rt; text.contains("\n2 0 one 0000000000400010 r4=0000000000000000\n"));
+    assert!(rt;
+        text.contains("\n3 0 one 0000000000400018 store 8 0000000000401010 0000000000106031\n")
     );
-    holds(
-        &rt,
-        text.contains("\n3 0 one 0000000000400018 store 8 0000000000401010 0000000000106031\n"),
-    );
-    holds(
-        &rt,
-        text.contains("\n4 0 one 0000000000400020 r4=0040100000002001\n"),
-    );
+    assert!(rt; text.contains("\n4 0 one 0000000000400020 r4=0040100000002001\n"));
     Ok(())
 }
 

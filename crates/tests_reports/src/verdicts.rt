@@ -1,9 +1,10 @@
 //! Calls of `verify`, on images as they were built and with bytes changed.
+use crate::agree::{agree, agree_at};
 use crate::systems::GATEWAY;
 use std::alloc::Global;
 use std::process::Abort;
 use std::test::Fail;
-use tests_support::{MemFiles, agree, agree_at, called, changed, cut, files, image_in, image_of};
+use tests_support::{MemFiles, called, changed, cut, files, image_in, image_of};
 
 const ONE: &str = r#"{"processor":{"logicalCpus":1},
 "memoryBlocks":[{"name":"ram","physicalAddress":1048576,"size":65536}],

@@ -6,7 +6,6 @@ pub use muen_outside::{MemFiles, MemSink};
 use muen_top::muen;
 use std::alloc::Global;
 use std::test::Fail;
-pub use tests_agree::{agree, agree_at, holds, holds_at};
 
 /// How a call ends: its status, and what the sinks hold.
 #[derive(Drop)]
