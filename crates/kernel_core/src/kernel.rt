@@ -1,10 +1,12 @@
 //! The kernel and its turns.
-ghost use Rattle.std.specs.Prelude.{◌≡◌, ◌<◌, length, slice_get, option_map, None, Some, IfOk};
+ghost use Rattle.std.specs.Prelude.{◌≡◌, ◌<◌, length, replicate, slice_get, option_map, None, Some, IfOk};
 ghost use Rattle.guest_isa.specs.state.SubjectState.{SubjectState};
 ghost use Rattle.image_pack.specs.declared.parts.SubjectPart.{SubjectPart};
-ghost use Rattle.event_router.specs.Router.{taken};
+ghost use Rattle.event_router.specs.Router.{started, taken};
+ghost use Rattle.frame_clock.specs.declared.plan.Plan.{Plan};
 ghost use Rattle.kernel_core.specs.Kernel.{event_of, exit_handled, raised_by, standing_of, switched, turn_of, vector_for};
 ghost use Rattle.device_bench.specs.Devices.{CanRun};
+ghost use Rattle.kernel_core.specs.Slots.{AreSlotsKept};
 ghost use Rattle.kernel_core.specs.Ticks.{acted, acted_line, kernel_started, with_live};
 
 use crate::exit::{event_of, exit_end_of};
@@ -56,6 +58,28 @@ impl<M: PhysMem, T: Translate> Model for Kernel<M, T> {
     ghost invariant = { λ k. (length k.on.items ≡ k.cpus) × (length k.machine.cpus ≡ k.cpus) × CanRun k.bench.run × AreSlotsKept k.setup.plan k.slots.items };
 }
 
+// What the kernel keeps of events and CPUs.
+#[derive(Drop)]
+struct AtStart {
+    router: Router,
+    on: Vec<Option<u8>>,
+    slots: Vec<Option<KeptSlot>>,
+}
+
+// .. at the start.
+fn at_start(alloc: Global, setup: &Setup, cpus: u8) -> Result<AtStart, NoMemory>
+    ensures router { IfOk result (λ x. x.router ≡ started setup.now.subjects setup.now.plan.groups) }
+    ensures on { IfOk result (λ x. x.on.items ≡ replicate cpus None) }
+    ensures slots { IfOk result (λ x. x.slots.items ≡ replicate cpus None) }
+    ensures kept { IfOk result (λ x. (plan : Plan) → AreSlotsKept plan x.slots.items) }
+{
+    Ok(AtStart {
+        router: Router::start(alloc, setup.subjects.items(), setup.plan.groups.items())?,
+        on: nobody(alloc, cpus)?,
+        slots: no_slots(alloc, cpus)?,
+    })
+}
+
 impl<M: PhysMem, T: Translate> Kernel<M, T> {
     /// The kernel at the start: nobody is on a CPU, nothing is pending, the first member of each
     /// group is active, no port has had an input, and the first major frame begins.
@@ -74,11 +98,9 @@ impl<M: PhysMem, T: Translate> Kernel<M, T> {
         requires run { CanRun input }
         ensures { IfOk result (λ k. k ≡ kernel_started setup input cpus (M.pages mem)) }
     {
-        let machine = Machine::start(alloc, mem, walk, cpus)?;
-        let router = Router::start(alloc, setup.subjects.items(), setup.plan.groups.items())?;
-        let on = nobody(alloc, cpus)?;
+        let AtStart { router, on, slots } = at_start(alloc, &setup, cpus)?;
         let bench = Bench::start(alloc, input)?;
-        let slots = no_slots(alloc, cpus)?;
+        let machine = Machine::start(alloc, mem, walk, cpus)?;
         Ok(Kernel {
             setup,
             cpus,
