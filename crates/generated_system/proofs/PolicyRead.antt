@@ -9,9 +9,10 @@ use Rattle.hex.specs.Hex.{IsBytes, encode_lower}
 use Rattle.muen_num.specs.Naming.{is_name}
 use Rattle.muen_num.specs.Range.{numbers_below}
 use Rattle.policy_json.specs.Document.{json_of, policy_from, policy_of, read_system, shape_refused}
+use Rattle.policy_json.specs.Faults.{and_then, under, or_want}
 use Rattle.policy_json.specs.Objects.{description, read_if_present, read_known, read_object, read_optional, read_required}
 use Rattle.policy_json.specs.Table as table
-use Rattle.policy_json.specs.Values.{and_then, under, or_want, read_hexadecimal, read_items, read_list, read_mode, read_name, read_number, read_rights, read_role}
+use Rattle.policy_json.specs.Values.{read_hexadecimal, read_items, read_list, read_mode, read_name, read_number, read_rights, read_role}
 use Rattle.policy_lawful.specs.refusal.Fault.{Fault}
 use Rattle.policy_lawful.specs.refusal.Want.TheVariants.{Hexadecimal}
 use Rattle.policy_lawful.specs.rights.Rights.TheVariants.{Rx}

@@ -1,7 +1,7 @@
 -- Items that were read before.
 use Rattle.std.proofs.Common.{◌≡◌, List, [], ◌∷◌, ◌++◌, Result, Ok, Err, refl, sym, ap, append_assoc}
 use Rattle.policy_types.specs.declared.refusal.Fault.{Fault}
-use Rattle.policy_json.specs.Values.{and_then}
+use Rattle.policy_values.specs.Faults.{and_then}
 
 abbrev pub with_front : {X : Type 0} → List X → Result (List X) Fault → Result (List X) Fault
 with_front front (Ok xs) = Ok (front ++ xs)

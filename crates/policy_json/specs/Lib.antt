@@ -1,5 +1,5 @@
 pub mod Document
 pub mod Objects
-pub mod Reading
 pub mod Table
 pub mod Values
+pub use Rattle.policy_values.specs.Faults

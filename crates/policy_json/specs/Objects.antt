@@ -4,7 +4,8 @@ use Rattle.std.specs.Str.{bytes_eq}
 use Rattle.std.specs.List.{list_any}
 use Rattle.serde_json.specs.Data.{Data, Members, no_members, member}
 use Rattle.serde_json.specs.Find.{get, as_object}
-use Rattle.policy_json.specs.Values.{and_then, fault, under, read_list}
+use Rattle.policy_json.specs.Values.{read_list}
+use Rattle.policy_values.specs.Faults.{and_then, fault, under}
 use Rattle.policy_types.specs.declared.refusal.Fault.{Fault}
 use Rattle.policy_types.specs.declared.refusal.Want.TheVariants.{Object as WantObject, KnownKeys, Present}
 

@@ -6,7 +6,7 @@ use Rattle.serde_json.specs.Data.{Data}
 use Rattle.serde_json.specs.Find.{get}
 use Rattle.muen_num.specs.declared.limits.TheConstants.{PAGE}
 use Rattle.policy_json.specs.Objects.{◌>>=◌, Object, object, read_object, made, tested, required, optional, if_present, list}
-use Rattle.policy_json.specs.Values.{fault, read_number, read_byte, read_name, read_rights, read_msr_rights, read_caching, read_mode, read_role, read_hexadecimal}
+use Rattle.policy_json.specs.Values.{read_number, read_byte, read_name, read_rights, read_msr_rights, read_caching, read_mode, read_role, read_hexadecimal}
 use Rattle.policy_types.specs.declared.refusal.Fault.{Fault}
 use Rattle.policy_types.specs.declared.refusal.Want.TheVariants.{OneContent, CallOrTrap}
 use Rattle.policy_types.specs.declared.rights.Caching.TheVariants.{Wb}
@@ -48,6 +48,7 @@ use Rattle.policy_types.specs.declared.source.Subject.{Subject}
 use Rattle.policy_types.specs.declared.source.Tau0.{Tau0}
 use Rattle.policy_types.specs.declared.source.Content.TheVariants.{Zero, Fill, Inline, File}
 use Rattle.policy_types.specs.declared.source.SourceWay.TheVariants.{Call, Trap}
+use Rattle.policy_values.specs.Faults.{fault}
 
 -- ---- memory
 

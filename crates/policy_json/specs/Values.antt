@@ -1,35 +1,17 @@
 -- What a JSON value of each kind is read as, or its first fault.
 -- This project's own spelling of the elements of a Muen system policy.
-use Rattle.std.specs.Prelude.{ℕ, ◌+◌, List, [], ◌∷◌, ◌++◌, Option, Some, None, Result, Ok, Err, decimal}
+use Rattle.std.specs.Prelude.{ℕ, ◌+◌, List, [], ◌∷◌, Result, Ok, decimal}
 use Rattle.serde_json.specs.Data.{Data, Items, no_items, item}
 use Rattle.serde_json.specs.Find.{as_array}
 use Rattle.muen_num.specs.declared.mode.EventMode.{EventMode}
 use Rattle.policy_types.specs.declared.refusal.Fault.{Fault}
-use Rattle.policy_types.specs.declared.refusal.Want.{Want}
 use Rattle.policy_types.specs.declared.refusal.Want.TheVariants.{Number, Byte, Name, Rights as WantRights, Caching as WantCaching, Mode as WantMode, Role as WantRole, Hexadecimal, List as WantList}
 use Rattle.policy_types.specs.declared.rights.Rights.{Rights}
 use Rattle.policy_types.specs.declared.rights.MsrRights.{MsrRights}
 use Rattle.policy_types.specs.declared.rights.Caching.{Caching}
 use Rattle.policy_types.specs.declared.rights.Role.{Role}
+use Rattle.policy_values.specs.Faults.{and_then, under, or_want}
 use Rattle.policy_values.specs.Kinds.{number_of, byte_of, named, rights_of, msr_rights_of, caching_of, mode_of, role_of, hexadecimal_of}
-
--- what comes after, where there is no fault yet
-abbrev pub and_then : {A B : Type 0} → Result A Fault → (A → Result B Fault) → Result B Fault
-and_then (Ok x) f = f x
-and_then (Err e) f = Err e
-
--- a fault at this place
-abbrev pub fault : {X : Type 0} → List ℕ → Want → Result X Fault
-fault place want = Err (record { place = place; want = want })
-
--- what was read below this step: a fault's place grows at its front
-abbrev pub under : {X : Type 0} → List ℕ → Result X Fault → Result X Fault
-under step (Ok x) = Ok x
-under step (Err f) = Err (record { place = 47 ∷ (step ++ f.place); want = f.want })
-
-abbrev pub or_want : {X : Type 0} → Want → Option X → Result X Fault
-or_want want None = fault [] want
-or_want want (Some x) = Ok x
 
 -- ---- the kinds
 

@@ -1,7 +1,7 @@
 //! Channels, and components with what they bring along and ask for.
-use crate::fault::ReadError;
 use crate::object::{Object, if_present, list, optional, required};
 use policy_types::source::{Channel, Component, ComponentChannel, Content, Provided, Required};
+use policy_values::ReadError;
 use serde_json::Value;
 use std::alloc::Global;
 

@@ -1,7 +1,7 @@
 //! Devices with their resources, and the domains that confine them.
-use crate::fault::ReadError;
 use crate::object::{Object, if_present, list, required};
 use policy_types::source::{Bdf, Device, DeviceMemory, Domain, Irq, Ports};
+use policy_values::ReadError;
 use serde_json::Value;
 use std::alloc::Global;
 

@@ -3,10 +3,10 @@ ghost use Rattle.std.specs.Prelude.{◌≡◌};
 ghost use Rattle.serde_json.specs.View.{view};
 ghost use Rattle.policy_json.specs.Table.{is_call_or_trap, way_of};
 
-use crate::fault::ReadError;
 use crate::object::{Object, has, if_present, require, required};
 use policy_types::Want;
 use policy_types::source::{Event, EventSource, EventTarget, SourceWay};
+use policy_values::ReadError;
 use serde_json::Value;
 use std::alloc::Global;
 

@@ -8,7 +8,6 @@ ghost use Rattle.policy_json.specs.Document.{policy_of};
 mod components;
 mod devices;
 mod events;
-mod fault;
 mod memory;
 mod object;
 mod scheduling;
@@ -17,9 +16,9 @@ mod subjects;
 mod system;
 mod values;
 
-use crate::fault::ReadError;
 use crate::shape::Shape;
 use policy_types::{Fault, Refusal, Source};
+use policy_values::ReadError;
 use serde_json::Value;
 use std::alloc::Global;
 

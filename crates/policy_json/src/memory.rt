@@ -3,13 +3,13 @@ ghost use Rattle.std.specs.Prelude.{◌≡◌};
 ghost use Rattle.serde_json.specs.View.{view};
 ghost use Rattle.policy_json.specs.Table.{content_of, is_one_content};
 
-use crate::fault::ReadError;
 use crate::object::{Object, has, if_present, list, optional, require, required};
 use crate::values::Hexadecimal;
 use muen_num::Name;
 use muen_num::limits::PAGE;
 use policy_types::source::{Block, Content, Region};
 use policy_types::{Caching, Want};
+use policy_values::ReadError;
 use serde_json::Value;
 use std::alloc::Global;
 

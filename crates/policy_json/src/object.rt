@@ -4,14 +4,15 @@ ghost use Rattle.std.specs.Str.{bytes_eq};
 ghost use Rattle.std.specs.List.{list_any};
 ghost use Rattle.serde_json.specs.View.{view, members_view};
 ghost use Rattle.serde_json.specs.Find.{get};
-ghost use Rattle.policy_json.specs.Values.{fault, read_list};
+ghost use Rattle.policy_values.specs.Faults.{fault};
+ghost use Rattle.policy_values.specs.Reading.{as_read_error, Gives};
+ghost use Rattle.policy_json.specs.Values.{read_list};
 ghost use Rattle.policy_json.specs.Objects.{description, has_known, read_known, read_required, read_optional, read_if_present};
-ghost use Rattle.policy_json.specs.Reading.{as_read_error, Gives};
 
-use crate::fault::ReadError;
 use crate::shape::Shape;
 use muen_num::Seq;
 use policy_types::Want;
+use policy_values::ReadError;
 use serde_json::{Map, Value};
 use std::alloc::Global;
 

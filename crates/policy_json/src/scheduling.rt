@@ -1,7 +1,7 @@
 //! The scheduling plan: groups, frames within frames, and who chooses them.
-use crate::fault::ReadError;
 use crate::object::{Object, if_present, list, required};
 use policy_types::source::{CpuFrames, Group, MajorFrame, MinorFrame, Scheduling, Tau0};
+use policy_values::ReadError;
 use serde_json::Value;
 use std::alloc::Global;
 

@@ -1,13 +1,13 @@
 ghost use Rattle.std.specs.Prelude.{Result};
 ghost use Rattle.serde_json.specs.Data.{Data};
 ghost use Rattle.serde_json.specs.View.{view, items_view};
+ghost use Rattle.policy_values.specs.Reading.{Gives};
 ghost use Rattle.policy_json.specs.Values.{read_list, read_items};
-ghost use Rattle.policy_json.specs.Reading.{Gives};
 
-use crate::fault::ReadError;
 use itoa::Buffer;
 use muen_num::Seq;
 use policy_types::Want;
+use policy_values::ReadError;
 use serde_json::Value;
 use std::alloc::Global;
 

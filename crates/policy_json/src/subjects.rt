@@ -1,10 +1,10 @@
 //! Subjects, and what each is granted.
-use crate::fault::ReadError;
 use crate::object::{Object, if_present, list, required};
 use policy_types::source::{
     ChannelUse, ComponentUse, DeviceMapping, DeviceUse, IrqUse, MapEntry, Mapping, Monitor, Msrs,
     Subject,
 };
+use policy_values::ReadError;
 use serde_json::Value;
 use std::alloc::Global;
 

@@ -1,8 +1,8 @@
 //! A system and its processor.
-use crate::fault::ReadError;
 use crate::object::{Object, list, required};
 use policy_types::Source;
 use policy_types::source::Processor;
+use policy_values::ReadError;
 use serde_json::Value;
 use std::alloc::Global;
 

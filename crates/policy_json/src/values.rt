@@ -1,16 +1,15 @@
 //! The kinds of values, each with what is wanted where a value isn't one.
 ghost use Rattle.std.specs.Prelude.{◌≡◌};
 ghost use Rattle.serde_json.specs.View.{view};
-ghost use Rattle.policy_json.specs.Reading.{as_read_error};
+ghost use Rattle.policy_values.specs.Reading.{as_read_error};
 ghost use Rattle.policy_json.specs.Values.{read_byte, read_caching, read_hexadecimal, read_mode, read_msr_rights, read_name, read_number, read_rights, read_role};
 
-use crate::fault::{ReadError, or_want};
 use crate::shape::Shape;
 use muen_num::{EventMode, Name, Seq};
 use policy_types::{Caching, MsrRights, Rights, Role, Want};
 use policy_values::{
-    byte_of, caching_of, hexadecimal_of, mode_of, msr_rights_of, name_of, number_of, rights_of,
-    role_of,
+    ReadError, byte_of, caching_of, hexadecimal_of, mode_of, msr_rights_of, name_of, number_of,
+    or_want, rights_of, role_of,
 };
 use serde_json::Value;
 use std::alloc::Global;

@@ -1,7 +1,8 @@
+//! The errors of functions that read a value.
 ghost use Rattle.std.specs.Prelude.{◌≡◌, [], Some};
 ghost use Rattle.muen_num.specs.Answers.{Explains};
-ghost use Rattle.policy_json.specs.Values.{or_want};
-ghost use Rattle.policy_json.specs.Reading.{as_read_error, error_under};
+ghost use Rattle.policy_values.specs.Faults.{or_want};
+ghost use Rattle.policy_values.specs.Reading.{as_read_error, error_under};
 
 use policy_types::{Fault, Place, Want};
 use std::alloc::Global;

@@ -1,8 +1,8 @@
 -- The answers of functions that read a JSON value.
 use Rattle.std.specs.Prelude.{◌≡◌, ℕ, List, ◌∷◌, ◌++◌, Result, Ok, Err}
 use Rattle.policy_types.specs.declared.refusal.Fault.{Fault as FirstFault}
-use Rattle.policy_json.specs.declared.fault.ReadError.{ReadError}
-use Rattle.policy_json.specs.declared.fault.ReadError.TheVariants.{Fault, NoMemory}
+use Rattle.policy_values.specs.declared.fault.ReadError.{ReadError}
+use Rattle.policy_values.specs.declared.fault.ReadError.TheVariants.{Fault, NoMemory}
 
 -- what is read, or the error of its first fault
 abbrev pub as_read_error : {X : Type 0} → Result X FirstFault → Result X ReadError
