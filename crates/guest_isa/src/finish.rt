@@ -10,7 +10,7 @@ use state_page::SubjectState;
 const HANDLER: u64 = 8;
 
 /// How a subject goes on after an exit.
-#[derive(Clone, Copy, Debug)]
+#[derive(Clone, Copy, Debug, PartialEq, Eq)]
 pub enum Finish {
     /// At the next instruction.
     On,
