@@ -18,10 +18,11 @@ use crate::major_frames::major_frames;
 use crate::writers::writers;
 use policy_lawful::{Lawful, Offence, Refusal};
 use policy_views::Linked;
+use rules_channels::{connected, mapped};
 use rules_devices::{
     domain_devices, domain_windows, granted_once, msr_ranges, port_ranges, regions_in_one_domain,
 };
-use rules_events::{calls, connected, mapped, modes, monitors, sourced, vectors};
+use rules_events::{calls, modes, monitors, sourced, vectors};
 use rules_extents::addresses::addresses;
 use rules_extents::{blocks_apart, fixed_regions, windows_apart};
 use std::alloc::Global;

@@ -21,11 +21,11 @@ use Rattle.policy_lawful.proofs.UniqueNames.{unique}
 use Rattle.policy_lawful.specs.source.Event.{Event}
 use Rattle.policy_lawful.specs.source.EventSource.{EventSource}
 use Rattle.policy_lawful.specs.source.EventTarget.{EventTarget}
-use Rattle.rules_events.specs.ByIndex.{AreItems}
+use Rattle.rules_channels.specs.ByIndex.{AreItems}
 use Rattle.rules_events.specs.Events.{event_fault}
-use Rattle.rules_events.specs.Parties.{party, source_parties, target_parties, sources_at, targets_at}
-use Rattle.rules_events.specs.declared.parties.Party.{Party}
-use Rattle.rules_events.proofs.Items.{of_all, of_one}
+use Rattle.rules_channels.specs.Parties.{party, source_parties, target_parties, sources_at, targets_at}
+use Rattle.rules_channels.specs.declared.parties.Party.{Party}
+use Rattle.rules_channels.proofs.Items.{of_all, of_one}
 
 abbrev pub event_names : Resolution → List (List ℕ)
 event_names r = map (λ x. x.name) r.events

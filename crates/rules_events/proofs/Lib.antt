@@ -1,15 +1,10 @@
-pub mod ChannelsByIndex
-pub mod ComponentsByIndex
 pub mod Distinct
-pub mod EndsByChannel
 pub mod EventsByIndex
 pub mod FirstFault
-pub mod Items
 pub mod Merged
 pub mod ModesByIndex
 pub mod Monitored
 pub mod MonitorsByIndex
-pub mod NotedItems
 pub mod NumbersByIndex
 pub mod Rising
 pub mod SeenSearch

@@ -29,17 +29,17 @@ use Rattle.policy_lawful.proofs.UniqueNames.{subject_names, subjects_unique}
 use Rattle.policy_lawful.specs.source.Channel.{Channel}
 use Rattle.policy_lawful.specs.source.Event.{Event}
 use Rattle.policy_lawful.specs.Views.{channel_ends_of}
-use Rattle.rules_events.specs.ByIndex.{AreItems, items_at}
+use Rattle.rules_channels.specs.ByIndex.{AreItems, items_at}
 use Rattle.rules_events.specs.Listings.{all_memberships, memberships, share, stands_in}
 use Rattle.rules_events.specs.Directions.{channel_fault, channel_mode, channels_fault, event_fault, events_fault, fits_mode, mode_fault, parties_of, source_fault}
-use Rattle.rules_events.specs.ChannelEnds.{all_channel_ends, all_readers, all_writers, met, met_channel_ends}
-use Rattle.rules_events.specs.Parties.{party, source_parties, sources_at, target_parties, targets_at}
-use Rattle.rules_events.specs.declared.channel_ends.Met.{Met}
-use Rattle.rules_events.specs.declared.parties.Party.{Party}
-use Rattle.rules_events.proofs.ChannelsByIndex.{name_of_channel}
-use Rattle.rules_events.proofs.EndsByChannel.{channel_names, met_named, readers_same, writers_same}
+use Rattle.rules_channels.specs.ChannelEnds.{all_channel_ends, all_readers, all_writers, met, met_channel_ends}
+use Rattle.rules_channels.specs.Parties.{party, source_parties, sources_at, target_parties, targets_at}
+use Rattle.rules_channels.specs.declared.channel_ends.Met.{Met}
+use Rattle.rules_channels.specs.declared.parties.Party.{Party}
+use Rattle.rules_channels.proofs.ChannelsByIndex.{name_of_channel}
+use Rattle.rules_channels.proofs.EndsByChannel.{channel_names, met_named, readers_same, writers_same}
 use Rattle.rules_events.proofs.EventsByIndex.{name_of_event, sources_same, targets_same}
-use Rattle.rules_events.proofs.NotedItems.{items-append}
+use Rattle.rules_channels.proofs.NotedItems.{items-append}
 
 -- ---- lists
 

@@ -10,9 +10,9 @@ use Rattle.std.proofs.lemmas.List.{get_or-append-add, get_or_append_left, get_or
 use Rattle.std.proofs.lemmas.List.Concat.{flat_map-cons}
 use Rattle.std.proofs.lemmas.List.Sorted.{searched}
 use Rattle.policy_lawful.specs.declared.resolved.Group.{Group}
-use Rattle.rules_events.specs.ByIndex.{AreItems, items_at}
+use Rattle.rules_channels.specs.ByIndex.{AreItems, items_at}
 use Rattle.rules_events.specs.Listings.{HaveRising, Rises, all_memberships, memberships, stands_in}
-use Rattle.rules_events.proofs.NotedItems.{items-append}
+use Rattle.rules_channels.proofs.NotedItems.{items-append}
 
 -- ---- a search
 

@@ -10,12 +10,12 @@ use Rattle.policy_lawful.specs.declared.offence.Offence.{Offence}
 use Rattle.policy_lawful.specs.source.Channel.{Channel}
 use Rattle.policy_lawful.specs.source.Event.{Event}
 use Rattle.policy_lawful.specs.Resolution.{Resolution}
-use Rattle.rules_events.specs.ByIndex.{items_at}
-use Rattle.rules_events.specs.ChannelEnds.{all_readers, all_writers}
+use Rattle.rules_channels.specs.ByIndex.{items_at}
+use Rattle.rules_channels.specs.ChannelEnds.{all_readers, all_writers}
 use Rattle.rules_events.specs.Listings.{share}
-use Rattle.rules_events.specs.Parties.{sources_at, targets_at}
-use Rattle.rules_events.specs.declared.channel_ends.Met.{Met}
-use Rattle.rules_events.specs.declared.parties.Party.{Party}
+use Rattle.rules_channels.specs.Parties.{sources_at, targets_at}
+use Rattle.rules_channels.specs.declared.channel_ends.Met.{Met}
+use Rattle.rules_channels.specs.declared.parties.Party.{Party}
 
 -- an event of this mode may join these subjects, of which the groups are noted
 abbrev pub fits_mode : List (List ℕ) → EventMode → Party → Party → Bool

@@ -4,7 +4,7 @@ use Rattle.muen_num.specs.Search.{unless}
 use Rattle.policy_lawful.specs.Offences.{alone}
 use Rattle.policy_lawful.specs.declared.offence.Offence.{Offence}
 use Rattle.policy_lawful.specs.source.Event.{Event}
-use Rattle.rules_events.specs.declared.parties.Party.{Party}
+use Rattle.rules_channels.specs.declared.parties.Party.{Party}
 
 -- an event with its index, where so many sources and targets are noted
 abbrev pub event_fault : List (List Party) → List (List Party) → ℕ × Event → Option Offence

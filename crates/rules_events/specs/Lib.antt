@@ -1,13 +1,8 @@
-pub mod ByIndex
 pub mod Calls
-pub mod ChannelEnds
-pub mod Channels
-pub mod Components
 pub mod Directions
 pub mod Events
 pub mod Listings
 pub mod Marks
 pub mod Monitors
 pub mod Numbers
-pub mod Parties
 pub mod Vectors

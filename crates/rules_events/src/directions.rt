@@ -7,14 +7,14 @@ ghost use Rattle.policy_lawful.specs.MoreRules.{offence_13};
 ghost use Rattle.policy_lawful.specs.Resolution.{source_of};
 ghost use Rattle.rules_events.specs.Directions.{fits_mode, source_fault, mode_fault, channel_mode, channel_fault, event_fault, parties_of, channels_fault, events_fault};
 
-use crate::by_index::at;
-use crate::channel_ends::{Met, readers_by_channel, writers_by_channel};
 use crate::listings::Listings;
-use crate::parties::{Party, sources_by_event, targets_by_event};
 use muen_num::{EventMode, Name, NoMemory, Seq, first_numbered};
 use policy_lawful::Offence;
 use policy_lawful::source::{Channel, Event};
 use policy_views::Linked;
+use rules_channels::by_index::at;
+use rules_channels::channel_ends::{Met, readers_by_channel, writers_by_channel};
+use rules_channels::parties::{Party, sources_by_event, targets_by_event};
 use std::alloc::{AllocError, Global};
 
 // Whether an event of this mode may join these subjects, of which the groups are noted.

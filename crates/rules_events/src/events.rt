@@ -6,12 +6,12 @@ ghost use Rattle.policy_lawful.specs.MoreRules.{offence_12};
 ghost use Rattle.policy_lawful.specs.Resolution.{source_of};
 ghost use Rattle.rules_events.specs.Events.{event_fault};
 
-use crate::by_index::at;
-use crate::parties::{Party, sources_by_event, targets_by_event};
 use muen_num::{NoMemory, Seq, first_numbered};
 use policy_lawful::Offence;
 use policy_lawful::source::Event;
 use policy_views::Linked;
+use rules_channels::by_index::at;
+use rules_channels::parties::{Party, sources_by_event, targets_by_event};
 use std::alloc::Global;
 
 // The first event without sources, or that hasn't one target.

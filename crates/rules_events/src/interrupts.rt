@@ -2,28 +2,19 @@
 ghost use Rattle.std.specs.Prelude.{◌≡◌, ◌&&◌, ◌++◌, IfOk, map};
 ghost use Rattle.std.specs.List.{filter_map, flat_map, list_all};
 ghost use Rattle.muen_num.specs.Search.{first_in};
-ghost use Rattle.policy_lawful.specs.MoreRules.{is_switch, are_vectors, offence_15};
+ghost use Rattle.policy_lawful.specs.MoreRules.{are_vectors, offence_15};
 ghost use Rattle.policy_lawful.specs.Resolution.{IsResolved, source_of};
 ghost use Rattle.rules_events.specs.Vectors.{has_vector, has_vectors_with, switches, vector_offence, vectors_with};
 
 use crate::numbers::are_distinct_in;
+use muen_num::NoMemory;
 use muen_num::limits::{FIRST_VECTOR, LAST_VECTOR};
-use muen_num::{EventMode, NoMemory};
 use policy_lawful::resolved::{DeviceUse, EventTarget, IrqUse, Subject};
 use policy_lawful::source::Event;
 use policy_lawful::{IndexedEnd, Offence};
 use policy_views::Linked;
+use rules_channels::is_switch;
 use std::alloc::{AllocError, Global};
-
-/// Whether the target also becomes active.
-pub(crate) fn is_switch(mode: EventMode) -> bool
-    ensures { result ≡ is_switch mode }
-{
-    match mode {
-        EventMode::Switch => true,
-        _ => false,
-    }
-}
 
 // Whether the event at an index switches.
 fn switches(events: &[Event], index: usize) -> bool

@@ -1,11 +1,11 @@
 //! The scheduling groups that list each subject.
 ghost use Rattle.std.specs.Prelude.{◌≡◌, ℕ, List, ◌++◌, [], slice_index_or, IfOk, IfSome};
-ghost use Rattle.rules_events.specs.ByIndex.{AreItems};
+ghost use Rattle.rules_channels.specs.ByIndex.{AreItems};
 ghost use Rattle.rules_events.specs.Listings.{AreKnown, HaveRising, Rises, stands_in, share, memberships, all_memberships};
 
-use crate::by_index::{at, by_index};
 use muen_num::{NoMemory, Seq};
 use policy_lawful::resolved::Group;
+use rules_channels::by_index::{at, by_index};
 use std::alloc::Global;
 use std::marker::Model;
 

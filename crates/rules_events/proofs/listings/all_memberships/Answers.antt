@@ -1,6 +1,6 @@
 use Rattle.std.proofs.Common.{◌++◌, sym, ap, ◌∙◌}
 use Rattle.rules_events.specs.Listings.{memberships}
-use Rattle.rules_events.proofs.NotedItems.{flat_more}
+use Rattle.rules_channels.proofs.NotedItems.{flat_more}
 use Rattle.rules_events.proofs.listings.all_memberships.Goals as goal
 
 pub loop-index-preserved : goal.loop-index-preserved

@@ -1,5 +1,5 @@
 use Rattle.std.proofs.Common.{◌∙◌, subst}
-use Rattle.rules_events.specs.ByIndex.{AreItems}
+use Rattle.rules_channels.specs.ByIndex.{AreItems}
 use Rattle.rules_events.proofs.Rising.{lists_rise}
 use Rattle.rules_events.proofs.Shares.{none_known}
 use Rattle.rules_events.proofs.listings.Listings.of.Goals as goal

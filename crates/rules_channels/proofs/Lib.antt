@@ -1,0 +1,5 @@
+pub mod ChannelsByIndex
+pub mod ComponentsByIndex
+pub mod EndsByChannel
+pub mod Items
+pub mod NotedItems

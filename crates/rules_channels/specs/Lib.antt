@@ -1,0 +1,5 @@
+pub mod ByIndex
+pub mod ChannelEnds
+pub mod Channels
+pub mod Components
+pub mod Parties

@@ -1,6 +1,0 @@
-use Rattle.std.proofs.Common.{take}
-use Rattle.rules_events.specs.ByIndex.{AreItems}
-use Rattle.rules_events.proofs.by_index.by_index.Given as goal
-
-abbrev pub invariant-loop-item : goal.invariant-loop-item
-invariant-loop-item g l = AreItems l.lists.items l.indexes (take l.item-index l.items)

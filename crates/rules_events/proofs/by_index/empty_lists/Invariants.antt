@@ -1,5 +1,0 @@
-use Rattle.rules_events.specs.ByIndex.{AreEmpty}
-use Rattle.rules_events.proofs.by_index.empty_lists.Given as goal
-
-abbrev pub invariant-loop : goal.invariant-loop
-invariant-loop g l = AreEmpty l.lists.items l.counter

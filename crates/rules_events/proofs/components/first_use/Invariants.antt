@@ -1,7 +1,0 @@
-use Rattle.std.proofs.Common.{◌≡◌, drop}
-use Rattle.muen_num.specs.Search.{first_in}
-use Rattle.rules_events.specs.Components.{subject_offence}
-use Rattle.rules_events.proofs.components.first_use.Given as goal
-
-abbrev pub invariant-loop-subject : goal.invariant-loop-subject
-invariant-loop-subject l = first_in (subject_offence l.policy) (drop l.subject-index l.subjects) ≡ first_in (subject_offence l.policy) l.subjects

@@ -1,6 +1,0 @@
-use Rattle.std.proofs.Common.{◌≡◌, ◌++◌, map, take}
-use Rattle.rules_events.specs.Parties.{party}
-use Rattle.rules_events.proofs.parties.note_targets.Given as goal
-
-abbrev pub invariant-loop-target : goal.invariant-loop-target
-invariant-loop-target l = l.noted.items ≡ l.initial.noted.items ++ map (λ e. (e.event, party (l.index, l.subject))) (take l.target-index l.subject.targets)
