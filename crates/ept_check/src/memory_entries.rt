@@ -6,9 +6,9 @@ ghost use Rattle.machine_layout.specs.Memory.{page_of};
 use crate::entry_reads::Entries;
 use machine_layout::entries::ENTRY_BYTES;
 use machine_layout::word_at;
+use muen_num::{Tells, Told};
 use phys_mem::{PAGE_BYTES, PhysMem};
 use std::marker::Model;
-use muen_num::{Tells, Told};
 
 // A count, in clauses alone: no value of this type is made.
 struct Count {

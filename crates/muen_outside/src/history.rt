@@ -1,6 +1,6 @@
 use crate::files::{FileError, Found};
-use std::marker::Model;
 use muen_num::{Tells, Told};
+use std::marker::Model;
 
 // What was done with files, in clauses alone: no value of this type is made.
 pub(crate) struct Calls {

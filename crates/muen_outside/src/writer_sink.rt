@@ -7,9 +7,9 @@ ghost use Rattle.muen_outside.specs.WriterSink.{TookGiven};
 
 use crate::device::Device;
 use crate::sink::{Sink, SinkFault};
+use muen_num::{Tells, Told};
 use std::io::{Stderr, Stdout};
 use std::marker::Model;
-use muen_num::{Tells, Told};
 
 // What a sink has handed on, in clauses alone: no value of this type is made.
 struct Given {
