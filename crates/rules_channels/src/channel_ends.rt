@@ -15,7 +15,7 @@ use policy_views::Linked;
 use std::alloc::{AllocError, Global};
 
 /// An end of a channel with its subject.
-#[derive(Clone, Copy)]
+#[derive(Clone, Copy, Debug)]
 pub struct Met {
     pub party: Party,
     pub end: IndexedEnd,

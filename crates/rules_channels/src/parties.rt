@@ -10,7 +10,7 @@ use policy_lawful::resolved::Subject;
 use std::alloc::Global;
 
 /// A subject by its name and its index.
-#[derive(Clone, Copy)]
+#[derive(Clone, Copy, Debug)]
 pub struct Party {
     pub name: Name,
     pub index: usize,
