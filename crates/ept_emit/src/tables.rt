@@ -6,7 +6,7 @@ ghost use Rattle.ept_emit.specs.Entries.{IsEmittable, word_at};
 ghost use Rattle.ept_emit.specs.Needs.{needs};
 ghost use Rattle.ept_emit.specs.Tables.{AreNumbered, IsWritten};
 ghost use Rattle.machine_layout.specs.Walks.{entry_size};
-ghost use Rattle.policy_types.specs.declared.rights.Rights.TheVariants.{Rwx};
+ghost use Rattle.policy_types.specs.Rights.{Rwx};
 
 use crate::Window;
 use crate::entries::{is_whole, leaf_entry, set_word, table_entry};
@@ -154,7 +154,7 @@ pub fn emit(windows: &[Window], at: u64, out: &mut [u8])
     ensures entries { (addr : ℕ) → addr < 2 ^ 48 → IsWritten Rwx (word_at out.new) (at / 4096) 1 (ept_pages (ranges_of windows.now)) windows.now 3 0 addr }
     ensures len { length out.new ≡ length out.old }
 {
-    write_tables(windows, Rights::Rwx, at, out);
+    write_tables(windows, Rights::rwx(), at, out);
 }
 
 /// The extended-page-table pointer of tables whose PML4 table is at `at`: memory type write back, walks

@@ -2,7 +2,6 @@ pub mod Accepting
 pub mod Checking
 pub mod Documents
 pub mod Emitting
-pub mod FilesIndexed
 pub mod FilledByIndex
 pub mod Held
 pub mod LimitExamples

@@ -2,11 +2,11 @@
 ghost use Rattle.std.specs.Prelude.{◌≡◌, ◌∷◌, ◌++◌, [], length, None, OnOk, option_map};
 ghost use Rattle.muen_outside.specs.Store.{find_bytes};
 
+use indexmap::IndexMap;
 use muen_num::{Name, NoMemory, Seq};
-use policy_lawful::Refusal;
+use policy_lawful::{NameHash, Refusal};
 use region_alloc::Placed;
 use std::alloc::{AllocError, Global};
-use std::collections::BTreeMap;
 use std::marker::Model;
 
 /// Why a policy is not accepted.
@@ -45,48 +45,32 @@ impl From<NoMemory> for BuildError {
 /// bytes.
 #[derive(Drop)]
 pub struct ComponentFiles {
-    files: Vec<(Name, Seq<u8>)>,
-    // By the names.
-    indexes: BTreeMap<Name, usize>,
+    files: IndexMap<Name, Seq<u8>, NameHash>,
 }
 
 impl Model for ComponentFiles {
-    ghost use Rattle.std.specs.Prelude.{List, ℕ, map};
-    ghost use Rattle.policy_lawful.specs.NameSets.{IsIndexed};
+    ghost use Rattle.std.specs.Prelude.{List, ℕ};
 
     ghost Value = { List (List ℕ × List ℕ) };
 
-    ghost view = { λ x. x.files.items };
-
-    ghost invariant = { λ x. IsIndexed (map (λ f. f.0) x.files.items) x.indexes };
+    ghost view = { λ x. x.files.entries };
 }
 
 impl ComponentFiles {
-    /// No files.
-    pub fn new(alloc: Global) -> ComponentFiles
+    /// No files. The names of those that will be added, or looked up, are hashed so.
+    pub fn new(alloc: Global, hash: NameHash) -> ComponentFiles
         ensures { result ≡ [] }
     {
         ComponentFiles {
-            files: Vec::new(alloc),
-            indexes: BTreeMap::new(alloc),
+            files: IndexMap::with_hasher(alloc, hash),
         }
-    }
-
-    // The bytes of the file of this name.
-    #[tactic(auto, using(crate::proofs::FilesIndexed::unknown_file, crate::proofs::FilesIndexed::known_file))]
-    fn find(&self, name: Name) -> Option<&Seq<u8>>
-        ensures { option_map (λ bytes. bytes.now) result ≡ find_bytes name self.now }
-    {
-        let index = *self.indexes.get(&name)?;
-        let (_, bytes) = self.files.get(index)?;
-        Some(bytes)
     }
 
     /// How many bytes the file of this name has, if it was read.
     pub fn length(&self, name: Name) -> Option<usize>
         ensures { result ≡ option_map (λ bytes. length bytes) (find_bytes name self.now) }
     {
-        match self.find(name) {
+        match self.files.get(&name) {
             None => None,
             Some(bytes) => Some(bytes.len()),
         }
@@ -96,7 +80,7 @@ impl ComponentFiles {
     pub fn bytes(&self, name: Name) -> Option<&[u8]>
         ensures { option_map (λ bytes. bytes.now) result ≡ find_bytes name self.now }
     {
-        match self.find(name) {
+        match self.files.get(&name) {
             None => None,
             Some(bytes) => Some(bytes.items()),
         }
@@ -107,8 +91,8 @@ impl ComponentFiles {
     pub fn bytes_named(&self, name: &str) -> Option<&[u8]>
         ensures { option_map (λ bytes. bytes.now) result ≡ find_bytes name.now self.now }
     {
-        for (file, bytes) in &self.files {
-            if name == file.as_str() {
+        for (file, bytes) in self.files.iter() {
+            if file.as_str() == name {
                 return Some(bytes.items());
             }
         }
@@ -120,9 +104,7 @@ impl ComponentFiles {
         requires { find_bytes name self.old ≡ None }
         ensures { OnOk result (self.new ≡ self.old ++ (name, bytes) ∷ []) }
     {
-        self.files.reserve(1)?;
-        self.indexes.insert(name, self.files.len())?;
-        self.files.push((name, bytes))?;
+        self.files.insert(name, bytes)?;
         Ok(())
     }
 }

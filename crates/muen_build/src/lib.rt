@@ -28,6 +28,7 @@ pub use given::Given;
 pub use image_bytes::{build, image};
 use muen_num::Seq;
 use muen_outside::Files;
+use named::hash_of_files;
 pub use named::names_file;
 use policy_lawful::{Lawful, Refusal};
 use region_alloc::Placed;
@@ -81,7 +82,7 @@ fn read_contents<F: Files>(
     ensures err { IfErr result (Stops (given_files given.now) (names_file (source_of policy.now)) (F.held files.old) (F.history files.old) (F.history files.new) [] (Refuses (of_all (filled_of (source_of policy.now))))) }
     ensures held { F.held files.new ≡ F.held files.old }
 {
-    let mut found = ComponentFiles::new(alloc);
+    let mut found = ComponentFiles::new(alloc, hash_of_files(policy.resolved()));
     check_all(alloc, given, policy.resolved(), &mut found, files)?;
     Ok(found)
 }

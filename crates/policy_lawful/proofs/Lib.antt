@@ -19,8 +19,8 @@ pub mod KeptRules
 pub mod KeptVectors
 pub mod KeptViews
 pub mod Mapped
+pub mod NameHashes
 pub mod NameSets
-pub mod NamesIndexed
 pub mod Naming
 pub mod Offences
 pub mod Positions

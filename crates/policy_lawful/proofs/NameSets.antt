@@ -1,6 +1,6 @@
 -- Names in a list. A set of names compares the name that is sought with those of the list, the rules compare these with it.
 use Rattle.std.proofs.Common.{◌≡◌, ℕ, Bool, true, false, cond, List, [], ◌∷◌, ◌++◌, length, map, Option, Some, None, refl, sym, ap, ◌∙◌}
-use Rattle.std.specs.Prelude.{if◌then◌else◌, not, ◌||◌, position, slice_get}
+use Rattle.std.specs.Prelude.{if◌then◌else◌, not, ◌||◌, nat_lt, position, slice_get}
 use Rattle.std.specs.List.{find, list_any, position_or_len}
 use Rattle.std.specs.Option.{option_or}
 use Rattle.std.specs.Str.{bytes_eq}
@@ -12,13 +12,17 @@ use Rattle.muen_num.proofs.Lists.{position-map}
 use Rattle.policy_lawful.specs.Offences.{alone}
 use Rattle.policy_lawful.specs.Rules.{is_declared, repeated}
 use Rattle.policy_lawful.specs.declared.offence.Offence.{Offence}
-use Rattle.policy_lawful.proofs.Positions.{position_found, position_none}
+use Rattle.policy_lawful.proofs.Positions.{position_found, position_none, position_same}
 
 -- ---- a name that is sought
 
 pub declared_is : (names : List (List ℕ)) (name : List ℕ) → list_any (bytes_eq name) names ≡ is_declared names name
 declared_is [] name = refl
 declared_is (n ∷ ns) name = rw (nat_list_eq_equiv.symm n name, ← declared_is ns name) refl
+
+pub position_is : (names : List (List ℕ)) (name : List ℕ) → position (bytes_eq name) names ≡ position (λ n. bytes_eq n name) names
+position_is names name =
+    ap (λ k. cond (nat_lt k (length names)) (Some k) None) (position_same (bytes_eq name) (λ n. bytes_eq n name) (λ n. nat_list_eq_equiv.symm name n) names)
 
 -- the element of a name that stands at an index
 stands_at : {X : Type 0} (f : X → List ℕ) (xs : List X) (name : List ℕ) → find (λ x. bytes_eq (f x) name) xs ≡ slice_get xs (position_or_len (λ n. bytes_eq n name) (map f xs))

@@ -16,7 +16,7 @@ pub mod Domains
 pub mod Keeps
 pub mod Lawful
 pub mod MoreRules
-pub mod NameSets
+pub mod NameHashes
 pub mod Offences
 pub mod Ranges
 pub mod Resolution

@@ -5,6 +5,7 @@
 pub mod counts;
 pub mod frame_names;
 pub mod lawful;
+pub mod name_hash;
 pub mod name_set;
 pub mod named;
 pub mod offence;
@@ -13,6 +14,7 @@ pub mod view;
 
 pub use counts::Counts;
 pub use lawful::Lawful;
+pub use name_hash::{NameDigest, NameHash};
 pub use name_set::NameSet;
 pub use named::Named;
 pub use offence::{Extent, Offence};

@@ -1,62 +1,38 @@
 //! Names that can be looked up.
-ghost use Rattle.std.specs.Prelude.{◌≡◌, ◌++◌, ◌∷◌, [], false, None, map, not, position, IfOk, OnOk};
+ghost use Rattle.std.specs.Prelude.{◌≡◌, [], None, map, not, position, IfOk, OnOk};
 ghost use Rattle.std.specs.List.{list_any};
 ghost use Rattle.std.specs.Str.{bytes_eq};
-ghost use Rattle.policy_lawful.specs.NameSets.{IsIndexed, insert_key};
+ghost use Rattle.indexmap.specs.IndexSet.{insert_key};
 ghost use Rattle.policy_lawful.specs.Rules.{is_declared, repeated};
 
+use crate::name_hash::NameHash;
 use crate::named::Named;
+use indexmap::IndexSet;
 use muen_num::{Name, NoMemory};
 use std::alloc::Global;
-use std::collections::BTreeMap;
 use std::marker::Model;
 
 /// Names, each once, in the order in which they were added. Contracts see the list of them.
 #[derive(Drop)]
 pub struct NameSet {
-    names: Vec<Name>,
-    // In the order of the names, so that a look-up takes few comparisons whichever names a document
-    // chooses: those of a table with a known hash could all fall together.
-    indexes: BTreeMap<Name, usize>,
+    names: IndexSet<Name, NameHash>,
 }
 
 impl Model for NameSet {
     ghost use Rattle.std.specs.Prelude.{List, ℕ};
-    ghost use Rattle.policy_lawful.specs.NameSets.{IsIndexed};
 
     ghost Value = { List (List ℕ) };
 
-    ghost view = { λ x. x.names.items };
-
-    ghost invariant = { λ x. IsIndexed x.names.items x.indexes };
-}
-
-// Adds a name that isn't among these.
-#[tactic(auto, using(crate::proofs::NamesIndexed::same_indexes, crate::proofs::NamesIndexed::one_indexed))]
-fn add_new(
-    names: &mut Vec<Name>,
-    indexes: &mut BTreeMap<Name, usize>,
-    name: Name,
-) -> Result<(), NoMemory>
-    requires indexed { IsIndexed names.old.items indexes.old }
-    requires is_new { is_declared names.old.items name ≡ false }
-    ensures names { OnOk result (names.new.items ≡ names.old.items ++ name ∷ []) }
-    ensures indexed { IsIndexed names.new.items indexes.new }
-{
-    names.reserve(1)?;
-    indexes.insert(name, names.len())?;
-    names.push(name)?;
-    Ok(())
+    ghost view = { λ x. x.names.keys };
 }
 
 impl NameSet {
-    /// No names.
-    pub fn new(alloc: Global) -> NameSet
+    /// No names. Those that will be added, or looked up, are hashed so.
+    pub fn new(alloc: Global, hash: NameHash) -> NameSet
         ensures { result ≡ [] }
     {
         NameSet {
-            names: Vec::new(alloc),
-            indexes: BTreeMap::new(alloc),
+            names: IndexSet::with_hasher(alloc, hash),
         }
     }
 
@@ -68,7 +44,7 @@ impl NameSet {
         requires { repeated (map T.name items.now) ≡ None }
         ensures { IfOk result (λ x. x ≡ map T.name items.now) }
     {
-        let mut names = NameSet::new(alloc);
+        let mut names = NameSet::new(alloc, NameHash::behind(items));
         for item in items {
             names.add(item.name())?;
         }
@@ -82,25 +58,22 @@ impl NameSet {
         ensures names { OnOk result (self.new ≡ insert_key bytes_eq self.old name) }
         ensures is_new { IfOk result (λ is_new. is_new ≡ not (list_any (bytes_eq name) self.old)) }
     {
-        if self.contains(&name) {
-            return Ok(false);
-        }
-        add_new(&mut self.names, &mut self.indexes, name)?;
-        Ok(true)
+        Ok(self.names.insert(name)?)
     }
 
     /// The index of a name, if it is among these.
+    #[tactic(auto, using(crate::proofs::NameSets::position_is))]
     pub fn index_of(&self, name: &Name) -> Option<usize>
         ensures { result ≡ position (λ n. bytes_eq n name.now) self.now }
     {
-        self.indexes.get(name).copied()
+        self.names.get_index_of(name)
     }
 
     /// Whether a name is among these.
-    #[tactic(auto, using(crate::proofs::NamesIndexed::is_known))]
+    #[tactic(auto, using(crate::proofs::NameSets::declared_is))]
     pub fn contains(&self, name: &Name) -> bool
         ensures { result ≡ is_declared self.now name.now }
     {
-        self.indexes.contains_key(name)
+        self.names.contains(name)
     }
 }

@@ -16,6 +16,15 @@ pub trait Named {
         ensures { result ≡ name self.now };
 }
 
+/// A name in a list is an element under itself.
+impl Named for Name {
+    ghost name = { λ n. n };
+
+    fn name(&self) -> Name {
+        *self
+    }
+}
+
 impl Named for Block {
     ghost name = { λ b. b.name };
 

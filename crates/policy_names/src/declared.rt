@@ -9,7 +9,7 @@ ghost use Rattle.policy_names.specs.Indexes.{StandsFor};
 ghost use Rattle.policy_lawful.specs.refusal.Refusal.TheVariants.{Rule};
 
 use muen_num::Name;
-use policy_lawful::{NameSet, Named, Refusal};
+use policy_lawful::{NameHash, NameSet, Named, Refusal};
 use std::alloc::Global;
 
 /// The refusal by rule 2 of the element that has the name `by` and refers to `name`.
@@ -53,7 +53,7 @@ pub fn declare<T: Named>(names: NameSet, items: &[T]) -> Result<NameSet, Refusal
 pub fn names_of<T: Named>(alloc: Global, items: &[T]) -> Result<NameSet, Refusal>
     ensures { Keeps (broken 1 (repeats (map T.name items.now))) (λ x. x ≡ map T.name items.now) result }
 {
-    declare(NameSet::new(alloc), items)
+    declare(NameSet::new(alloc, NameHash::behind(items)), items)
 }
 
 /// The index of a name; `None` exactly where it isn't there.

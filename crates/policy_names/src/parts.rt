@@ -9,7 +9,7 @@ ghost use Rattle.policy_names.specs.Parts.{component_repeats, device_repeats, na
 use crate::declared::{declare, names_of};
 use muen_num::Seq;
 use policy_lawful::source::{Component, Device};
-use policy_lawful::{NameSet, Named, Refusal};
+use policy_lawful::{NameDigest, NameSet, Named, Refusal};
 use std::alloc::Global;
 
 /// The names of a device's memory, ports and interrupt lines.
@@ -86,9 +86,16 @@ impl HasParts for Component {
 fn collect_logical_names(alloc: Global, component: &Component) -> Result<NameSet, Refusal>
     ensures { Keeps (broken 1 (repeats (logical_names component.now))) (λ x. x ≡ logical_names component.now) result }
 {
-    let provides = names_of(alloc, component.provides.items())?;
-    let with_regions = declare(provides, component.memory.items())?;
-    declare(with_regions, component.channels.items())
+    let provides = component.provides.items();
+    let regions = component.memory.items();
+    let channels = component.channels.items();
+    let mut digest = NameDigest::new();
+    digest.add_all(provides);
+    digest.add_all(regions);
+    digest.add_all(channels);
+    let provided = declare(NameSet::new(alloc, digest.hash()), provides)?;
+    let with_regions = declare(provided, regions)?;
+    declare(with_regions, channels)
 }
 
 /// The names of the parts of all elements of a list.
@@ -118,7 +125,10 @@ pub fn collect_both<T: Named, U: Named>(
 ) -> Result<(NameSet, NameSet), Refusal>
     ensures { Keeps (broken 1 (repeats (map T.name items.now ++ map U.name more.now))) (λ both. (both.0 ≡ map T.name items.now) × (both.1 ≡ map U.name more.now)) result }
 {
-    let together = names_of(alloc, items)?;
+    let mut digest = NameDigest::new();
+    digest.add_all(items);
+    digest.add_all(more);
+    let together = declare(NameSet::new(alloc, digest.hash()), items)?;
     declare(together, more)?;
     Ok((names_of(alloc, items)?, names_of(alloc, more)?))
 }

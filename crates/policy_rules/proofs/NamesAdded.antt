@@ -6,7 +6,7 @@ use Rattle.std.specs.Str.{bytes_eq}
 use Rattle.std.specs.Cmp.Lexicographic.{nat_list_eq_equiv}
 use Rattle.std.proofs.lemmas.List.Folds.{list_any-append, list_any_more}
 use Rattle.std.proofs.lemmas.Slice.Eq.{bytes_eq-Decides}
-use Rattle.policy_lawful.specs.NameSets.{insert_key}
+use Rattle.indexmap.specs.IndexSet.{insert_key}
 use Rattle.policy_lawful.specs.Rules.{is_declared}
 use Rattle.policy_lawful.proofs.NameSets.{declared_is}
 use Rattle.policy_rules.specs.Names.{HasAll}

@@ -11,7 +11,7 @@ ghost use Rattle.policy_rules.specs.Writers.{HasUsers, added, fault_at, not_shar
 
 use muen_num::{AccessKind, Name, NoMemory, Seq};
 use policy_lawful::source::Region;
-use policy_lawful::{NameSet, Offence, Shown, View};
+use policy_lawful::{NameHash, NameSet, Offence, Shown, View};
 use policy_views::Linked;
 use std::alloc::{AllocError, Global};
 
@@ -131,7 +131,7 @@ fn other(users: &[User], region: &Name) -> Option<Offence>
 fn set_of(alloc: Global, names: &[Name]) -> Result<NameSet, NoMemory>
     ensures { IfOk result (λ all. HasAll all names.now) }
 {
-    let mut all = NameSet::new(alloc);
+    let mut all = NameSet::new(alloc, NameHash::behind(names));
     for name in names {
         all.add(*name)?;
     }
@@ -158,7 +158,7 @@ fn first_not_shared(
 ) -> Result<Option<Offence>, NoMemory>
     ensures { IfOk result (λ o. o ≡ first_after (not_shared names.now region.now) [] list.now) }
 {
-    let mut before = NameSet::new(alloc);
+    let mut before = NameSet::new(alloc, NameHash::behind(list));
     for name in list {
         let is_new = before.add(*name)?;
         if !(is_new && names.contains(name)) {

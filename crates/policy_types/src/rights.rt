@@ -1,71 +1,153 @@
-ghost use Rattle.std.specs.Prelude.{◌≡◌};
-ghost use Rattle.policy_types.specs.Rights.{allows, includes, may_execute, may_write, rights_bits};
+ghost use Rattle.std.specs.Prelude.{⊤, ◌≡◌, [], ◌∷◌, codes};
+ghost use Rattle.policy_types.specs.Rights.{R, Rw, Rwx, Rx, allows, includes, may_execute, may_write, rights_bits};
 
+use bitflags::{Flag, Flags, bitflag_items};
 use muen_num::AccessKind;
+use std::marker::Model;
 
-/// What may be done with a window of memory. Each may be read.
-#[derive(Clone, Copy, PartialEq, Eq, Debug)]
-pub enum Rights {
-    /// To read.
-    R,
-    /// To read and to write.
-    Rw,
-    /// To read and to execute.
-    Rx,
-    /// To read, to write and to execute.
-    Rwx,
+/// Any set of the rights to read, to write and to execute: the low three bits of an EPT entry (Intel
+/// SDM volume 3, EPT).
+#[derive(Clone, Copy, Debug, PartialEq, Eq)]
+pub struct RightSet(u8);
+
+bitflag_items! {
+    impl RightSet: u8 {
+        const READ = 1;
+        const WRITE = 2;
+        const EXECUTE = 4;
+    }
+}
+
+impl Flags for RightSet {
+    type Bits = u8;
+
+    ghost exact = { ⊤ };
+
+    ghost table = { (codes "READ", 1) ∷ (codes "WRITE", 2) ∷ (codes "EXECUTE", 4) ∷ [] };
+
+    ghost set_of = { λ s. s.0 };
+
+    fn flags<'a>() -> &'a [Flag<RightSet>] {
+        RightSet::FLAGS
+    }
+
+    fn bits(&self) -> u8 {
+        self.0
+    }
+
+    fn from_bits_retain(bits: u8) -> RightSet {
+        RightSet(bits)
+    }
+}
+
+/// The right that a kind of access needs.
+impl From<AccessKind> for RightSet {
+    ghost use Rattle.std.specs.Prelude.{◌≡◌};
+    ghost use Rattle.policy_types.specs.Rights.{right_for};
+
+    ghost from_gives = { λ kind set. set.0 ≡ right_for kind };
+
+    fn from(kind: AccessKind) -> RightSet {
+        match kind {
+            AccessKind::Read => RightSet::READ,
+            AccessKind::Write => RightSet::WRITE,
+            AccessKind::Fetch => RightSet::EXECUTE,
+        }
+    }
+}
+
+/// What may be done with a window of memory: `r`, `rw`, `rx` or `rwx`. Contracts see which of the
+/// four. So each may be read.
+#[derive(Clone, Copy, Debug, PartialEq, Eq)]
+pub struct Rights {
+    set: RightSet,
+}
+
+impl Model for Rights {
+    ghost use Rattle.std.specs.Prelude.{◌≡◌};
+    ghost use Rattle.policy_types.specs.Rights.{Rights as OneOfFour, rights_bits, rights_with};
+
+    ghost Value = { OneOfFour };
+
+    ghost view = { λ r. rights_with r.set.0 };
+
+    ghost invariant = { λ r. rights_bits (rights_with r.set.0) ≡ r.set.0 };
+
+    ghost inverse = { λ rights. record { set = record { 0 = rights_bits rights } } };
 }
 
 impl Rights {
+    /// To read.
+    pub fn r() -> Rights
+        ensures { result ≡ R }
+    {
+        Rights {
+            set: RightSet::READ,
+        }
+    }
+
+    /// To read and to write.
+    pub fn rw() -> Rights
+        ensures { result ≡ Rw }
+    {
+        Rights {
+            set: RightSet::READ.union(RightSet::WRITE),
+        }
+    }
+
+    /// To read and to execute.
+    pub fn rx() -> Rights
+        ensures { result ≡ Rx }
+    {
+        Rights {
+            set: RightSet::READ.union(RightSet::EXECUTE),
+        }
+    }
+
+    /// To read, to write and to execute.
+    #[tactic(auto, unfolding(bitflags::proofs::OnLiterals::bitflags_on_literals))]
+    pub fn rwx() -> Rights
+        ensures { result ≡ Rwx }
+    {
+        Rights {
+            set: RightSet::all(),
+        }
+    }
+
     /// The low three bits of an EPT entry: 1 to read, 2 to write, 4 to execute (Intel SDM volume 3,
     /// EPT).
     pub fn bits(self) -> u8
         ensures { result ≡ rights_bits self }
     {
-        match self {
-            Rights::R => 1,
-            Rights::Rw => 3,
-            Rights::Rx => 5,
-            Rights::Rwx => 7,
-        }
+        self.set.bits()
     }
 
     /// Whether writing is among them.
     pub fn may_write(self) -> bool
         ensures { result ≡ may_write self }
     {
-        match self {
-            Rights::R | Rights::Rx => false,
-            Rights::Rw | Rights::Rwx => true,
-        }
+        self.set.contains(RightSet::WRITE)
     }
 
     /// Whether executing is among them.
     pub fn may_execute(self) -> bool
         ensures { result ≡ may_execute self }
     {
-        match self {
-            Rights::R | Rights::Rw => false,
-            Rights::Rx | Rights::Rwx => true,
-        }
+        self.set.contains(RightSet::EXECUTE)
     }
 
     /// Whether each right of the others is among them.
     pub fn includes(self, others: Rights) -> bool
         ensures { result ≡ includes self others }
     {
-        (self.may_write() || !others.may_write()) && (self.may_execute() || !others.may_execute())
+        self.set.contains(others.set)
     }
 
     /// Whether the right that a kind of access needs is among them.
     pub fn allows(self, kind: AccessKind) -> bool
         ensures { result ≡ allows self kind }
     {
-        match kind {
-            AccessKind::Read => true,
-            AccessKind::Write => self.may_write(),
-            AccessKind::Fetch => self.may_execute(),
-        }
+        self.set.contains(RightSet::from(kind))
     }
 }
 

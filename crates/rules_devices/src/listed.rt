@@ -6,7 +6,7 @@ ghost use Rattle.rules_devices.specs.Domains.{domain_devices, domain_regions, do
 
 use muen_num::{Name, NoMemory};
 use policy_lawful::source::Domain;
-use policy_lawful::{NameSet, Offence};
+use policy_lawful::{NameHash, NameSet, Named, Offence};
 use std::alloc::{AllocError, Global};
 
 /// A name in a domain.
@@ -14,6 +14,14 @@ use std::alloc::{AllocError, Global};
 pub(crate) struct Listed {
     pub domain: Name,
     pub name: Name,
+}
+
+impl Named for Listed {
+    ghost name = { λ x. x.name };
+
+    fn name(&self) -> Name {
+        self.name
+    }
 }
 
 impl Listed {
@@ -100,7 +108,7 @@ pub(crate) fn regions_of(alloc: Global, domains: &[Domain]) -> Result<Vec<Listed
 pub(crate) fn first_repeat(alloc: Global, listed: &[Listed]) -> Result<Option<Listed>, NoMemory>
     ensures { IfOk result (λ o. o ≡ first_repeat listed.now) }
 {
-    let mut names = NameSet::new(alloc);
+    let mut names = NameSet::new(alloc, NameHash::behind(listed));
     for x in listed {
         if !names.add(x.name)? {
             return Ok(Some(*x));
