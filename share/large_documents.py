@@ -1,5 +1,8 @@
 #!/usr/bin/env python3
-"""Writes documents of up to the most bytes that muen takes, of the shapes that take it longest, and times it on them."""
+"""Writes documents of up to the most bytes that muen takes, of the shapes that take it longest, and times it on them.
+
+With --chosen, names that would all fall together in a table whose hash has no key are made first (colliding_names.c, some
+minutes), and documents of these are written too."""
 import argparse
 import json
 import pathlib
@@ -12,6 +15,8 @@ import tempfile
 MOST = 4 << 20
 PAGE = 4096
 DIGITS = "0123456789abcdefghijklmnopqrstuvwxyzABCDEFGHIJKLMNOPQRSTUVWXYZ_-"
+# names that somebody has chosen
+CHOSEN = []
 
 
 def name(kind, number):
@@ -25,7 +30,9 @@ def name(kind, number):
 
 
 def names(kind, count, style="short"):
-    """So many names: short ones, or of 63 letters that differ in the last ones, rising or falling."""
+    """So many names: short ones, or of 63 letters that differ in the last ones, rising or falling; or chosen ones, as many as there are."""
+    if style == "chosen":
+        return CHOSEN[:count]
     if style == "short":
         return [name(kind, n) for n in range(count)]
     found = [f"{kind}{n:0>62}" for n in range(count)]
@@ -281,8 +288,8 @@ def policy(shapes, seed, style):
             shape(part, max(2, count // len(shapes)), chance, style)
             join(p, part, shape.__name__ if len(shapes) > 1 else "")
         return p.text()
-    count = 20000
-    for _ in range(8):
+    count = len(CHOSEN) if style == "chosen" else 20000
+    for _ in range(1 if style == "chosen" else 8):
         text = made(count)
         if 0.9 * MOST < len(text) <= MOST:
             break
@@ -334,6 +341,15 @@ def texts():
     yield "blanks", b" " * MOST
 
 
+# ---- names that fall together
+
+def colliding(count, folder):
+    """So many names that have one group and one tag in a table of 2^11 groups whose hash has no key."""
+    made = pathlib.Path(folder, "colliding_names")
+    subprocess.run(["cc", "-O2", "-o", made, pathlib.Path(__file__).with_name("colliding_names.c")], check=True)
+    return subprocess.run([made, str(count), "11"], check=True, capture_output=True, text=True).stdout.split()
+
+
 # ---- times
 
 def timed(words, folder):
@@ -348,7 +364,7 @@ def documents(chance, count):
     """Each text, each shape by itself, and so many shapes and pairs of shapes by chance."""
     yield from texts()
     for shape in SHAPES:
-        for style in ("short", "rising", "falling"):
+        for style in ("short", "rising", "falling") + (("chosen",) if CHOSEN else ()):
             yield f"{shape.__name__}-{style}", policy([shape], 1, style)
     for _ in range(count):
         shapes, seed, style = chance.sample(SHAPES, chance.choice([1, 1, 2, 3])), chance.randrange(10 ** 6), chance.choice(["short", "short", "rising", "falling"])
@@ -361,6 +377,7 @@ def main():
     words.add_argument("--random", type=int, default=40, help="how many documents of shapes by chance (40)")
     words.add_argument("--seed", type=int, default=0)
     words.add_argument("--command", default="flows", choices=["flows", "map"], help="flows, or map")
+    words.add_argument("--chosen", type=int, default=0, metavar="COUNT", help="documents of so many names that fall together without a key, too")
     words.add_argument("--keep", type=pathlib.Path, help="a folder for the ten slowest documents")
     said = words.parse_args()
     program = pathlib.Path(said.program).resolve()
@@ -368,6 +385,7 @@ def main():
         sys.exit(f"large_documents: {said.program} isn't there")
     found = []
     with tempfile.TemporaryDirectory() as folder:
+        CHOSEN.extend(colliding(said.chosen, folder) if said.chosen else [])
         for what, text in documents(random.Random(said.seed), said.random):
             pathlib.Path(folder, "policy").write_bytes(text)
             seconds, status, line = timed([program, said.command, "policy"], folder)
