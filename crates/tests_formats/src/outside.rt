@@ -2,8 +2,8 @@
 use crate::agree::agree;
 use muen_num::Seq;
 use muen_outside::{
-    Buffer, Device, Disk, FileError, Files, FolderFiles, Found, MemFiles, MemSink, Sink, SinkFault,
-    WriterSink, put_pieces,
+    Buffer, Device, Disk, FileError, Files, FolderFiles, Found, MemFiles, MemSink, OpenedFile,
+    Sink, SinkFault, WriterSink, put_pieces,
 };
 use std::alloc::Global;
 use std::io::{ErrorKind, Read};
@@ -45,9 +45,11 @@ fn files_in_a_folder(rt: HostRuntime) -> Result<(), Fail> {
     agree(&rt, files.write(alloc, name, b"xyz"), Ok(()));
     let whole = bytes_found(alloc, b"xyz")?;
     agree(&rt, files.read(alloc, name, 3), Ok(whole));
-    agree(&rt, files.read(alloc, name, 1), Ok(Found::TooLong(2)));
+    agree(&rt, files.read(alloc, name, 1), Ok(Found::TooLong(3)));
     let none = "muen_outside_none";
     agree(&rt, files.read(alloc, none, 9), Ok(Found::Missing));
+    let endless = "/dev/zero";
+    agree(&rt, files.read(alloc, endless, 9), Ok(Found::TooLong(10)));
     agree(&rt, files.read(alloc, ".", 9), Err(FileError::Failed));
     agree(&rt, files.write(alloc, ".", b"xyz"), Err(FileError::Failed));
     fs::remove_file(&rt, name)?;
@@ -125,11 +127,12 @@ impl Device for Clogged {
     }
 }
 
-// Gives its bytes one by one, and is interrupted before each.
+// Gives its bytes one by one, and is interrupted before each. It tells this size.
 #[derive(Drop)]
 struct Halting {
     rest: u8,
     is_ready: bool,
+    size: Option<u64>,
 }
 
 impl Read for Halting {
@@ -148,9 +151,22 @@ impl Read for Halting {
     }
 }
 
-// Each file that is opened is a `Halting` one of three bytes, and each that is made a `Clogged` one.
+impl OpenedFile for Halting {
+    ghost use Rattle.std.specs.Prelude.{◌≡◌};
+
+    ghost sizes = { λ file size. size ≡ file.size };
+
+    fn size(&self) -> Option<u64> {
+        self.size
+    }
+}
+
+// Each file that is opened is a `Halting` one of three bytes with this size, and each that is made a
+// `Clogged` one.
 #[derive(Drop)]
-struct BadDisk;
+struct BadDisk {
+    size: Option<u64>,
+}
 
 impl Disk for BadDisk {
     type Opened = Halting;
@@ -165,6 +181,7 @@ impl Disk for BadDisk {
         Ok(Halting {
             rest: 3,
             is_ready: false,
+            size: self.size,
         })
     }
 
@@ -180,7 +197,7 @@ fn a_flush_that_fails_is_a_fault(rt: HostRuntime) {
     agree(&rt, sink.put(b"twelve bytes"), Err(SinkFault));
     agree(&rt, sink.put(b"twelve bytes"), Err(SinkFault));
     agree(&rt, sink.put(b"twelve bytes"), Ok(()));
-    let mut files = FolderFiles::new(BadDisk);
+    let mut files = FolderFiles::new(BadDisk { size: None });
     agree(
         &rt,
         files.write(alloc, "a", b"twelve bytes"),
@@ -191,10 +208,35 @@ fn a_flush_that_fails_is_a_fault(rt: HostRuntime) {
 #[test]
 fn an_interrupted_read_is_made_again(rt: HostRuntime) -> Result<(), Fail> {
     let alloc = rt.alloc();
-    let mut files = FolderFiles::new(BadDisk);
+    let mut files = FolderFiles::new(BadDisk { size: None });
     let whole = bytes_found(alloc, b"xxx")?;
     agree(&rt, files.read(alloc, "a", 3), Ok(whole));
     agree(&rt, files.read(alloc, "a", 2), Ok(Found::TooLong(3)));
+    Ok(())
+}
+
+// Of three bytes, with this limit: what is told where the file tells this size.
+const SIZES: [(Option<u64>, usize, u64); 8] = [
+    (None, 1, 2),
+    (Some(0), 1, 2),
+    (Some(1), 1, 2),
+    (Some(2), 1, 2),
+    (Some(3), 1, 3),
+    (Some(3), 2, 3),
+    (Some(3), 0, 3),
+    (Some(u64::MAX), 2, u64::MAX),
+];
+
+#[test]
+fn a_file_that_is_too_long_is_told_by_its_size(rt: HostRuntime) -> Result<(), Fail> {
+    let alloc = rt.alloc();
+    for (size, most, told) in SIZES {
+        let mut files = FolderFiles::new(BadDisk { size });
+        let too_long = Found::TooLong(told);
+        agree(&rt, files.read(alloc, "a", most), Ok(too_long));
+        let whole = bytes_found(alloc, b"xxx")?;
+        agree(&rt, files.read(alloc, "a", 3), Ok(whole));
+    }
     Ok(())
 }
 
