@@ -1,5 +1,9 @@
 //! Runs of the traits' implementations.
-use crate::agree::agree;
+ghost use Rattle.std.specs.Prelude.{◌≡◌, Some, IfOk};
+ghost use Rattle.muen_outside.specs.Found.{seen};
+ghost use Rattle.muen_outside.specs.Store.{reading_of};
+
+use crate::agree::{agree, agree_at};
 use muen_num::Seq;
 use muen_outside::{
     Buffer, Device, Disk, FileError, Files, FolderFiles, Found, MemFiles, MemSink, OpenedFile,
@@ -230,13 +234,93 @@ const SIZES: [(Option<u64>, usize, u64); 8] = [
 #[test]
 fn a_file_that_is_too_long_is_told_by_its_size(rt: HostRuntime) -> Result<(), Fail> {
     let alloc = rt.alloc();
-    for (size, most, told) in SIZES {
+    for (row, (size, most, told)) in SIZES.into_iter().enumerate() {
         let mut files = FolderFiles::new(BadDisk { size });
         let too_long = Found::TooLong(told);
-        agree(&rt, files.read(alloc, "a", most), Ok(too_long));
+        agree_at(&rt, files.read(alloc, "a", most), Ok(too_long), row);
         let whole = bytes_found(alloc, b"xxx")?;
-        agree(&rt, files.read(alloc, "a", 3), Ok(whole));
+        agree_at(&rt, files.read(alloc, "a", 3), Ok(whole), row);
     }
+    Ok(())
+}
+
+// Gives these bytes, and tells them and how many they are.
+#[derive(Drop)]
+struct Text<'a> {
+    rest: &'a [u8],
+}
+
+impl Read for Text<'_> {
+    ghost use Rattle.std.specs.Prelude.{Some};
+
+    ghost remaining = { λ text. Some text.rest.now };
+
+    fn read(&mut self, buf: &mut [u8]) -> io::Result<usize> {
+        self.rest.read(buf)
+    }
+}
+
+impl OpenedFile for Text<'_> {
+    ghost use Rattle.std.specs.Prelude.{◌≡◌, Some, length};
+
+    ghost sizes = { λ text size. size ≡ Some (length text.rest.now) };
+
+    fn size(&self) -> Option<u64> {
+        Some(self.rest.len() as u64)
+    }
+}
+
+// Has one file, and tells what it opens.
+#[derive(Drop)]
+struct OneText<'a> {
+    name: &'a str,
+    bytes: &'a [u8],
+}
+
+impl<'a> Disk for OneText<'a> {
+    ghost use Rattle.std.specs.Prelude.{◌≡◌, ◌≢◌, IfOk, IfErr};
+
+    type Opened = Text<'a>;
+
+    type Made = Clogged;
+
+    ghost opens = { λ disk name opened. IfOk opened (λ text. (name ≡ disk.name.now) × (text.rest.now ≡ disk.bytes.now)) × IfErr opened (λ _. name ≢ disk.name.now) };
+
+    ghost makes = { λ _ _ _. Unit {0} };
+
+    fn open(&mut self, name: &str) -> io::Result<Text<'a>> {
+        if name == self.name {
+            return Ok(Text { rest: self.bytes });
+        }
+        Err(ErrorKind::NotFound.into())
+    }
+
+    fn create(&mut self, _name: &str) -> io::Result<Clogged> {
+        Ok(Clogged { failed: 0 })
+    }
+}
+
+// Of a disk that tells all, a read under the file's name answers what stands there, with its length.
+fn read_one(alloc: Global, disk: OneText<'_>, most: usize) -> Result<Found, FileError>
+    ensures { IfOk result (λ found. reading_of (Some disk.bytes.now) most ≡ seen found) }
+{
+    let name = disk.name;
+    FolderFiles::new(disk).read(alloc, name, most)
+}
+
+#[test]
+fn a_disk_that_tells_all_agrees_with_the_look(rt: HostRuntime) -> Result<(), Fail> {
+    let alloc = rt.alloc();
+    let (name, bytes) = ("a", b"five!".as_slice());
+    for most in 0..5 {
+        let found = read_one(alloc, OneText { name, bytes }, most);
+        agree_at(&rt, found, Ok(Found::TooLong(5)), most);
+    }
+    let whole = bytes_found(alloc, b"five!")?;
+    let found = read_one(alloc, OneText { name, bytes }, 5);
+    agree(&rt, found, Ok(whole));
+    let mut files = FolderFiles::new(OneText { name, bytes });
+    agree(&rt, files.read(alloc, "b", 5), Ok(Found::Missing));
     Ok(())
 }
 
