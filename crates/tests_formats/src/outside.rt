@@ -300,12 +300,11 @@ impl<'a> Disk for OneText<'a> {
     }
 }
 
-// Of a disk that tells all, a read under the file's name answers what stands there, with its length.
-fn read_one(alloc: Global, disk: OneText<'_>, most: usize) -> Result<Found, FileError>
-    ensures { IfOk result (λ found. reading_of (Some disk.bytes.now) most ≡ seen found) }
+// A disk that tells all: a read under the file's name answers what stands there, with its length.
+fn read_one(alloc: Global, name: &str, bytes: &[u8], most: usize) -> Result<Found, FileError>
+    ensures { IfOk result (λ found. reading_of (Some bytes.now) most ≡ seen found) }
 {
-    let name = disk.name;
-    FolderFiles::new(disk).read(alloc, name, most)
+    FolderFiles::new(OneText { name, bytes }).read(alloc, name, most)
 }
 
 #[test]
@@ -313,12 +312,11 @@ fn a_disk_that_tells_all_agrees_with_the_look(rt: HostRuntime) -> Result<(), Fai
     let alloc = rt.alloc();
     let (name, bytes) = ("a", b"five!".as_slice());
     for most in 0..5 {
-        let found = read_one(alloc, OneText { name, bytes }, most);
+        let found = read_one(alloc, name, bytes, most);
         agree_at(&rt, found, Ok(Found::TooLong(5)), most);
     }
     let whole = bytes_found(alloc, b"five!")?;
-    let found = read_one(alloc, OneText { name, bytes }, 5);
-    agree(&rt, found, Ok(whole));
+    agree(&rt, read_one(alloc, name, bytes, 5), Ok(whole));
     let mut files = FolderFiles::new(OneText { name, bytes });
     agree(&rt, files.read(alloc, "b", 5), Ok(Found::Missing));
     Ok(())
