@@ -1,9 +1,10 @@
 -- One read after another, up to a limit.
 use Rattle.std.proofs.Common.{◌≡◌, ℕ, ◌+◌, ◌≤◌, ◌<◌, List, [], ◌++◌, length, Option, Some, None, IfSome, refl, sym, ap, ◌∙◌, append_assoc, append-nil, arith, length-append}
 use Rattle.std.proofs.lemmas.Bool.Decides.{nat_tests}
+use Rattle.std.specs.Prelude.{max, unwrap_or}
 use Rattle.std.specs.Io.KnownBytes.{Consumes, IsAtEnd, Keeps}
 use Rattle.muen_outside.specs.Store.{whole, long}
-use Rattle.muen_outside.specs.FolderFiles.{capped, TakesAtMost}
+use Rattle.muen_outside.specs.FolderFiles.{capped, told_length, TakesAtMost}
 
 pub consumes_none : (k : Option (List ℕ)) → Consumes k k []
 consumes_none None = tt
@@ -15,25 +16,30 @@ consumes_then (Some u) None m a b p q = absurd p
 consumes_then (Some u) (Some v) None a b p q = absurd q
 consumes_then (Some u) (Some v) (Some w) a b p q = p ∙ ap (λ x. a ++ x) q ∙ sym (append_assoc a b w)
 
-capped_within : (u : List ℕ) (most : ℕ) → length u ≤ most → capped u most ≡ whole u
-capped_within u most h = grind (arith, nat_tests)
+capped_within : (u : List ℕ) (size : Option ℕ) (most : ℕ) → length u ≤ most → capped u size most ≡ whole u
+capped_within u size most h = grind (arith, nat_tests)
 
-capped_above : (u : List ℕ) (most : ℕ) → most < length u → capped u most ≡ long (most + 1)
-capped_above u most h = grind (arith, nat_tests)
+capped_above : (u : List ℕ) (size : Option ℕ) (most : ℕ) → most < length u → capped u size most ≡ long (told_length size most)
+capped_above u size most h = grind (arith, nat_tests)
 
 -- the reader has no byte left
-pub told_at_end : (k l : Option (List ℕ)) (most : ℕ) (a : List ℕ) → Consumes k l a → IsAtEnd l → length a ≤ most → IfSome k (λ all. whole a ≡ capped all most)
-told_at_end None l most a p e h = tt
-told_at_end (Some u) None most a p e h = absurd p
-told_at_end (Some u) (Some v) most a p e h =
+pub told_at_end : (k l : Option (List ℕ)) (size : Option ℕ) (most : ℕ) (a : List ℕ) → Consumes k l a → IsAtEnd l → length a ≤ most → IfSome k (λ all. whole a ≡ capped all size most)
+told_at_end None l size most a p e h = tt
+told_at_end (Some u) None size most a p e h = absurd p
+told_at_end (Some u) (Some v) size most a p e h =
     let same : u ≡ a = p ∙ ap (λ x. a ++ x) e ∙ append-nil a in
-    ap (λ x. whole x) (sym same) ∙ sym (capped_within u most (rw same h))
+    ap (λ x. whole x) (sym same) ∙ sym (capped_within u size most (rw same h))
 
 -- the reader gave more than the limit
-pub told_above : (k l : Option (List ℕ)) (most : ℕ) (a : List ℕ) → Consumes k l a → most < length a → IfSome k (λ all. long (most + 1) ≡ capped all most)
-told_above None l most a p h = tt
-told_above (Some u) None most a p h = absurd p
-told_above (Some u) (Some v) most a p h = sym (capped_above u most (omega (arith, ap length p, length-append a v)))
+pub told_above : (k l : Option (List ℕ)) (size : Option ℕ) (most n : ℕ) (a : List ℕ) → Consumes k l a → most < length a → n ≡ told_length size most → IfSome k (λ all. long n ≡ capped all size most)
+told_above None l size most n a p h is = tt
+told_above (Some u) None size most n a p h is = absurd p
+told_above (Some u) (Some v) size most n a p h is = ap long is ∙ sym (capped_above u size most (omega (arith, ap length p, length-append a v)))
+
+-- the greater of the size, if one is known, and one above the limit
+pub greater_told : (size : Option ℕ) (most : ℕ) → max (unwrap_or size 0) (most + 1) ≡ told_length size most
+greater_told None most = grind (arith, nat_tests)
+greater_told (Some size) most = grind (arith, nat_tests)
 
 pub takes_few : (n : ℕ) (k l : Option (List ℕ)) (a : List ℕ) → Consumes k l a → length a ≤ n → TakesAtMost n k l
 takes_few n None l a p h = tt
@@ -46,4 +52,4 @@ takes_kept n (Some u) None m p q = absurd p
 takes_kept n (Some u) (Some v) None p q = absurd q
 takes_kept n (Some u) (Some v) (Some w) p q = omega (arith, p, ap length q)
 
-pub ruleset reads = (consumes_none, consumes_then, told_at_end, told_above, takes_few, takes_kept)
+pub ruleset reads = (consumes_none, consumes_then, told_at_end, told_above, greater_told, takes_few, takes_kept)

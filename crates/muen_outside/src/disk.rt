@@ -1,12 +1,12 @@
 ghost use Rattle.muen_outside.specs.Devices.{MakesCall, opening, making};
 
 use crate::device::Device;
+use crate::opened_file::OpenedFile;
 use std::fs::{File, Files as SystemFiles};
 use std::io;
-use std::io::Read;
 
-/// Opens files that are there, and makes files. What a file gives or takes, its reader and its device
-/// tell, where they tell it. What comes of a name, and which calls were made, a disk may tell or not:
+/// Opens files that are there, and makes files. What a file gives or takes, and its size, the file
+/// tells, where it tells it. What comes of a name, and which calls were made, a disk may tell or not:
 /// what is proved of code over every disk holds over those that tell, so that such code opens the
 /// file of this name, and no other, over one that tells nothing too.
 pub trait Disk {
@@ -14,7 +14,7 @@ pub trait Disk {
     ghost use Rattle.std.specs.declared.io.Error.{Error};
     ghost use Rattle.muen_outside.specs.Devices.{DiskCall};
 
-    type Opened: Read + Drop;
+    type Opened: OpenedFile + Drop;
 
     type Made: Device + Drop;
 

@@ -12,7 +12,7 @@ use std::fmt;
 use thiserror::Error;
 
 /// What a read has found: all the bytes of the file, no file of this name, or a file of more bytes
-/// than the limit, with a number of bytes above the limit that it has at least.
+/// than the limit, with how many it has, where that is known, and else a number above the limit.
 #[derive(Debug, Drop, PartialEq, Eq)]
 pub enum Found {
     Bytes(Seq<u8>),

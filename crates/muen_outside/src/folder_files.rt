@@ -2,12 +2,15 @@ ghost use Rattle.std.specs.Prelude.{◌≡◌, ◌≢◌, ◌+◌, ◌∷◌, []
 ghost use Rattle.muen_outside.specs.Devices.{MakesCall, opening, making};
 ghost use Rattle.muen_outside.specs.Found.{seen, answered, IsPossible};
 ghost use Rattle.muen_outside.specs.States.{look, looked, no_history, write as write_of, written};
-ghost use Rattle.muen_outside.specs.FolderFiles.{capped, TakesAtMost, IsReadOf, IsWriteTo, Reads, Writes};
+ghost use Rattle.muen_outside.specs.FolderFiles.{capped, IsLengthTold, TakesAtMost, IsReadOf, IsWriteTo, Reads, Writes, Holds};
+ghost use Rattle.muen_outside.specs.Looks.{Shows};
+ghost use Rattle.muen_outside.specs.Store.{Store};
 
 use crate::device::Device;
 use crate::disk::{Disk, SystemDisk};
 use crate::files::{FileError, Files, Found};
 use crate::history::{Calls, Looked, Start, Wrote};
+use crate::opened_file::OpenedFile;
 use crate::writer_sink::write_through;
 use muen_num::{Seq, Told};
 use std::alloc::Global;
@@ -49,12 +52,18 @@ impl<R: SystemFiles> FolderFiles<SystemDisk<R>> {
     }
 }
 
-// All the bytes, if there are no more than `most`. It takes one more at most from the reader, which
-// may give them in any number of pieces.
+// All the bytes, if there are no more than `most`; else the size, where one above `most` is known. It
+// takes one byte above `most` at most from the reader, which may give them in any number of pieces.
 #[tactic(auto, using(crate::proofs::ReadSteps::reads))]
-fn read_all<I: Read>(alloc: Global, from: &mut I, most: usize) -> Result<Found, FileError>
+fn read_all<I: Read>(
+    alloc: Global,
+    from: &mut I,
+    size: Option<u64>,
+    most: usize,
+) -> Result<Found, FileError>
     ensures possible { IfOk result (λ found. IsPossible most (seen found)) }
-    ensures told { IfOk result (λ found. IfSome (I.remaining from.old) (λ all. seen found ≡ capped all most)) }
+    ensures number { IfOk result (λ found. IsLengthTold size most (seen found)) }
+    ensures told { IfOk result (λ found. IfSome (I.remaining from.old) (λ all. seen found ≡ capped all size most)) }
     ensures opened { result ≢ Ok Found.Missing }
     ensures taken { TakesAtMost (most + 1) (I.remaining from.old) (I.remaining from.new) }
 {
@@ -68,7 +77,8 @@ fn read_all<I: Read>(alloc: Global, from: &mut I, most: usize) -> Result<Found, 
             Ok(0) => return Ok(Found::Bytes(Seq::of(bytes))),
             Ok(n) => {
                 if n > room {
-                    return Ok(Found::TooLong(most as u64 + 1));
+                    let least = most as u64 + 1;
+                    return Ok(Found::TooLong(size.unwrap_or(0).max(least)));
                 }
                 bytes.extend_from_slice(&window[..n])?;
             }
@@ -83,16 +93,19 @@ fn read_all<I: Read>(alloc: Global, from: &mut I, most: usize) -> Result<Found, 
 }
 
 // What is read of the file, if it was opened.
-fn read_opened<I: Read + Drop>(
+fn read_opened<I: OpenedFile + Drop>(
     alloc: Global,
     opened: io::Result<I>,
     most: usize,
 ) -> Result<Found, FileError>
     ensures possible { IfOk result (λ found. IsPossible most (seen found)) }
-    ensures read { IsReadOf I.remaining opened most result }
+    ensures read { IsReadOf I.sizes I.remaining opened most result }
 {
     match opened {
-        Ok(mut file) => read_all(alloc, &mut file, most),
+        Ok(mut file) => {
+            let size = file.size();
+            read_all(alloc, &mut file, size, most)
+        }
         Err(e) => {
             if e.kind() == ErrorKind::NotFound {
                 return Ok(Found::Missing);
@@ -123,8 +136,11 @@ impl<D: Disk> Files for FolderFiles<D> {
         ensures possible { IfOk result (λ found. IsPossible most (seen found)) }
 
         // What was looked at, by one call on the disk.
-        ensures reads { Reads D.opens D.Opened.remaining self.old.disk name.now most result }
+        ensures reads { Reads D.opens D.Opened.sizes D.Opened.remaining self.old.disk name.now most result }
         ensures call { MakesCall (D.calls self.old.disk) (D.calls self.new.disk) (opening name.now) }
+
+        // Where the disk gives files whole, with their sizes, these agree with the look.
+        ensures shown { (m : Store) → Holds D.opens D.Opened.sizes D.Opened.remaining self.old.disk m → Shows m (look name.now most (answered result)) }
     {
         let got = read_opened(alloc, self.disk.open(name), most);
         self.history = Told::of(&Looked {
