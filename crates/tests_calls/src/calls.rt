@@ -4,7 +4,8 @@ use std::alloc::Global;
 use std::process::Abort;
 use std::test::Fail;
 use tests_support::{
-    MemFiles, answered, changed, cut, file, filled, has_pieces, numbers, printed, refused, text_of,
+    MemFiles, MemSink, answered, call, changed, cut, file, filled, has_pieces, numbers, printed,
+    refused, text_of,
 };
 
 pub(crate) const POLICY: &str = r#"{"processor":{"logicalCpus":1},
@@ -328,13 +329,34 @@ const BEGUN: &str = "7 muen: output fault
 0 0 one 0000000000400000 r1=0000000000000005
 1 0 one 0000000";
 
+// The one put of that text fails, with so many bytes kept of it; it is the last call on the output.
+fn put_fails(rt: &impl Abort, alloc: Global, keep: usize) -> Result<(), Fail> {
+    let mut out = MemSink::make(alloc, 1000, numbers(alloc, "0")?, keep)?;
+    let ended = call(
+        alloc,
+        "boot p three",
+        &mut files(alloc, POLICY, "")?,
+        &mut out,
+    )?;
+    agree_at(
+        rt,
+        ended.line(alloc)?.as_str(),
+        "7 muen: output fault",
+        keep,
+    );
+    agree_at(rt, Some(ended.out.as_str()), THREE_TICKS.get(..keep), keep);
+    agree_at(rt, ended.calls, 1, keep);
+    Ok(())
+}
+
 // A put that fails, and one without room.
 #[test]
 fn faults(rt: HostRuntime) -> Result<(), Fail> {
     let alloc = rt.alloc();
+    for keep in [0usize, 1, 3, 60] {
+        put_fails(&rt, alloc, keep)?;
+    }
     let mut files = files(alloc, POLICY, "")?;
-    let failed = cut(alloc, "boot p three", &mut files, 1000, "0")?;
-    agree(&rt, failed.as_str(), "7 muen: output fault\n0 0");
     let no_room = cut(alloc, "boot p three", &mut files, 60, "")?;
     agree(&rt, no_room.as_str(), BEGUN);
     Ok(())

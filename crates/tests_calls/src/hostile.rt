@@ -1,6 +1,7 @@
 //! Damaged images and records, and calls that fail, in tables.
 use crate::agree::{agree, agree_at, holds_at};
 use crate::calls::POLICY;
+use generated_system::{Generated, generate};
 use std::alloc::Global;
 use std::process::Abort;
 use std::test::Fail;
@@ -219,6 +220,30 @@ fn loads(rt: HostRuntime) -> Result<(), Fail> {
             text,
             words,
         );
+    }
+    Ok(())
+}
+
+// Each number of CPUs with each share of the ticks: the system is accepted, and its record for it, so that the
+// run begins. Then its output fails.
+#[test]
+fn generated_systems_are_accepted(rt: HostRuntime) -> Result<(), Fail> {
+    let alloc = rt.alloc();
+    for number in 0..28u16 {
+        let Generated { policy, input } = generate(alloc, number)?;
+        let mut files = files(
+            alloc,
+            &[("p", policy.as_slice()), ("r", input.as_slice())],
+            "",
+        )?;
+        let ended = called(alloc, "boot p r", &mut files, 1)?;
+        agree_at(
+            &rt,
+            ended.line(alloc)?.as_str(),
+            "7 muen: output fault",
+            number,
+        );
+        agree_at(&rt, ended.out.as_str(), "0", number);
     }
     Ok(())
 }

@@ -58,6 +58,7 @@ rule 17: a a | ["b"]=>["b","a"]
 rule 18: low high | "physicalAddress":2097152=>"physicalAddress":1175552
 rule 20: memoryBlocks memoryBlocks | 131072},{"name":"high"=>67108864},{"name":"high" | "physicalAddress":2097152=>"physicalAddress":134217728
 rule 20: major.0 major.0 | "ticks":2=>"ticks":99998
+rule 20: major.1 major.1 | "ticks":4=>"ticks":100001
 rule 18: low high | "ticks":4=>"ticks":100001 | "physicalAddress":2097152=>"physicalAddress":1175552
 rule 16: major.0 cpu.1 | "logicalCpus":1=>"logicalCpus":2"#;
 
@@ -146,6 +147,11 @@ const LISTS: &[(&str, u32, &str)] = &[
         ONE_SUBJECT,
         31,
         r#"rule 20: subjects subjects | {"name":"one"=>{"name":"s@","cpu":0,"entry":0} | "one"]=>"s@""#,
+    ),
+    (
+        ONE_SUBJECT,
+        31,
+        r#"rule 20: subjects subjects | {"name":"one"=>{"name":"s@","cpu":0,"entry":0} | {"name":"g"=>{"name":"g@","cpu":0,"subjects":["s@"]} | {"group":=>{"group":"g@","ticks":1}"#,
     ),
     (
         ONE_SUBJECT,

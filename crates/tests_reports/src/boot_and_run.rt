@@ -1,7 +1,11 @@
 //! Calls of `boot`. It prints what `run` prints of the image that `build` writes; and what a subject
 //! prints doesn't depend on one from which nothing flows to it.
 use crate::agree::{agree, agree_at, holds_at};
-use crate::run_systems::{CHANNEL, DEVICE, EVENT, HANDOVER};
+use crate::one_cpu::{
+    CHANNEL_ON_ONE, CHANNEL_ON_ONE_RUNS, EVENT_ON_ONE, EVENT_ON_ONE_RUNS, GRANTED_RUNS,
+    MSRS_OF_TWO, MSRS_OF_TWO_RUNS,
+};
+use crate::run_systems::{CHANNEL, DEVICE, EVENT, HANDOVER, LEAVES};
 use crate::systems::{CHOICE, GATEWAY, MONITOR, ONE, SHARED};
 use std::alloc::Global;
 use std::process::Abort;
@@ -77,6 +81,10 @@ end 5/ | "name":"ch","size":4096=>"name":"ch","size":8192 | 0c12030000000000=>0c
 region ch 1889a315501c02dbdfb824ded42781585538ac3e243f3544ee93fa4790b6c278
 ..."#;
 
+// A region that both share, in place of the channel: the lines are the same.
+const SHARED_CHANNEL: &str =
+    r#","channels":[{"name":"ch","size":4096}]}=>} | {"name":"reader_code"=>{"name":"ch","size":4096,"sharedMemory":["writer","reader"]},{"name":"reader_code" | "rights":"rx"}],"channels":[{"channel":"ch","role":"writer","virtualAddress":6291456}]=>"rights":"rx"},{"region":"ch","virtualAddress":6291456,"rights":"rw"}] | "rights":"rx"}],"channels":[{"channel":"ch","role":"reader","virtualAddress":6291456}]=>"rights":"rx"},{"region":"ch","virtualAddress":6291456,"rights":"r"}]"#;
+
 // Deliverable at any turn, or at the first tick of a minor frame and after an exit. HLT and VMCALL
 // raise none by a trap with their reason.
 const EVENT_RUNS: &str = r#"end 14/
@@ -124,20 +132,51 @@ end 9/ | "call":1=>"trap":18
 7 1 b 0000000000400038 -
 ..."#;
 
-// A handover counts from the group's next turn, whatever the target does then.
-const HANDOVER_RUNS: &str = "\
-end 16/
+// A handover counts from the group's next turn, whatever the target does then: it stops at its first fetch,
+// or it runs and never hands back. The lines of `a` are the same.
+const HANDOVER_RUNS: &str = r#"end 16/
 0 0 a 0000000000400000 r3=0000000000000001
-...
+1 0 a 0000000000400008 -
+2 0 a 0000000000400010 -
 3 0 a 0000000000400018 exit 18 0000000000000000 0000000000000000 on
-4 0 c ...
+4 0 c 0000000000400000 -
+5 0 c 0000000000400000 -
+6 0 c 0000000000400000 -
+7 0 c 0000000000400000 -
 8 0 b 0000000000700000 exit 48 0000000000000004 0000000000700000 stop
-12 0 c ...
+12 0 c 0000000000400000 -
+13 0 c 0000000000400000 -
+14 0 c 0000000000400000 -
+15 0 c 0000000000400000 -
+end a 0000000000400020 0000000000000000 0000000000000000 8
+...
 end b 0000000000700000 0000000000000000 0000000000000000 12
-...";
+...
+
+end 16/ | "memory":[],"targets"=>"memory":[{"region":"c_code","virtualAddress":7340032,"rights":"rx"}],"targets"
+0 0 a 0000000000400000 r3=0000000000000001
+1 0 a 0000000000400008 -
+2 0 a 0000000000400010 -
+3 0 a 0000000000400018 exit 18 0000000000000000 0000000000000000 on
+4 0 c 0000000000400000 -
+5 0 c 0000000000400000 -
+6 0 c 0000000000400000 -
+7 0 c 0000000000400000 -
+8 0 b 0000000000700000 -
+9 0 b 0000000000700000 -
+10 0 b 0000000000700000 -
+11 0 b 0000000000700000 -
+12 0 c 0000000000400000 -
+13 0 c 0000000000400000 -
+14 0 c 0000000000400000 -
+15 0 c 0000000000400000 -
+end a 0000000000400020 0000000000000000 0000000000000000 8
+...
+end b 0000000000700000 0000000000000000 0000000000000000 0
+..."#;
 
 const GATEWAY_RUNS: &str = "\
-port 100 net 768 5/irq 200 net rx/end 300/
+port 100 net 768 5/irq 200 net rx/end 5000/
 0 0 plain 0000000000400000 r1=0000000000000007
 0 1 keys 0000000000400000 r1=0000000000000007
 ...
@@ -164,23 +203,33 @@ end 9/
 0 0 t 0000000000400000 r1=0000000000000001
 ...
 2 0 t 0000000000400010 store 1 0000000000500000 0000000000000001
-3 0 a ...
-6 0 a ...
-8 0 a ...
+3 0 a 0000000000400000 -
+4 0 a 0000000000400008 -
+5 0 a 0000000000400010 -
+6 0 a 0000000000400018 -
+7 0 a 0000000000400020 -
+8 0 a 0000000000400028 -
+end t ...
 
 end 9/ | 0110000001000000=>0110000002000000
 ...
 3 0 t 0000000000400018 -
 ...";
 
-const MONITOR_RUNS: &str = "\
-end 5/
+// It loads a register and the flags of the other, or wakes it where it may write.
+const MONITOR_RUNS: &str = r#"end 5/
 0 0 s 0000000000400000 r1=0000000000000005
 ...
 3 0 m 0000000000400008 r5=0000000000000005
-...
 4 0 m 0000000000400010 r6=000000000000000a
-...";
+...
+
+end 6/ | "rights":"r"}=>"rights":"rw"} | 0b62000098000000=>0c02000098000000
+0 0 s 0000000000400000 r1=0000000000000005
+...
+4 0 m 0000000000400010 store 1 0000000000600098 0000000000000000
+5 0 s 0000000000400010 -
+..."#;
 
 // Of two inputs of a tick the later one counts. In the end the device's memory has the eight bytes twice, and
 // then zeros.
@@ -251,10 +300,27 @@ fn blocks_print(rt: &impl Abort, alloc: Global, system: &str, blocks: &str) -> R
     Ok(())
 }
 
+// The blocks of a system with changes.
+fn changed_blocks_print(
+    rt: &impl Abort,
+    alloc: Global,
+    system: &str,
+    changes: &str,
+    blocks: &str,
+) -> Result<(), Fail> {
+    let system = changed(alloc, system, changes)?;
+    blocks_print(rt, alloc, system.as_str(), blocks)
+}
+
 #[test]
-fn both_print_the_same(rt: HostRuntime) -> Result<(), Fail> {
+fn boot_is_build_and_run(rt: HostRuntime) -> Result<(), Fail> {
     let alloc = rt.alloc();
+    blocks_print(&rt, alloc, ONE, GRANTED_RUNS)?;
     blocks_print(&rt, alloc, CHANNEL, CHANNEL_RUNS)?;
+    changed_blocks_print(&rt, alloc, CHANNEL, SHARED_CHANNEL, CHANNEL_RUNS)?;
+    changed_blocks_print(&rt, alloc, CHANNEL, CHANNEL_ON_ONE, CHANNEL_ON_ONE_RUNS)?;
+    changed_blocks_print(&rt, alloc, EVENT, EVENT_ON_ONE, EVENT_ON_ONE_RUNS)?;
+    changed_blocks_print(&rt, alloc, LEAVES, MSRS_OF_TWO, MSRS_OF_TWO_RUNS)?;
     blocks_print(&rt, alloc, EVENT, EVENT_RUNS)?;
     blocks_print(&rt, alloc, HANDOVER, HANDOVER_RUNS)?;
     blocks_print(&rt, alloc, GATEWAY, GATEWAY_RUNS)?;

@@ -9,6 +9,10 @@ mod boot_and_run;
 #[cfg(test)]
 mod domains;
 #[cfg(test)]
+mod images;
+#[cfg(test)]
+mod one_cpu;
+#[cfg(test)]
 mod reports;
 #[cfg(test)]
 mod run_systems;

@@ -27,6 +27,9 @@ const NO_ROOM: &str = "65536=>36864";
 // A monitor that may change the state of the other.
 const WRITES: &str = r#""rights":"r"}=>"rights":"rw"}"#;
 
+// The second of two that share a region may only read it.
+const READS: &str = r#""rights":"rw"}]}],"scheduling"=>"rights":"r"}]}],"scheduling""#;
+
 // The words, the policy and the changes to it, and the whole text.
 const TEXTS: &[(&str, &str, &str, &str)] = &[
     ("map p", ONE, "", ONE_MAP),
@@ -47,6 +50,12 @@ const TEXTS: &[(&str, &str, &str, &str)] = &[
         SHARED,
         "",
         "flow writer from writer reader\nflow reader from writer reader\n",
+    ),
+    (
+        "flows p",
+        SHARED,
+        READS,
+        "flow writer from writer\nflow reader from writer reader\n",
     ),
     ("flows p", CHOICE, "", "flow t from t\nflow a from t a\n"),
 ];

@@ -12,8 +12,7 @@ pub(crate) const CHANNEL: &str =
 "scheduling":{"groups":[{"name":"gw","cpu":0,
 "subjects":["writer"]},
 {"name":"gr","cpu":1,
-"subjects":["reader"]}],"majorFrames":[{"cpus":[{"cpu":0,"minorFrames":[{"group":"gw","ticks":5}]},
-{"cpu":1,"minorFrames":[{"group":"gr","ticks":5}]}]}]},"channels":[{"name":"ch","size":4096}]}"#;
+"subjects":["reader"]}],"majorFrames":[{"cpus":[{"cpu":0,"minorFrames":[{"group":"gw","ticks":5}]},{"cpu":1,"minorFrames":[{"group":"gr","ticks":5}]}]}]},"channels":[{"name":"ch","size":4096}]}"#;
 
 /// An event between subjects on two CPUs.
 pub(crate) const EVENT: &str =
@@ -27,8 +26,7 @@ pub(crate) const EVENT: &str =
 "scheduling":{"groups":[{"name":"ga","cpu":0,
 "subjects":["a"]},
 {"name":"gb","cpu":1,
-"subjects":["b"]}],"majorFrames":[{"cpus":[{"cpu":0,"minorFrames":[{"group":"ga","ticks":5}]},
-{"cpu":1,"minorFrames":[{"group":"gb","ticks":5}]}]}]},"events":[{"name":"ev","mode":"asap"}]}"#;
+"subjects":["b"]}],"majorFrames":[{"cpus":[{"cpu":0,"minorFrames":[{"group":"ga","ticks":5}]},{"cpu":1,"minorFrames":[{"group":"gb","ticks":5}]}]}]},"events":[{"name":"ev","mode":"asap"}]}"#;
 
 /// A handover in a group, to a subject that can't run.
 pub(crate) const HANDOVER: &str =

@@ -1,11 +1,11 @@
 //! Calls of `build`, and then of `run` on the image that was written.
-use crate::agree::{agree_at, holds_at};
+use crate::agree::{agree, agree_at, holds_at};
 use crate::run_systems::{CHANNEL, LEAVES, OWN_TABLES};
 use crate::systems::GATEWAY;
 use std::alloc::Global;
 use std::process::Abort;
 use std::test::Fail;
-use tests_support::{MemFiles, MemSink, answered, call, called, files, image_of, printed};
+use tests_support::{MemFiles, MemSink, answered, call, called, changed, files, image_of, printed};
 
 // The file `i` holds an image and `r` a record; the calls of these digits fail.
 fn inputs(alloc: Global, image: &[u8], record: &str, fails: &str) -> Result<MemFiles, Fail> {
@@ -23,14 +23,21 @@ fn text(alloc: Global, policy: &str, record: &str) -> Result<String, Fail> {
     text_of(alloc, image.as_slice(), record)
 }
 
-// A writer and a reader on two CPUs: the texts of the two orders differ in no other turn.
+// What differs where the reader has its turn first: the two lines of that tick, and the register that it loads.
+const READER_FIRST: &str = "4 0 writer 0000000000400020 store 8 0000000000600000 0000000000000007\n\
+4 1 reader 0000000000400020 r5=0000000000000007\n\
+=>4 1 reader 0000000000400020 r5=0000000000000000\n\
+4 0 writer 0000000000400020 store 8 0000000000600000 0000000000000007\n \
+| regs reader 4 0000000000000000 0000000000000007=>regs reader 4 0000000000000000 0000000000000000";
+
+// A writer and a reader on two CPUs: the texts of the two orders differ in nothing else.
 #[test]
 fn both_orders(rt: HostRuntime) -> Result<(), Fail> {
     let alloc = rt.alloc();
     let ascending = text(alloc, CHANNEL, "end 5\n")?;
     let other = text(alloc, CHANNEL, "order 4 1 0\nend 5\n")?;
-    let first = ascending.as_str().find("end writer");
-    assert!(rt; first.is_some() && first == other.as_str().find("end writer"));
+    let wanted = changed(alloc, ascending.as_str(), READER_FIRST)?;
+    agree(&rt, other.as_str(), wanted.as_str());
     Ok(())
 }
 

@@ -63,6 +63,12 @@ fn cut(alloc: Global, count: usize) -> Result<String, Fail> {
     }
 }
 
+// The same with this number of pages.
+fn with_pages(alloc: Global, pages: &str) -> Result<String, Fail> {
+    let text = TABLES.replacen(alloc, "6:4", pages, 1)?;
+    answer(alloc, &spelled(alloc, text.as_str())?)
+}
+
 // Whether the file is one of tables that are packed as it again.
 fn comes_back(alloc: Global, file: &[u8]) -> Result<bool, Fail> {
     match unpack(alloc, file) {
@@ -94,6 +100,17 @@ fn first_faults(rt: HostRuntime) -> Result<(), Fail> {
         agree_at(&rt, damaged(alloc, at, byte)?.as_str(), fault, at);
     }
     agree(&rt, cut(alloc, 750)?.as_str(), "dma refused at 92: short");
+    // 16,384 pages are the most, of which most aren't there
+    agree(
+        &rt,
+        with_pages(alloc, "4000:4")?.as_str(),
+        "dma refused at 92: short",
+    );
+    agree(
+        &rt,
+        with_pages(alloc, "4001:4")?.as_str(),
+        "dma refused at 16: pages",
+    );
     Ok(())
 }
 
