@@ -11,6 +11,7 @@ use Rattle.dma_tables.specs.DmaWalk.{device_page, is_context, is_paging, is_root
 use Rattle.dma_tables.specs.Lowered.{by_pages, line_writes}
 use Rattle.dma_tables.specs.Tables.{most_dma_bytes}
 use Rattle.dma_tables.specs.declared.file.DmaDevice.{DmaDevice}
+use Rattle.dma_tables.specs.declared.file.TheConstants.{MOST_DMA_PAGES}
 
 -- the words of the pages that aren't zero
 abbrev words : ℕ → ℕ → Option ℕ
@@ -99,3 +100,7 @@ no_file = refl
 
 a_longest_file : most_dma_bytes ≡ 67111064
 a_longest_file = refl
+
+-- 64 MiB of tables, this project's profile
+most_pages : MOST_DMA_PAGES ≡ 16384
+most_pages = refl

@@ -1,5 +1,5 @@
-//! Systems on one CPU: two subjects that take turns, and one with what it is granted. Each is one of the
-//! others with changes, and has blocks as those of `boot` and `run` have them.
+//! Systems on one CPU: two subjects that take turns, and one with what it is granted. They are changes to the
+//! systems of the other modules, and blocks of what is printed, as `boot_and_run` goes through them.
 
 /// The writer and the reader of a channel, five ticks each.
 pub(crate) const CHANNEL_ON_ONE: &str =
@@ -90,8 +90,9 @@ pub(crate) const MSRS_OF_TWO_RUNS: &str = r#"end 13/
 12 0 b 0000000000400020 r3=0000000000000002
 end a ..."#;
 
-/// One subject: no more than its code; a fault that it is told of by an event of its own; an MSR; a port, of
-/// which a wider access exits, as does one past the last port; a device's memory.
+/// One subject: its code alone; a fault that it is told of by an event of its own; an MSR that is granted, and
+/// one that isn't; a port, an access of which one port isn't granted, and one past the last port; a device's
+/// memory.
 pub(crate) const GRANTED_RUNS: &str =
     r#"end 3/ | {"fill":0}=>{"hex":"01100000050000001700000000000000"}
 0 0 one 0000000000400000 r1=0000000000000005
