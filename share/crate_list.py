@@ -1,5 +1,6 @@
 """What crates.txt says: which crates there are, lowest first, and what each stands on."""
 import pathlib
+import re
 
 TOP = pathlib.Path(__file__).resolve().parent.parent
 
@@ -26,5 +27,22 @@ def above(crate):
 
 
 def standing_on(what, count):
-    """The sentence that tells how many crates stand on one."""
-    return f"{count or 'No'} crate{'s' if count > 1 else ''} stand{'' if count > 1 else 's'} on {what}"
+    """The words that tell how many crates stand on one."""
+    return f"{count or 'No'} crate{' stands' if count < 2 else 's stand'} on {what}"
+
+
+def readme(crate):
+    """The README of a crate."""
+    return TOP / "crates" / crate / "README.md"
+
+
+def count_line(crate):
+    """The line at the end of its README."""
+    count = len(above(crate))
+    return standing_on("it", count) + (f" (`share/modules --above {crate}`)." if count else ".")
+
+
+def counted(text, crate):
+    """The text of its README with this line at its end, in place of one that tells another count."""
+    kept = re.sub(r"(?m)^(\d+|No) crates? stands? on it\b.*\n?", "", text).rstrip("\n")
+    return f"{kept}\n\n{count_line(crate)}\n"
