@@ -1,6 +1,7 @@
 """Shapes of .antt texts: two texts that differ in bound names, in paths of imports or in blanks have one shape."""
 import collections
 import itertools
+import re
 
 LIBRARY = "library."
 ENDS = (None, "→")
@@ -12,30 +13,40 @@ Binder = collections.namedtuple("Binder", "number type arrow")
 
 
 class Names:
-    """What a name of a file stands for: the item that declares it, or the first of those with one text."""
+    """What a name of a file stands for: the item that declares it."""
 
     def __init__(self, files):
         self.files = {file.module: file for file in files}
         self.crates = {module.split(".")[1] for module in self.files}
-        self.same, self.parts = {}, {}
+        self.parts = {}
 
     def item(self, path):
         """The path of the module that declares an item; of a library its name alone counts."""
         module, _, name = path.rpartition(".")
+        module = self.module(module)
         file = self.files.get(module)
-        if file and name in file.handed and file.handed[name] != path:
+        if file and name in file.handed:
             return self.item(file.handed[name])
-        if path.split(".")[0].split(":")[0] != "Rattle" or path.split(".")[1] not in self.crates:
-            path = LIBRARY + name
-        return self.same.get(path, path)
+        top, crate = re.split(r"[.:]", module)[:2]
+        return f"{module}.{name}" if top == "Rattle" and crate in self.crates else LIBRARY + name
+
+    def module(self, path):
+        """The path of a module where it stands: a Lib hands on modules of others, with those below them."""
+        parts = path.split(".")
+        for end in range(len(parts), 3, -1):
+            library = self.files.get(".".join([*parts[:end - 1], "Lib"]))
+            if library and library.handed.get(parts[end - 1], "").endswith("."):
+                return self.module(library.handed[parts[end - 1]] + ".".join(parts[end:]).rstrip("."))
+        return path.rstrip(".")
 
     def path(self, names, word):
         """The path that a file has for a word, where an operator stands for its name with gaps."""
         if word in names:
             return names[word]
         if id(names) not in self.parts:
-            self.parts[id(names)] = {part: path for name, path in names.items() if "◌" in name
-                                     for part in name.split("◌") if part}
+            found = [(re.findall("[^◌]+", name), path) for name, path in names.items() if "◌" in name]
+            self.parts[id(names)] = {part: path if len(parts) == 1 else f"{path.rpartition('.')[0]}.{part}"
+                                     for parts, path in found for part in parts}
         return self.parts[id(names)].get(word)
 
 
@@ -198,14 +209,16 @@ def used(words):
             yield word
 
 
-def spelled(words):
-    """The text, with a letter for each name in the order of their first use; with whole paths, and as it is read."""
+def spelled(words, same):
+    """The text, with a letter for each name in the order of their first use; with whole paths, and as it is read.
+
+    `same` has for items the one that they are the same as."""
     counts, letters = set(used(words)), {}
 
     def flat(words):
         for at, word in enumerate(words):
             if not isinstance(word, Binder):
-                yield letters.setdefault(word, len(letters)) if isinstance(word, int) else word
+                yield letters.setdefault(word, len(letters)) if isinstance(word, int) else same.get(word, word)
             elif word.number in counts:
                 kind = list(flat(word.type))
                 yield from ["(", letters.setdefault(word.number, len(letters)), ":", *kind, ")"]
