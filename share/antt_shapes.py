@@ -60,15 +60,17 @@ class Shape:
     def word(self, nodes, at, bound):
         """What a word is written as, and how many words were read."""
         word, after = nodes[at], nodes[at + 1] if at + 1 < len(nodes) else None
+        if after == "=":
+            return word, 1
         if word in bound:
             return bound[word], 1
-        path = None if after == "=" else self.known.path(self.item.names, word)
+        path = self.known.path(self.item.names, word)
         if path and path.endswith("."):
             named = isinstance(after, str) and after.startswith(".")
             return (self.known.item(path[:-1] + after), 2) if named else (path, 1)
         if path:
             return "itself" if path == self.item.key() else self.known.item(path), 1
-        if word not in PLAIN and not word[0] in '."0123456789' and after != "=":
+        if word not in PLAIN and word[0] not in '."0123456789':
             self.free.add(word)
         return word, 1
 

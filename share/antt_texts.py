@@ -148,7 +148,8 @@ class Reader:
         elif first == "record" and rest[:1] != "{" and " where" in rest:
             name, _, kind = rest.partition(" where")[0].partition(" ")
             item = self.add(block, (None, "record", name, kind), parameters, names)
-            item.clauses, item.is_record = [tree(rest.partition(" where")[2].replace("\n", " ; "))], True
+            fields = rest.partition(" where")[2].strip().splitlines()
+            item.clauses, item.is_record = [tree(field.strip().removeprefix("pub ")) for field in fields], True
         return first in ("use", "open", "module", "mod", "infixl", "infixr") or (first == "record" and " where" in rest)
 
     def add(self, block, head, parameters, names):
