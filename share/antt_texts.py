@@ -171,9 +171,9 @@ class Reader:
                 inner[found.name] = found.key()
 
 
-def files(folders):
-    """Each file of these folders of the crates, read."""
+def files():
+    """Each file of specs/ and proofs/ of the crates, read."""
     for crate in sorted(CRATES.iterdir()):
-        for folder in folders:
+        for folder in ("specs", "proofs"):
             for file in sorted(crate.glob(f"{folder}/**/*.antt")):
                 yield Reader(file).read
