@@ -150,7 +150,7 @@ class Reader:
             item = self.add(block, (None, "record", name, kind), parameters, names)
             fields = rest.partition(" where")[2].strip().splitlines()
             item.clauses, item.is_record = [tree(field.strip().removeprefix("pub ")) for field in fields], True
-        return first in ("use", "open", "module", "mod", "infixl", "infixr") or (first == "record" and " where" in rest)
+        return first in ("use", "open", "module", "mod", "data", "infixl", "infixr") or (first == "record" and " where" in rest)
 
     def add(self, block, head, parameters, names):
         """An item, known by its name to what stands beside and below it."""
