@@ -25,7 +25,7 @@ tag_sized m wanted _ more low s = record {
       omega (arith, sum, behind);
 }
 
-device_sized : (among : Unit {0}) (names : List (List ℕ)) → IsSized device_size (device among names)
+pub device_sized : (among : Unit {0}) (names : List (List ℕ)) → IsSized device_size (device among names)
 unfolding device
 device_sized among names =
     field_sized 64 4 _ _ _ (only_sized 64 _ _ _ name_sized) (λ called a.
@@ -44,7 +44,7 @@ marked : IsBytes mark_bytes
 unfolding mark_bytes
 marked = each_low mark_bytes refl
 
-marked_size : length mark_bytes ≡ 8
+pub marked_size : length mark_bytes ≡ 8
 unfolding mark_bytes
 marked_size = refl
 

@@ -56,7 +56,7 @@ groups_many m h =
     let p = source_of (policy_of m) in
     sym (length-map m.plan.groups (λ g. g.cpu)) ∙ ap length h.plan.groups ∙ length-map p.scheduling.groups (λ g. g.cpu)
 
-devices_long : (r : Resolution) (first : ℕ) (ds : List Device) (qs : List DevicePart) → AreDevices r first ds qs → length qs ≡ length ds
+pub devices_long : (r : Resolution) (first : ℕ) (ds : List Device) (qs : List DevicePart) → AreDevices r first ds qs → length qs ≡ length ds
 unfolding AreDevices
 devices_long r first [] [] h = refl
 devices_long r first [] (q ∷ qs) h = absurd h

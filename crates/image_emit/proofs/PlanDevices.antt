@@ -50,7 +50,7 @@ HasMemories i first xs = (k : ℕ) (x : List ℕ × DeviceMemory) → slice_get 
 abbrev named_memory : SourceDevice → List (List ℕ × DeviceMemory)
 named_memory d = map (λ m. (d.name, m)) d.memory
 
-kept_memories : (m : Made) → IsMade m → All (λ x. IsPhysical x.1) (memories_of (policy_of m).devices)
+pub kept_memories : (m : Made) → IsMade m → All (λ x. IsPhysical x.1) (memories_of (policy_of m).devices)
 unfolding source_of
 kept_memories m h = devices_physical (source_of (policy_of m)) (rules_of h.lawful).rule_4
 

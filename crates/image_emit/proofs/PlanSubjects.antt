@@ -72,7 +72,7 @@ some_passes test f none (x ∷ xs) l =
 -- ---- groups
 
 -- a group lists the name of a subject just where it has the subject's index
-lists_alike : (r : Resolution) (k : ℕ) → repeated (subject_names r) ≡ None → k < length r.subjects → (g : ResolvedGroup) → group_in_range r g ≡ true
+pub lists_alike : (r : Resolution) (k : ℕ) → repeated (subject_names r) ≡ None → k < length r.subjects → (g : ResolvedGroup) → group_in_range r g ≡ true
     → list_any (λ n. bytes_eq n (name_at (subject_names r) k)) (map (name_at (subject_names r)) g.subjects) ≡ list_any (λ n. n == k) g.subjects
 lists_alike r k unique within g placed =
     let names = subject_names r in

@@ -39,7 +39,7 @@ length-padded size front few =
     ∙ ap (λ n. length front + n) (length-replicate (size - length front) 0)
     ∙ omega (arith, few)
 
-length-page : (entry : ℕ) → length (page_bytes (started entry)) ≡ PAGE
+pub length-page : (entry : ℕ) → length (page_bytes (started entry)) ≡ PAGE
 unfolding page_bytes started
 length-page entry = length-padded PAGE _ (omega arith)
 

@@ -24,7 +24,7 @@ use Rattle.image_pack.proofs.SubjectsFit.{both, each_fits}
 -- ---- names that differ
 
 -- none of these names is listed
-abbrev AreNew : List (List ℕ) → List (List ℕ) → Type 0
+abbrev pub AreNew : List (List ℕ) → List (List ℕ) → Type 0
 AreNew names texts = All (λ t. is_listed names t ≡ false) texts
 
 neither : (a b : Bool) → a ≡ false → b ≡ false → (a || b) ≡ false
@@ -32,12 +32,12 @@ neither true b h g = h
 neither false b h g = g
 
 -- those behind a name are new where it is listed too
-still_new : (names : List (List ℕ)) (t : List ℕ) (texts : List (List ℕ)) → AreNew names (t ∷ texts) → AreDistinct (t ∷ texts) → AreNew (names ++ t ∷ []) texts
+pub still_new : (names : List (List ℕ)) (t : List ℕ) (texts : List (List ℕ)) → AreNew names (t ∷ texts) → AreDistinct (t ∷ texts) → AreNew (names ++ t ∷ []) texts
 still_new names t texts new differ k d l =
     list_any-append (λ m. bytes_eq m (get_or texts k d)) names (t ∷ [])
     ∙ neither (list_any (λ m. bytes_eq m (get_or texts k d)) names) (list_any (λ m. bytes_eq m (get_or texts k d)) (t ∷ [])) (new (suc k) d (omega (arith, l))) (neither (bytes_eq t (get_or texts k d)) false (differ 0 (suc k) d (omega arith) (omega (arith, l))) refl)
 
-distinct_behind : (t : List ℕ) (texts : List (List ℕ)) → AreDistinct (t ∷ texts) → AreDistinct texts
+pub distinct_behind : (t : List ℕ) (texts : List (List ℕ)) → AreDistinct (t ∷ texts) → AreDistinct texts
 distinct_behind t texts h = λ i j d lt l. h (suc i) (suc j) d (omega (arith, lt)) (omega (arith, l))
 
 -- ---- ranges

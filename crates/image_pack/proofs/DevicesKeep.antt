@@ -28,19 +28,19 @@ use Rattle.image_pack.proofs.SubjectsKeep.{each_kept}
 -- ---- names that differ
 
 -- none of these names is listed
-abbrev AreNew : List (List ℕ) → List (List ℕ) → Type 0
+abbrev pub AreNew : List (List ℕ) → List (List ℕ) → Type 0
 AreNew names texts = All (λ t. is_listed names t ≡ false) texts
 
 -- names that differ, and from those listed
-record Differ (names texts : List (List ℕ)) : Type 0 where
-  new : AreNew names texts
-  distinct : AreDistinct texts
+pub record Differ (names texts : List (List ℕ)) : Type 0 where
+  pub new : AreNew names texts
+  pub distinct : AreDistinct texts
 
 no_names : (names : List (List ℕ)) → Differ names []
 no_names names = record { new = λ k d l. absurd (omega (arith, l)); distinct = λ i j d lt l. absurd (omega (arith, l)) }
 
 -- a new name is put before names that are new where it is listed too
-name_before : (names : List (List ℕ)) (t : List ℕ) (texts : List (List ℕ)) → is_listed names t ≡ false → Differ (names ++ t ∷ []) texts → Differ names (t ∷ texts)
+pub name_before : (names : List (List ℕ)) (t : List ℕ) (texts : List (List ℕ)) → is_listed names t ≡ false → Differ (names ++ t ∷ []) texts → Differ names (t ∷ texts)
 name_before names t texts new rest =
     let parts : (k : ℕ) (d : List ℕ) → k < length texts → (is_listed names (get_or texts k d) ≡ false) × (is_listed (t ∷ []) (get_or texts k d) ≡ false) =
     λ k d l. or_parts (is_listed names (get_or texts k d)) (is_listed (t ∷ []) (get_or texts k d)) (sym (list_any-append (λ m. bytes_eq m (get_or texts k d)) names (t ∷ [])) ∙ rest.new k d l) in

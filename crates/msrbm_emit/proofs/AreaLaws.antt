@@ -71,16 +71,16 @@ range_ends m i h l = let e : i - m.start ≡ size_of m = omega arith in ap (fron
 
 -- ---- grant by grant
 
-length-entries_of : (m : MsrGrant) → length (entries_of m) ≡ size_of m
+pub length-entries_of : (m : MsrGrant) → length (entries_of m) ≡ size_of m
 unfolding entries_of
 length-entries_of m = length-front_of m.start (size_of m)
 
-length-area_of : (msrs : List MsrGrant) → length (area_of msrs) ≡ count_of msrs
+pub length-area_of : (msrs : List MsrGrant) → length (area_of msrs) ≡ count_of msrs
 unfolding area_of count_of
 length-area_of [] = refl
 length-area_of (m ∷ msrs) = length-append (entries_of m) (area_of msrs) ∙ (ap₂ (λ a b. a + b) (length-entries_of m) (length-area_of msrs) ∙ sym (sum_by-cons size_of m msrs))
 
-count_more : (msrs : List MsrGrant) (i : ℕ) (d : MsrGrant) → i < length msrs → count_of (take (i + 1) msrs) ≡ count_of (take i msrs) + size_of (get_or msrs i d)
+pub count_more : (msrs : List MsrGrant) (i : ℕ) (d : MsrGrant) → i < length msrs → count_of (take (i + 1) msrs) ≡ count_of (take i msrs) + size_of (get_or msrs i d)
 unfolding count_of
 count_more msrs i d h = sum_by_more size_of msrs i d h
 

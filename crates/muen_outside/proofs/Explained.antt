@@ -19,6 +19,11 @@ same_self x = nat_list_eq_equiv.refl x
 other_way : (a b : List ℕ) → bytes_eq a b ≡ false → bytes_eq b a ≡ false
 other_way a b ne = sym (nat_list_eq_equiv.symm a b) ∙ ne
 
+-- any store shows no looks
+pub told_none : (held : Option Store) → IfSome held (λ m. ShowAll m [])
+told_none None = tt
+told_none (Some m) = tt
+
 -- what stands under a name, so that a read answers this
 abbrev content_of : Result Reading FileError → Option (List ℕ)
 content_of (Ok (whole bytes)) = Some bytes

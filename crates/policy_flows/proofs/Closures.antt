@@ -42,7 +42,7 @@ member_some p test s h =
     }
 
 -- a member by name
-same_member : (members : List (List ℕ)) (u s : Subject) → u.name ≡ s.name → is_member members u ≡ true → is_member members s ≡ true
+pub same_member : (members : List (List ℕ)) (u s : Subject) → u.name ≡ s.name → is_member members u ≡ true → is_member members s ≡ true
 same_member members u s e h = subst (λ n. list_any (λ name. bytes_eq name n) members ≡ true) e h
 
 -- ---- rounds

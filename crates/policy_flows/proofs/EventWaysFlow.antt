@@ -44,7 +44,7 @@ hit_by_channel : (c : Option Channel) (o : Option Target) (name : List ℕ) → 
 hit_by_channel None o name h = absurd (cc)
 hit_by_channel (Some c) o name h = hit_by_mode c.has_event o name h
 
-writes_is_writer : (e : ChannelEnd) (role : Role) (way : SourceWay) → writes_by e role way ≡ true → is_writer role ≡ true
+pub writes_is_writer : (e : ChannelEnd) (role : Role) (way : SourceWay) → writes_by e role way ≡ true → is_writer role ≡ true
 writes_is_writer e Writer way h = refl
 writes_is_writer e Reader way h = absurd (cc)
 

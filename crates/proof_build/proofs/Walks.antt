@@ -47,7 +47,7 @@ not_both addr a m b n apart p q =
     omega (arith, apart, high, low)
 
 -- a byte where there is the right, and the rights that were found where there isn't
-by_rights : (address : Thing → ℕ) (b : Bool) (x : Thing) (to offset : ℕ) (rights : Rights) → address x ≡ to → (if b then At (to + offset) else Violation (rights_bits rights)) ≡ led address (if b then byte x offset else violation (Some rights))
+pub by_rights : (address : Thing → ℕ) (b : Bool) (x : Thing) (to offset : ℕ) (rights : Rights) → address x ≡ to → (if b then At (to + offset) else Violation (rights_bits rights)) ≡ led address (if b then byte x offset else violation (Some rights))
 by_rights address true x to offset rights e = ap (λ n. At (n + offset)) (sym e)
 by_rights address false x to offset rights e = refl
 

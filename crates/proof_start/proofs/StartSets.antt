@@ -100,7 +100,7 @@ module _ (p : Source) (files : Held) (i : Image) (keeps : KeepsConditions i) (so
 
 -- ---- CPUs
 
-zeros_long : (n : ℕ) → length (zeros n) ≡ n
+pub zeros_long : (n : ℕ) → length (zeros n) ≡ n
 unfolding zeros
 zeros_long n = length-replicate n 0
 

@@ -75,13 +75,13 @@ own_by n things msrs h count many page area state_bytes area_page values is has_
   };
 }
 
+-- a thing of the policy has its bytes
+pub thing_started : (p : Source) (files : HeldFiles) (x : Thing) → list_any (λ y. same_thing y x) (things_of p) ≡ true → thing_in (start_of p files).things x ≡ Some (initial_bytes p files x)
+unfolding start_of
+thing_started p files x h = made_of (initial_bytes p files) (things_of p) (map (λ s. (state s.name, first_page s)) p.subjects) x h
+
 module _ (p : Source) (files : HeldFiles) (i : Image) (keeps : KeepsConditions i) (sound : IsSound p files i) where
   -- ---- things
-
-  -- a thing of the policy has its bytes
-  thing_started : (x : Thing) → list_any (λ y. same_thing y x) (things_of p) ≡ true → thing_in (start_of p files).things x ≡ Some (initial_bytes p files x)
-  unfolding start_of
-  thing_started x h = made_of (initial_bytes p files) (things_of p) (map (λ s. (state s.name, first_page s)) p.subjects) x h
 
   -- no state page is a thing of the policy
   states_aside : (name : List ℕ) → list_any (λ y. same_thing y (state name)) (things_of p) ≡ false
@@ -109,7 +109,7 @@ module _ (p : Source) (files : HeldFiles) (i : Image) (keeps : KeepsConditions i
   shown small = record {
     bytes = λ x j low.
         let t = thing_span p files i keeps sound x j low in
-        thing_pages p files i keeps sound x j low ∙ sym (ap (option_map (part j)) (thing_started x (any_at (λ y. same_thing y x) (things_of p) t.number x t.listed (same_thing_self x))));
+        thing_pages p files i keeps sound x j low ∙ sym (ap (option_map (part j)) (thing_started p files x (any_at (λ y. same_thing y x) (things_of p) t.number x t.listed (same_thing_self x))));
     kept = λ k kept. refl;
     there = λ k. refl;
     small = small_pages p i small;

@@ -35,6 +35,10 @@ use Rattle.proof_turns.proofs.Holds.{same_found, not_some, found_before, some_ch
 abbrev pub left_pages : Control → SubjectState → List ℕ → List Page → List Page
 left_pages d st file pages = saved file d.msr_area (numbers_below d.msrs) (change pages d.state (λ _. page_bytes st))
 
+-- lives with the same machine and list
+pub same_live : (k : Live) (m m' : MachineState) (on on' : List (Option ℕ)) → m ≡ m' → on ≡ on' → ◌≡◌ {A = Live} (record k { machine = m; on = on }) (record k { machine = m'; on = on' })
+same_live k m m' on on' e f = rw (e, f) refl
+
 module _ (g : Ground) (fixed : IsFixed g) where
   pub shows_same : (pages later : List Page) (things : Things) → ((x : Thing) (j : ℕ) → j < g.pages x → page_of later (g.first x + j) ≡ page_of pages (g.first x + j)) → ((k : ℕ) → g.kept k ≡ true → page_of later k ≡ page_of pages k) → ((k : ℕ) → is_there later k ≡ is_there pages k) → ((k : ℕ) (page : List ℕ) → page_of later k ≡ Some page → All IsByte page) → Shows g pages things → Shows g later things
   shows_same pages later things same kept there small shows = record {
@@ -377,9 +381,6 @@ module _ (g : Ground) (fixed : IsFixed g) where
   -- ---- the subject whose turn it is, is entered
   left_is : (cpu : ℕ) (m : MachineState) (u : Cpu) → slice_get m.cpus cpu ≡ Some u → (o : Option Entered) → u.entered ≡ o → left cpu m ≡ record { pages = (put_off_by m.pages u o).pages; cpus = change_at cpu (off m.pages) m.cpus }
   left_is cpu m u at o e = ap (left_by cpu m.pages m.cpus) at ∙ ap (λ x. record { pages = (put_off_by m.pages u x).pages; cpus = change_at cpu (off m.pages) m.cpus }) e
-
-  same_live : (k : Live) (m m' : MachineState) (on on' : List (Option ℕ)) → m ≡ m' → on ≡ on' → ◌≡◌ {A = Live} (record k { machine = m; on = on }) (record k { machine = m'; on = on' })
-  same_live k m m' on on' e f = rw (e, f) refl
 
   goes_on_is : (cpu s : ℕ) (c : Control) (k : Live) (later : List Page) → left cpu k.machine ≡ record { pages = later; cpus = change_at cpu (off k.machine.pages) k.machine.cpus } → entered_live cpu s c (left_with cpu later k) ≡ goes_on cpu s c k
   goes_on_is cpu s c k later e =

@@ -27,7 +27,7 @@ use Rattle.subject_emit.proofs.Pieces.{at_piece}
 
 -- ---- of components
 
-as_many : (cs : List Component) (ss : List Subject) → length (flat_map (brought_at cs) ss) ≡ length (flat_map (λ s. provided_at cs s.component) ss)
+pub as_many : (cs : List Component) (ss : List Subject) → length (flat_map (brought_at cs) ss) ≡ length (flat_map (λ s. provided_at cs s.component) ss)
 unfolding brought_at
 as_many cs [] = refl
 as_many cs (s ∷ ss) =
