@@ -229,6 +229,7 @@ there [] k l = absurd (omega arith)
 there (x ∷ xs) zero l = (x, refl)
 there (x ∷ xs) (suc k) l = there xs k (omega arith)
 
+-- so it isn't missing
 pub some_below : {X : Type 0} (xs : List X) (n : ℕ) → n < length xs → slice_get xs n ≡ None → ⊥
 some_below [] n h e = omega (arith, h)
 some_below (x ∷ xs) zero h e = absurd (cc (e))
