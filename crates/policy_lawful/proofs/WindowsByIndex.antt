@@ -40,7 +40,7 @@ name_there f xs k x is = get_or-map f xs k x [] (slice_get_within xs k x is) ∙
 
 -- a subject has that of its index
 pub name_of_subject : (r : Resolution) (k : ℕ) (s : Subject) → slice_get r.subjects k ≡ Some s → name_at (subject_names r) k ≡ s.name
-name_of_subject r k s at = name_there (λ x. x.name) r.subjects k s at
+name_of_subject r k s at = name_there (λ (t : Subject). t.name) r.subjects k s at
 
 -- where names are unique, what stands at an index is found by its own
 pub found_by_name : {X : Type 0} (f : X → List ℕ) (xs : List X) → repeated (map f xs) ≡ None → (k : ℕ) (x : X) → slice_get xs k ≡ Some x → find (λ y. bytes_eq (f y) (f x)) xs ≡ Some x
