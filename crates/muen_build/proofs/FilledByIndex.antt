@@ -30,6 +30,7 @@ use Rattle.muen_build.specs.Refusals.{contents_refused}
 abbrev filled_item : Item → Filled
 filled_item i = filled (thing_tag i.thing) i.size i.content
 
+-- what stands second and last of four lists is passed over
 first_passing : {X O : Type 0} (at : X → Option O) (a b c d : List X) → first_in at b ≡ None → first_in at d ≡ None → first_in at (a ++ b ++ c ++ d) ≡ first_in at (a ++ c)
 first_passing at a b c d second last =
     first_in-append at (a ++ b ++ c) d
