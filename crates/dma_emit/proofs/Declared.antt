@@ -23,14 +23,13 @@ use Rattle.ept_emit.specs.Emitted.{holds as is_in, window_at}
 use Rattle.ept_emit.specs.declared.window.Window.{Window}
 use Rattle.expand_kernel.proofs.Ordered.{in_order_permutes}
 use Rattle.muen_num.proofs.Lists.{found, there}
-use Rattle.muen_num.proofs.Lookups.{at_position}
+use Rattle.muen_num.proofs.Lookups.{at_position, same_self}
 use Rattle.muen_num.proofs.Members.{In, all_in, any_in, any_some, filter_map_in, find_in, map_in, passes_in, flat_in, at_in}
 use Rattle.policy_lawful.specs.Dma.{dma_access, domain_of, domain_windows}
 use Rattle.policy_lawful.specs.Domains.{Listed, device_has_bdf, listed_devices}
 use Rattle.policy_lawful.specs.Resolution.{source_of}
 use Rattle.policy_lawful.specs.Thing.{Thing, region}
 use Rattle.policy_lawful.specs.Windows.{Window as Granted, access_by, access_of, byte, holds, region_window, violation, window}
-use Rattle.policy_lawful.proofs.Indexes.{same_self}
 use Rattle.policy_lawful.proofs.KeptRules.{rules_of}
 use Rattle.policy_lawful.specs.Rights.{allows}
 use Rattle.policy_lawful.specs.source.Bdf.{Bdf}

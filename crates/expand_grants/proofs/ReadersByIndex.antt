@@ -12,11 +12,12 @@ use Rattle.muen_num.proofs.Lists.{all_true, each_from, filter-map, passes_at, th
 use Rattle.muen_num.proofs.Options.{is_some-option_map}
 use Rattle.muen_num.proofs.SearchLaws.{all_pass}
 use Rattle.muen_num.specs.declared.mode.EventMode.{EventMode}
+use Rattle.muen_num.proofs.Lookups.{same_self}
 use Rattle.policy_lawful.specs.MoreRules.{fits_event, is_connected, is_writer, offence_6, readers_of, writers_of}
 use Rattle.policy_lawful.specs.Offences.{alone}
 use Rattle.policy_lawful.specs.Resolution.{IsResolved, Resolution, name_at, source_of, subject_named, subject_in_range}
 use Rattle.policy_lawful.specs.declared.resolved.Subject.{Subject}
-use Rattle.policy_lawful.proofs.Indexes.{found_at_index, same_name, same_self}
+use Rattle.policy_lawful.proofs.Indexes.{found_at_index, same_name}
 use Rattle.policy_lawful.proofs.SourceElements.{parts_in_range}
 use Rattle.policy_lawful.proofs.UniqueNames.{unique}
 use Rattle.policy_lawful.specs.Events.{ChannelEnd, channel_ends, channel_event, channel_targets, reads_from}

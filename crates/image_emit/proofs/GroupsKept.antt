@@ -14,9 +14,9 @@ use Rattle.image_pack.specs.Image.{is_first_here}
 use Rattle.image_pack.specs.Plan.{is_group_on}
 use Rattle.image_pack.specs.plan.GroupPart.{GroupPart}
 use Rattle.muen_num.proofs.Lists.{passes_at, there}
-use Rattle.muen_num.proofs.Lookups.{only_index}
+use Rattle.muen_num.proofs.Lookups.{only_index, same_self}
 use Rattle.policy_lawful.proofs.KeptMembers.{members_kept}
-use Rattle.policy_lawful.proofs.Indexes.{found_at_index, same_self}
+use Rattle.policy_lawful.proofs.Indexes.{found_at_index}
 use Rattle.policy_lawful.proofs.KeptRules.{rules_of}
 use Rattle.policy_lawful.proofs.UniqueNames.{names_of_subjects, subject_names, unique}
 use Rattle.policy_lawful.proofs.WindowsByIndex.{name_of_subject}

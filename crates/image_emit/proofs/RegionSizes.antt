@@ -15,7 +15,8 @@ use Rattle.image_emit.proofs.SpansOfKernel.{padded_length}
 use Rattle.image_emit.specs.Made.{IsMade, Made, kernel_bytes, policy_of, region_bytes}
 use Rattle.image_soundness.specs.Exits.{area_bytes}
 use Rattle.msrbm_emit.specs.Area.{area_of}
-use Rattle.msrbm_emit.proofs.AreaLaws.{length-area, length-area_of}
+use Rattle.machine_layout.proofs.AreaLaws.{length-area}
+use Rattle.msrbm_emit.proofs.AreaLaws.{length-area_of}
 use Rattle.muen_num.specs.declared.limits.TheConstants.{PAGE}
 use Rattle.policy_lawful.specs.declared.resolved.Subject.{Subject}
 use Rattle.region_alloc.specs.Placed.{Placement}

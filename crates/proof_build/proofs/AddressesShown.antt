@@ -27,11 +27,11 @@ use Rattle.image_pack.specs.declared.parts.SubjectPart.{SubjectPart}
 use Rattle.muen_num.proofs.Lists.{at_left, get_right, map-map, numbered_at}
 use Rattle.muen_num.proofs.Options.{from_some}
 use Rattle.muen_num.proofs.Pairs.{other_at, zipped_at}
+use Rattle.muen_num.proofs.Lookups.{same_self}
 use Rattle.policy_lawful.specs.Resolution.{Resolution, name_at, source_of, subject_named}
 use Rattle.policy_lawful.specs.Rules.{logical_names, repeated}
 use Rattle.policy_lawful.specs.declared.resolved.ComponentUse.{ComponentUse}
 use Rattle.policy_lawful.specs.declared.resolved.Subject.{Subject}
-use Rattle.policy_lawful.proofs.Indexes.{same_self}
 use Rattle.policy_lawful.proofs.UniqueNames.{logical_unique, parts_unique, provided_unique, subjects_unique, unique}
 use Rattle.policy_lawful.specs.Thing.{Thing, channel, device_memory, provided, region, same_thing, state}
 use Rattle.policy_lawful.specs.source.Component.{Component}
