@@ -1,7 +1,8 @@
 -- The machine that a sound image makes stands, at its start, for the policy's system at its start.
-use Rattle.std.proofs.Common.{◌≡◌, ℕ, ◌+◌, ◌*◌, ◌≤◌, true, false, List, [], map, replicate, Option, Some, None, refl, sym, ap, subst, ◌∙◌, arith}
+use Rattle.std.proofs.Common.{◌≡◌, ℕ, ◌+◌, ◌*◌, ◌≤◌, true, false, List, [], length, map, replicate, Option, Some, None, refl, sym, ap, subst, ◌∙◌, arith}
 use Rattle.std.specs.Prelude.{option_map, slice_get, unwrap_or}
 use Rattle.std.specs.List.{All, enumerate_from, list_any}
+use Rattle.std.proofs.lemmas.List.{length-replicate}
 use Rattle.std.proofs.lemmas.List.Elements.{All-replicate}
 use Rattle.std.proofs.lemmas.Map.Keys.{any_passes_from_place}
 use Rattle.subject_model.specs.Alone.{MsrValues, Things, msr_value, thing_in}
@@ -43,13 +44,17 @@ use Rattle.proof_start.proofs.SpansOfThings.{thing_span}
 use Rattle.proof_start.proofs.StartAreas.{area_entries, area_values}
 use Rattle.subject_model.proofs.StartLists.{made_behind, made_of, named_map, numbered_at, replicated, states_map}
 use Rattle.subject_model.proofs.NoPages.{pages_apart}
-use Rattle.proof_start.proofs.StartSets.{cpus_stand, router_stands, same_cpus, zeros_long}
+use Rattle.proof_start.proofs.StartSets.{cpus_stand, router_stands, same_cpus}
 
 -- ---- ports
 
 same_inputs : no_inputs ≡ first_inputs
 unfolding zeros first_inputs
 same_inputs = refl
+
+zeros_long : (n : ℕ) → length (zeros n) ≡ n
+unfolding zeros
+zeros_long n = length-replicate n 0
 
 zeros_small : (n : ℕ) → All IsByte (zeros n)
 unfolding zeros
