@@ -69,6 +69,7 @@ def each(rows):
 
 class Case(unittest.TestCase):
     """Tests, some of which stand for rows; and sub-cases, of which one that fails doesn't keep the next from being looked at."""
+    failureException = Wrong
 
     def __init_subclass__(cls, **how):
         super().__init_subclass__(**how)
