@@ -22,7 +22,7 @@ use Rattle.policy_lawful.specs.Dma.{dma_access}
 use Rattle.policy_lawful.specs.Resolution.{Resolution, source_of}
 use Rattle.policy_lawful.specs.Rules.{extents_of}
 use Rattle.policy_lawful.specs.rights.Caching.TheVariants.{Uc, Wb}
-use Rattle.policy_lawful.specs.Rights.{Rw}
+use Rattle.policy_lawful.specs.rights.Rights.TheVariants.{Rw}
 use Rattle.policy_lawful.specs.source.Content.TheVariants.{Zero}
 use Rattle.region_alloc.specs.Placed.{Placement}
 

@@ -15,9 +15,11 @@ use Rattle.ept_emit.proofs.Found.{All_on, around, none_within, not_lowest, whole
 use Rattle.ept_emit.proofs.Walked.{Has, fits, mapped_on}
 use Rattle.ept_emit.proofs.Written.{Under, Free, Whole, Part, child_of, kind_of as kind_at, leaf_of, none_of, window_of, word_of, written_parts}
 use Rattle.machine_layout.specs.Walks.{bits_of, entry_size, index_at}
-use Rattle.policy_lawful.specs.Rights.{R, Rights, Rw, Rwx, Rx, allows, may_execute, rights_bits}
+use Rattle.policy_lawful.specs.Rights.{allows, may_execute, rights_bits}
 use Rattle.policy_lawful.specs.rights.Caching.{Caching}
 use Rattle.policy_lawful.specs.rights.Caching.TheVariants.{Uc}
+use Rattle.policy_lawful.specs.rights.Rights.{Rights}
+use Rattle.policy_lawful.specs.rights.Rights.TheVariants.{R, Rw, Rx, Rwx}
 
 -- ---- what an entry says
 

@@ -10,7 +10,7 @@ use Rattle.ept_emit.specs.Entries.{word_at}
 use Rattle.ept_emit.specs.Pages.{ept_pages, ranges_of}
 use Rattle.ept_emit.specs.Tables.{AreNumbered}
 use Rattle.ept_emit.specs.declared.window.Window.{Window}
-use Rattle.policy_lawful.specs.Rights.{Rw}
+use Rattle.policy_lawful.specs.rights.Rights.TheVariants.{Rw}
 
 -- from what is written for an address
 pub at_page : (ws : List Window) (page : ℕ) (bytes : List ℕ) (used : ℕ) → length bytes ≡ 4096 * ept_pages (ranges_of ws) → 1 ≤ used → used ≤ ept_pages (ranges_of ws)

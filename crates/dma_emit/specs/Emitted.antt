@@ -12,7 +12,7 @@ use Rattle.ept_emit.specs.Pages.{ept_pages, ranges_of}
 use Rattle.ept_emit.specs.Tables.{AreNumbered}
 use Rattle.ept_emit.specs.declared.window.Window.{Window}
 use Rattle.muen_num.specs.declared.limits.TheConstants.{GUEST_END, PAGE}
-use Rattle.policy_lawful.specs.Rights.{Rw}
+use Rattle.policy_lawful.specs.rights.Rights.TheVariants.{Rw}
 
 -- the tables of a domain with these windows, the highest of which lies in this page: each entry that an address meets has
 -- exactly the bits that it must have, where those that refer to a table have both rights; the tables are numbered in the order

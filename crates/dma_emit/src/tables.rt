@@ -23,7 +23,7 @@ fn tables_of(alloc: Global, windows: &[Window], page: u64, count: u64) -> Result
     ensures { IfOk result (AreTablesOf windows.now page) }
 {
     let mut tables = vec![in alloc; 0u8; (PAGE * count) as usize]?;
-    write_tables(windows, Rights::rw(), PAGE * page, tables.as_mut_slice());
+    write_tables(windows, Rights::Rw, PAGE * page, tables.as_mut_slice());
     Ok(Seq::of(tables))
 }
 

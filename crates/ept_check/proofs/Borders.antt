@@ -11,7 +11,7 @@ use Rattle.ept_emit.specs.Searches.{IsPast}
 use Rattle.ept_emit.specs.declared.window.Leaf.TheVariants.{Small}
 use Rattle.ept_emit.specs.declared.window.Window.{Window}
 use Rattle.ept_emit.specs.rights.Caching.TheVariants.{Uc}
-use Rattle.ept_emit.specs.Rights.{R}
+use Rattle.ept_emit.specs.rights.Rights.TheVariants.{R}
 
 -- a window to read by
 abbrev pub some_window : Window

@@ -2,7 +2,7 @@
 use Rattle.std.proofs.Common.{◌≡◌, inl, inr, ℕ, zero, suc, ◌+◌, ◌-◌, ◌*◌, ◌/◌, ◌^◌, ◌<◌, ◌≤◌, true, false, List, [], ◌∷◌, length, get_or, Option, Some, None, refl, ap, sym, ◌∙◌, arith, All, subst}
 use Rattle.ept_emit.specs.declared.window.Window.{Window}
 use Rattle.machine_layout.specs.Walks.{entry_size, index_at, entry_address, addresses_from, goes_on}
-use Rattle.policy_types.specs.Rights.{Rwx}
+use Rattle.policy_types.specs.declared.rights.Rights.TheVariants.{Rwx}
 use Rattle.ept_emit.specs.Entries.{IsEmittable, is_whole, leaf_entry}
 use Rattle.ept_emit.specs.Tables.{IsWritten, child}
 use Rattle.ept_emit.proofs.EntryBits.{goes_free, goes_page, goes_table}

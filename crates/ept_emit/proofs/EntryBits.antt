@@ -6,7 +6,9 @@ use Rattle.std.proofs.lemmas.Nat.{and_mask, and_comm}
 use Rattle.machine_layout.specs.declared.walk.Walk.{Walk}
 use Rattle.machine_layout.specs.declared.walk.Walk.TheVariants.{Violation, Misconfigured}
 use Rattle.machine_layout.specs.Walks.{entry_size, bits_of, is_present, is_leaf, is_misconfigured, has_lone_rights, has_no_type, is_misaligned, has_reserved, is_beyond, reads, leaf_end, goes_on}
-use Rattle.policy_types.specs.Rights.{R, Rights, Rw, Rwx, Rx, rights_bits}
+use Rattle.policy_types.specs.Rights.{rights_bits}
+use Rattle.policy_types.specs.declared.rights.Rights.{Rights}
+use Rattle.policy_types.specs.declared.rights.Rights.TheVariants.{R, Rw, Rx, Rwx}
 use Rattle.policy_types.specs.declared.rights.Caching.{Caching}
 use Rattle.policy_types.specs.declared.rights.Caching.TheVariants.{Uc, Wc, Wt, Wp, Wb}
 use Rattle.ept_emit.specs.Entries.{size_bit, table_entry, type_of}

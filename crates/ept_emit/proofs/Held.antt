@@ -11,7 +11,9 @@ use Rattle.machine_layout.specs.Walks.{bits_of, entry_size, entry_of, root_of, w
 use Rattle.muen_num.specs.Access.{kind_bit}
 use Rattle.muen_num.specs.declared.access.AccessKind.{AccessKind}
 use Rattle.muen_num.specs.declared.access.AccessKind.TheVariants.{Read, Write, Fetch}
-use Rattle.policy_types.specs.Rights.{R, Rights, Rw, Rwx, Rx, allows, rights_bits}
+use Rattle.policy_types.specs.Rights.{allows, rights_bits}
+use Rattle.policy_types.specs.declared.rights.Rights.{Rights}
+use Rattle.policy_types.specs.declared.rights.Rights.TheVariants.{R, Rw, Rx, Rwx}
 use Rattle.ept_emit.specs.Entries.{IsEmittable, type_of, word_at}
 use Rattle.ept_emit.specs.Emitted.{HasAddresses, HasTables, IsGreatestSize, IsReadBy, eptp_of, translation, translation_in, window_at}
 use Rattle.ept_emit.specs.Reads.{Reads}

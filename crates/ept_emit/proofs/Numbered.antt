@@ -4,7 +4,7 @@ use Rattle.std.proofs.lemmas.Bool.{cases_eq, cases_lt}
 use Rattle.std.proofs.Math.Nat.{div-div-eq-div-mul, mul-div_cancel, mul-le-mul_left}
 use Rattle.ept_emit.specs.declared.window.Window.{Window}
 use Rattle.machine_layout.specs.Walks.{entry_size}
-use Rattle.policy_types.specs.Rights.{Rights}
+use Rattle.policy_types.specs.declared.rights.Rights.{Rights}
 use Rattle.ept_emit.specs.Entries.{is_whole, leaf_entry, table_entry, window_on}
 use Rattle.ept_emit.specs.Tables.{IsWritten, Below, IsReference, IsReached, AreNumbered, child}
 use Rattle.ept_emit.proofs.EntryBits.{rights_small}

@@ -10,7 +10,8 @@ use Rattle.ept_emit.specs.Pages.{AreApart, ranges_of}
 use Rattle.machine_layout.specs.declared.walk.Walk.{Walk}
 use Rattle.machine_layout.specs.declared.walk.Walk.TheVariants.{At, Violation, Misconfigured}
 use Rattle.machine_layout.specs.Walks.{bits_of, entry_size, index_at, reads, leaf_end, walk_from, is_present, is_misconfigured, is_leaf, end_entry_size, end_entry, goes_on}
-use Rattle.policy_types.specs.Rights.{Rwx, rights_bits}
+use Rattle.policy_types.specs.Rights.{rights_bits}
+use Rattle.policy_types.specs.declared.rights.Rights.TheVariants.{Rwx}
 use Rattle.ept_emit.specs.Entries.{IsEmittable, is_whole, leaf_entry, level_of, type_of, window_on}
 use Rattle.ept_emit.specs.Tables.{IsWritten, child}
 use Rattle.ept_emit.specs.Emitted.{window_at, IsInside, IsGreatestSize}

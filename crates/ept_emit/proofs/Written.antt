@@ -3,7 +3,7 @@ use Rattle.std.proofs.Common.{◌≡◌, ◌⊎◌, inl, inr, ℕ, zero, suc, �
 use Rattle.std.proofs.lemmas.Bool.{cases_Bool}
 use Rattle.ept_emit.specs.declared.window.Window.{Window}
 use Rattle.machine_layout.specs.Walks.{entry_size}
-use Rattle.policy_types.specs.Rights.{Rights}
+use Rattle.policy_types.specs.declared.rights.Rights.{Rights}
 use Rattle.ept_emit.specs.Entries.{is_whole, leaf_entry, window_on}
 use Rattle.ept_emit.specs.Tables.{IsWritten, Below, Stands, Leads, IsReference, child}
 

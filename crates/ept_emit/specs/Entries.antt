@@ -8,8 +8,9 @@ use Rattle.ept_emit.specs.declared.window.Window.{Window}
 use Rattle.ept_emit.specs.Pages.{range_of, touches}
 use Rattle.machine_layout.specs.Memory.{le_number}
 use Rattle.machine_layout.specs.Walks.{entry_size}
-use Rattle.policy_types.specs.Rights.{Rights, rights_bits}
+use Rattle.policy_types.specs.Rights.{rights_bits}
 use Rattle.policy_types.specs.declared.rights.Caching.{Caching}
+use Rattle.policy_types.specs.declared.rights.Rights.{Rights}
 use Rattle.policy_types.specs.declared.rights.Caching.TheVariants.{Uc, Wc, Wt, Wp, Wb}
 
 -- the level of the tables whose entries map pages of this size

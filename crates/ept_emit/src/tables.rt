@@ -6,7 +6,7 @@ ghost use Rattle.ept_emit.specs.Entries.{IsEmittable, word_at};
 ghost use Rattle.ept_emit.specs.Needs.{needs};
 ghost use Rattle.ept_emit.specs.Tables.{AreNumbered, IsWritten};
 ghost use Rattle.machine_layout.specs.Walks.{entry_size};
-ghost use Rattle.policy_types.specs.Rights.{Rwx};
+ghost use Rattle.policy_types.specs.declared.rights.Rights.TheVariants.{Rwx};
 
 use crate::Window;
 use crate::entries::{is_whole, leaf_entry, set_word, table_entry};
@@ -24,7 +24,7 @@ fn write_entry(
     base: u64,
     used: usize,
     windows: &[Window],
-    pointers: &Rights,
+    pointers: Rights,
     level: u32,
     table: usize,
     entry: u64,
@@ -38,7 +38,7 @@ fn write_entry(
     requires room { 4096 * (used + needs windows.now level entry 1) ≤ length out.old }
     ensures few { result ≤ used + needs windows.now level entry 1 }
     ensures more { used ≤ result }
-    ensures numbered { AreNumbered pointers.now (word_at out.new) base used result windows.now level table (λ g. g / entry_size level ≡ entry) }
+    ensures numbered { AreNumbered pointers (word_at out.new) base used result windows.now level table (λ g. g / entry_size level ≡ entry) }
     ensures rest { (j : ℕ) → j < 512 * used → j ≢ 512 * table + entry % 512 → word_at out.new j ≡ word_at out.old j }
     ensures beyond { (j : ℕ) → 512 * result ≤ j → word_at out.new j ≡ word_at out.old j }
 {
@@ -51,7 +51,7 @@ fn write_entry(
         set_word(out, word, leaf_entry(window, level, entry));
         return used;
     }
-    set_word(out, word, table_entry(*pointers, base + used as u64));
+    set_word(out, word, table_entry(pointers, base + used as u64));
     write_table(
         out,
         base,
@@ -72,7 +72,7 @@ fn write_table(
     base: u64,
     used: usize,
     windows: &[Window],
-    pointers: &Rights,
+    pointers: Rights,
     level: u32,
     table: usize,
     parent: u64,
@@ -86,7 +86,7 @@ fn write_table(
     requires room { 4096 * (used + needs windows.now level (512 * parent) 512) ≤ length out.old }
     ensures few { result ≤ used + needs windows.now level (512 * parent) 512 }
     ensures more { used ≤ result }
-    ensures numbered { AreNumbered pointers.now (word_at out.new) base used result windows.now level table (λ g. g / entry_size level / 512 ≡ parent) }
+    ensures numbered { AreNumbered pointers (word_at out.new) base used result windows.now level table (λ g. g / entry_size level / 512 ≡ parent) }
     ensures rest { (j : ℕ) → j < 512 * used → j / 512 ≢ table → word_at out.new j ≡ word_at out.old j }
     ensures beyond { (j : ℕ) → 512 * result ≤ j → word_at out.new j ≡ word_at out.old j }
 {
@@ -128,7 +128,7 @@ pub fn write_tables(windows: &[Window], pointers: Rights, at: u64, out: &mut [u8
     ensures len { length out.new ≡ length out.old }
 {
     out.fill(0);
-    write_table(out, at / PAGE, 1, windows, &pointers, PML4_LEVEL, 0, 0)
+    write_table(out, at / PAGE, 1, windows, pointers, PML4_LEVEL, 0, 0)
 }
 
 /// Writes the EPT tables for these windows into `out`, which is to lie at the physical address `at`
@@ -154,7 +154,7 @@ pub fn emit(windows: &[Window], at: u64, out: &mut [u8])
     ensures entries { (addr : ℕ) → addr < 2 ^ 48 → IsWritten Rwx (word_at out.new) (at / 4096) 1 (ept_pages (ranges_of windows.now)) windows.now 3 0 addr }
     ensures len { length out.new ≡ length out.old }
 {
-    write_tables(windows, Rights::rwx(), at, out);
+    write_tables(windows, Rights::Rwx, at, out);
 }
 
 /// The extended-page-table pointer of tables whose PML4 table is at `at`: memory type write back, walks

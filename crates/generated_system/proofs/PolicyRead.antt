@@ -15,7 +15,7 @@ use Rattle.policy_json.specs.Table as table
 use Rattle.policy_json.specs.Values.{read_hexadecimal, read_items, read_list, read_mode, read_name, read_number, read_rights, read_role}
 use Rattle.policy_lawful.specs.refusal.Fault.{Fault}
 use Rattle.policy_lawful.specs.refusal.Want.TheVariants.{Hexadecimal}
-use Rattle.policy_lawful.specs.Rights.{Rx}
+use Rattle.policy_lawful.specs.rights.Rights.TheVariants.{Rx}
 use Rattle.serde_json.specs.Data.{Data, member, no_members, number, object, string, unsigned}
 use Rattle.serde_json.specs.Read.{read}
 use Rattle.serde_json.specs.View.{items_of}

@@ -9,7 +9,7 @@ use Rattle.muen_num.specs.declared.access.AccessSize.TheVariants.{One, Eight}
 use Rattle.muen_num.specs.declared.limits.TheConstants.{PAGE}
 use Rattle.muen_num.specs.declared.mode.EventMode.TheVariants.{Asap}
 use Rattle.policy_lawful.specs.rights.Caching.TheVariants.{Wb}
-use Rattle.policy_lawful.specs.Rights.{Rx}
+use Rattle.policy_lawful.specs.rights.Rights.TheVariants.{Rx}
 use Rattle.policy_lawful.specs.rights.Role.TheVariants.{Writer, Reader}
 use Rattle.policy_lawful.specs.source.Block.{Block}
 use Rattle.policy_lawful.specs.source.Channel.{Channel}

@@ -10,7 +10,8 @@ use Rattle.muen_num.specs.Tag.{tag_text}
 use Rattle.muen_num.specs.declared.tag.Tag.{Tag}
 use Rattle.policy_lawful.specs.Thing.{Item, device_items, thing_tag}
 use Rattle.policy_lawful.specs.Windows.{windows_of}
-use Rattle.policy_lawful.specs.Rights.{R, Rights, Rw, Rwx, Rx}
+use Rattle.policy_lawful.specs.rights.Rights.{Rights}
+use Rattle.policy_lawful.specs.rights.Rights.TheVariants.{R, Rw, Rx, Rwx}
 use Rattle.policy_lawful.specs.source.Source.{Source}
 use Rattle.policy_lawful.specs.source.Subject.{Subject}
 use Rattle.region_alloc.specs.Placement.{placement_of}

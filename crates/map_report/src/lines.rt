@@ -12,11 +12,11 @@ fn rights_text(rights: Rights) -> &'static [u8]
     ensures value { result.now ≡ rights_text rights }
     ensures within { length result.now ≤ 3 }
 {
-    match (rights.may_write(), rights.may_execute()) {
-        (false, false) => b"r",
-        (true, false) => b"rw",
-        (false, true) => b"rx",
-        (true, true) => b"rwx",
+    match rights {
+        Rights::R => b"r",
+        Rights::Rw => b"rw",
+        Rights::Rx => b"rx",
+        Rights::Rwx => b"rwx",
     }
 }
 

@@ -2,6 +2,7 @@ pub mod Accepting
 pub mod Checking
 pub mod Documents
 pub mod Emitting
+pub mod FilesDigested
 pub mod FilledByIndex
 pub mod Held
 pub mod LimitExamples

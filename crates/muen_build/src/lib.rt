@@ -17,6 +17,7 @@ ghost use Rattle.muen_build.specs.Filling.{filled_of};
 
 mod accepted;
 mod contents;
+mod file_hash;
 mod given;
 mod image_bytes;
 mod named;
@@ -24,11 +25,11 @@ mod things;
 
 pub use accepted::{Accepted, BuildError, ComponentFiles};
 use contents::check_all;
+use file_hash::hash_of_files;
 pub use given::Given;
 pub use image_bytes::{build, image};
 use muen_num::Seq;
 use muen_outside::Files;
-use named::hash_of_files;
 pub use named::names_file;
 use policy_lawful::{Lawful, Refusal};
 use region_alloc::Placed;

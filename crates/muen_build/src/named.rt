@@ -6,7 +6,7 @@ ghost use Rattle.policy_lawful.specs.Resolution.{source_of};
 ghost use Rattle.muen_build.specs.Looks.{is_of_file, names_file};
 
 use policy_lawful::source::{Content, Provided, Region};
-use policy_lawful::{Lawful, NameDigest, NameHash, Resolved};
+use policy_lawful::{Lawful, Resolved};
 
 // Whether a content is of the file of this name.
 fn is_of_file(file: &str, content: &Content) -> bool
@@ -50,25 +50,4 @@ pub fn names_file(policy: &Lawful, file: &str) -> bool
 {
     let policy = policy.resolved();
     memory_names(file, policy.memory()) || components_name(file, policy)
-}
-
-// Adds the file of a content, if it is of one.
-fn add_file(digest: &mut NameDigest, content: &Content) {
-    if let Content::File { name, .. } = content {
-        digest.add(*name);
-    }
-}
-
-/// Hashes of names behind the digest of those of the files that contents name.
-pub(crate) fn hash_of_files(policy: &Resolved) -> NameHash {
-    let mut digest = NameDigest::new();
-    for region in policy.memory() {
-        add_file(&mut digest, &region.content);
-    }
-    for component in policy.components() {
-        for x in component.provides.items() {
-            add_file(&mut digest, &x.content);
-        }
-    }
-    digest.hash()
 }

@@ -6,7 +6,7 @@ use Rattle.serde_json.specs.Find.{as_array}
 use Rattle.muen_num.specs.declared.mode.EventMode.{EventMode}
 use Rattle.policy_types.specs.declared.refusal.Fault.{Fault}
 use Rattle.policy_types.specs.declared.refusal.Want.TheVariants.{Number, Byte, Name, Rights as WantRights, Caching as WantCaching, Mode as WantMode, Role as WantRole, Hexadecimal, List as WantList}
-use Rattle.policy_types.specs.Rights.{Rights}
+use Rattle.policy_types.specs.declared.rights.Rights.{Rights}
 use Rattle.policy_types.specs.declared.rights.MsrRights.{MsrRights}
 use Rattle.policy_types.specs.declared.rights.Caching.{Caching}
 use Rattle.policy_types.specs.declared.rights.Role.{Role}

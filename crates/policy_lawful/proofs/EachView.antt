@@ -17,7 +17,7 @@ use Rattle.policy_lawful.specs.declared.resolved.Subject.{Subject}
 use Rattle.policy_lawful.specs.declared.resolved.Wanted.TheVariants.{Memory as WantedMemory, Channel as WantedChannel}
 use Rattle.policy_lawful.specs.declared.view.Shown.TheVariants.{Memory, Channel, Device, State}
 use Rattle.policy_lawful.specs.declared.view.View.{View}
-use Rattle.policy_types.specs.Rights.{Rights}
+use Rattle.policy_types.specs.declared.rights.Rights.{Rights}
 use Rattle.policy_types.specs.declared.rights.Role.{Role}
 use Rattle.policy_types.specs.declared.source.Channel.{Channel as SomeChannel}
 use Rattle.policy_types.specs.declared.source.Component.{Component}

@@ -8,7 +8,8 @@ use Rattle.policy_lawful.specs.Offences.{alone, two}
 use Rattle.policy_lawful.specs.Rules.{offence_1, offence_5, offence_8, offence_16, offence_17, first_overlap, window_extents}
 use Rattle.policy_lawful.specs.MoreRules.{offence_6, offence_9, offence_10, offence_11, offence_12, offence_13, offence_14, offence_15, offence_19}
 use Rattle.policy_meaning.specs.Windows.{windows_of}
-use Rattle.policy_types.specs.Rights.{R, Rights, Rw}
+use Rattle.policy_types.specs.declared.rights.Rights.{Rights}
+use Rattle.policy_types.specs.declared.rights.Rights.TheVariants.{R, Rw}
 use Rattle.policy_types.specs.declared.rights.Role.{Role}
 use Rattle.policy_types.specs.declared.rights.Role.TheVariants.{Writer, Reader}
 use Rattle.policy_types.specs.declared.rights.Caching.TheVariants.{Wb}

@@ -15,7 +15,8 @@ use Rattle.policy_meaning.specs.Thing.{component_by}
 use Rattle.policy_meaning.specs.Events.{ChannelEnd, channel_ends, traps_of}
 use Rattle.policy_lawful.specs.declared.offence.Extent.{Extent}
 use Rattle.policy_lawful.specs.declared.offence.Offence.{Offence}
-use Rattle.policy_types.specs.Rights.{Rights, includes}
+use Rattle.policy_types.specs.Rights.{includes}
+use Rattle.policy_types.specs.declared.rights.Rights.{Rights}
 use Rattle.policy_types.specs.declared.rights.Role.{Role}
 use Rattle.policy_types.specs.declared.rights.Role.TheVariants.{Writer, Reader}
 use Rattle.policy_types.specs.declared.source.Source.{Source}

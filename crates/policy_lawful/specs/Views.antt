@@ -16,7 +16,7 @@ use Rattle.policy_lawful.specs.declared.resolved.Wanted.TheVariants.{Memory as W
 use Rattle.policy_lawful.specs.Events.{ChannelEnd}
 use Rattle.policy_lawful.specs.Thing.{Thing, region, channel, provided, device_memory, state}
 use Rattle.policy_lawful.specs.Windows.{Window, window, role_rights}
-use Rattle.policy_types.specs.Rights.{Rights}
+use Rattle.policy_types.specs.declared.rights.Rights.{Rights}
 use Rattle.policy_types.specs.declared.rights.Role.{Role}
 use Rattle.policy_types.specs.declared.source.Component.{Component}
 use Rattle.policy_types.specs.declared.source.ComponentChannel.{ComponentChannel}

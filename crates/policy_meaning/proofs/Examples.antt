@@ -10,7 +10,7 @@ use Rattle.policy_meaning.specs.Events.{event_of, irq_of, traps_of}
 use Rattle.policy_meaning.specs.Frames.{frames_of}
 use Rattle.policy_meaning.specs.Thing.{Thing, region, channel, provided, device_memory, device_items, item_of, items_of, placed_items, things_of}
 use Rattle.policy_meaning.specs.Windows.{Window, window, windows_of, access_of, byte, violation}
-use Rattle.policy_types.specs.Rights.{R, Rw, Rx}
+use Rattle.policy_types.specs.declared.rights.Rights.TheVariants.{R, Rw, Rx}
 use Rattle.policy_types.specs.declared.rights.Caching.TheVariants.{Wb}
 use Rattle.policy_types.specs.declared.rights.Role.TheVariants.{Writer, Reader}
 use Rattle.policy_types.specs.declared.source.Source.{Source}

@@ -1,14 +1,9 @@
 -- What rights of a window allow, and their bits (Intel SDM volume 3, EPT entries).
-use Rattle.std.specs.Prelude.{ℕ, ◌&&◌, ◌||◌, ◌==◌, Bool, true, false, not, Option, Some, None, if◌then◌else◌}
+use Rattle.std.specs.Prelude.{ℕ, ◌&&◌, ◌||◌, Bool, true, false, not, Option, Some, None}
 use Rattle.muen_num.specs.declared.access.AccessKind.{AccessKind}
 use Rattle.muen_num.specs.declared.access.AccessKind.TheVariants.{Read, Write, Fetch}
-
--- what may be done with a window of memory: each may be read
-pub data Rights : Type 0 where
-  R : Rights
-  Rw : Rights
-  Rx : Rights
-  Rwx : Rights
+use Rattle.policy_types.specs.declared.rights.Rights.{Rights}
+use Rattle.policy_types.specs.declared.rights.Rights.TheVariants.{R, Rw, Rx, Rwx}
 
 abbrev pub may_write : Rights → Bool
 may_write R = false
@@ -38,10 +33,6 @@ rights_bits R = 1
 rights_bits Rw = 3
 rights_bits Rx = 5
 rights_bits Rwx = 7
-
--- the rights that have these bits; where no rights of a window have them, any
-abbrev pub rights_with : ℕ → Rights
-rights_with bits = if bits == 3 then Rw else if bits == 5 then Rx else if bits == 7 then Rwx else R
 
 -- the bit of the right that a kind of access needs
 abbrev pub right_for : AccessKind → ℕ

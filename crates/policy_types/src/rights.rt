@@ -1,13 +1,12 @@
 ghost use Rattle.std.specs.Prelude.{⊤, ◌≡◌, [], ◌∷◌, codes};
-ghost use Rattle.policy_types.specs.Rights.{R, Rw, Rwx, Rx, allows, includes, may_execute, may_write, rights_bits};
+ghost use Rattle.policy_types.specs.Rights.{allows, includes, may_execute, may_write, rights_bits};
 
 use bitflags::{Flag, Flags, bitflag_items};
 use muen_num::AccessKind;
-use std::marker::Model;
 
 /// Any set of the rights to read, to write and to execute: the low three bits of an EPT entry (Intel
 /// SDM volume 3, EPT).
-#[derive(Clone, Copy, Debug, PartialEq, Eq)]
+#[derive(Clone, Copy, Debug)]
 pub struct RightSet(u8);
 
 bitflag_items! {
@@ -56,98 +55,72 @@ impl From<AccessKind> for RightSet {
     }
 }
 
-/// What may be done with a window of memory: `r`, `rw`, `rx` or `rwx`. Contracts see which of the
-/// four. So each may be read.
-#[derive(Clone, Copy, Debug, PartialEq, Eq)]
-pub struct Rights {
-    set: RightSet,
+/// What may be done with a window of memory: one of four sets of rights. Each may be read.
+#[derive(Clone, Copy, PartialEq, Eq, Debug)]
+pub enum Rights {
+    /// To read.
+    R,
+    /// To read and to write.
+    Rw,
+    /// To read and to execute.
+    Rx,
+    /// To read, to write and to execute.
+    Rwx,
 }
 
-impl Model for Rights {
+/// The rights as a set.
+impl From<Rights> for RightSet {
     ghost use Rattle.std.specs.Prelude.{◌≡◌};
-    ghost use Rattle.policy_types.specs.Rights.{Rights as OneOfFour, rights_bits, rights_with};
+    ghost use Rattle.policy_types.specs.Rights.{rights_bits};
 
-    ghost Value = { OneOfFour };
+    ghost from_gives = { λ rights set. set.0 ≡ rights_bits rights };
 
-    ghost view = { λ r. rights_with r.set.0 };
-
-    ghost invariant = { λ r. rights_bits (rights_with r.set.0) ≡ r.set.0 };
-
-    ghost inverse = { λ rights. record { set = record { 0 = rights_bits rights } } };
+    #[tactic(auto, unfolding(bitflags::proofs::OnLiterals::bitflags_on_literals))]
+    fn from(rights: Rights) -> RightSet {
+        match rights {
+            Rights::R => RightSet::READ,
+            Rights::Rw => RightSet::READ.union(RightSet::WRITE),
+            Rights::Rx => RightSet::READ.union(RightSet::EXECUTE),
+            Rights::Rwx => RightSet::all(),
+        }
+    }
 }
 
 impl Rights {
-    /// To read.
-    pub fn r() -> Rights
-        ensures { result ≡ R }
-    {
-        Rights {
-            set: RightSet::READ,
-        }
-    }
-
-    /// To read and to write.
-    pub fn rw() -> Rights
-        ensures { result ≡ Rw }
-    {
-        Rights {
-            set: RightSet::READ.union(RightSet::WRITE),
-        }
-    }
-
-    /// To read and to execute.
-    pub fn rx() -> Rights
-        ensures { result ≡ Rx }
-    {
-        Rights {
-            set: RightSet::READ.union(RightSet::EXECUTE),
-        }
-    }
-
-    /// To read, to write and to execute.
-    #[tactic(auto, unfolding(bitflags::proofs::OnLiterals::bitflags_on_literals))]
-    pub fn rwx() -> Rights
-        ensures { result ≡ Rwx }
-    {
-        Rights {
-            set: RightSet::all(),
-        }
-    }
-
     /// The low three bits of an EPT entry: 1 to read, 2 to write, 4 to execute (Intel SDM volume 3,
     /// EPT).
     pub fn bits(self) -> u8
         ensures { result ≡ rights_bits self }
     {
-        self.set.bits()
+        RightSet::from(self).bits()
     }
 
     /// Whether writing is among them.
     pub fn may_write(self) -> bool
         ensures { result ≡ may_write self }
     {
-        self.set.contains(RightSet::WRITE)
+        RightSet::from(self).contains(RightSet::WRITE)
     }
 
     /// Whether executing is among them.
     pub fn may_execute(self) -> bool
         ensures { result ≡ may_execute self }
     {
-        self.set.contains(RightSet::EXECUTE)
+        RightSet::from(self).contains(RightSet::EXECUTE)
     }
 
     /// Whether each right of the others is among them.
     pub fn includes(self, others: Rights) -> bool
         ensures { result ≡ includes self others }
     {
-        self.set.contains(others.set)
+        RightSet::from(self).contains(RightSet::from(others))
     }
 
     /// Whether the right that a kind of access needs is among them.
     pub fn allows(self, kind: AccessKind) -> bool
         ensures { result ≡ allows self kind }
     {
-        self.set.contains(RightSet::from(kind))
+        RightSet::from(self).contains(RightSet::from(kind))
     }
 }
 

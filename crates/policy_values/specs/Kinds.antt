@@ -9,7 +9,8 @@ use Rattle.hex.specs.Hex.{decode_of}
 use Rattle.muen_num.specs.Naming.{name_of}
 use Rattle.muen_num.specs.declared.mode.EventMode.{EventMode}
 use Rattle.muen_num.specs.declared.mode.EventMode.TheVariants.{Asap, Async, Own, Switch}
-use Rattle.policy_types.specs.Rights.{R, Rights, Rw, Rwx, Rx}
+use Rattle.policy_types.specs.declared.rights.Rights.{Rights}
+use Rattle.policy_types.specs.declared.rights.Rights.TheVariants.{R, Rw, Rx, Rwx}
 use Rattle.policy_types.specs.declared.rights.MsrRights.{MsrRights}
 use Rattle.policy_types.specs.declared.rights.Caching.{Caching}
 use Rattle.policy_types.specs.declared.rights.Caching.TheVariants.{Uc, Wc, Wt, Wp, Wb}

@@ -20,10 +20,10 @@ fn rights_from(text: &str) -> Option<Rights>
     ensures { result ≡ rights_from text.now }
 {
     match text {
-        "r" => Some(Rights::r()),
-        "rw" => Some(Rights::rw()),
-        "rx" => Some(Rights::rx()),
-        "rwx" => Some(Rights::rwx()),
+        "r" => Some(Rights::R),
+        "rw" => Some(Rights::Rw),
+        "rx" => Some(Rights::Rx),
+        "rwx" => Some(Rights::Rwx),
         _ => None,
     }
 }

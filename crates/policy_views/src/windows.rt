@@ -24,8 +24,8 @@ fn role_rights(role: Role) -> Rights
     ensures { result ≡ role_rights role }
 {
     match role {
-        Role::Writer => Rights::rw(),
-        Role::Reader => Rights::r(),
+        Role::Writer => Rights::Rw,
+        Role::Reader => Rights::R,
     }
 }
 

@@ -28,7 +28,8 @@ use Rattle.policy_lawful.specs.declared.resolved.Subject.{Subject}
 use Rattle.policy_lawful.proofs.SourceElements.{parts_in_range}
 use Rattle.policy_lawful.specs.Thing.{Thing}
 use Rattle.policy_lawful.specs.Windows.{access_by, access_of, byte, holds, violation, windows_of}
-use Rattle.policy_lawful.specs.Rights.{Rights, allows, rights_bits}
+use Rattle.policy_lawful.specs.Rights.{allows, rights_bits}
+use Rattle.policy_lawful.specs.rights.Rights.{Rights}
 use Rattle.policy_lawful.specs.Views.{thing_shown, view_window, views_of}
 use Rattle.policy_lawful.specs.declared.view.View.{View}
 use Rattle.policy_lawful.proofs.WindowsByIndex.{windows_by_index}

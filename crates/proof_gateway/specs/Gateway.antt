@@ -3,7 +3,7 @@
 use Rattle.std.specs.Prelude.{ℕ, List, [], ◌∷◌, ◌++◌, Some, None, codes}
 use Rattle.proof_isolation.specs.mode.EventMode.{EventMode}
 use Rattle.proof_isolation.specs.mode.EventMode.TheVariants.{Asap, Async}
-use Rattle.policy_lawful.specs.Rights.{Rw, Rx}
+use Rattle.policy_lawful.specs.rights.Rights.TheVariants.{Rw, Rx}
 use Rattle.policy_lawful.specs.rights.Caching.TheVariants.{Wb}
 use Rattle.policy_lawful.specs.rights.Role.TheVariants.{Writer, Reader}
 use Rattle.policy_lawful.specs.source.Channel.{Channel}

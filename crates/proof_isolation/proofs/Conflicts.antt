@@ -16,7 +16,8 @@ use Rattle.policy_lawful.specs.Events.{ChannelEnd, channel_ends, reads_from}
 use Rattle.policy_lawful.specs.Thing.{Thing, channel, device_memory, provided, region, same_thing, state}
 use Rattle.policy_lawful.specs.Windows.{Window, role_rights, windows_of}
 use Rattle.policy_lawful.proofs.KeptRules.{rules_of}
-use Rattle.policy_lawful.specs.Rights.{Rights, allows}
+use Rattle.policy_lawful.specs.Rights.{allows}
+use Rattle.policy_lawful.specs.rights.Rights.{Rights}
 use Rattle.policy_lawful.specs.rights.Role.{Role}
 use Rattle.policy_lawful.specs.rights.Role.TheVariants.{Reader, Writer}
 use Rattle.policy_lawful.specs.source.Channel.{Channel}

@@ -8,7 +8,7 @@ use Rattle.muen_num.proofs.Members.{In, append_some, filter_map_in, find_in, fla
 use Rattle.policy_lawful.specs.Events.{ChannelEnd, channel_ends, component_ends}
 use Rattle.policy_lawful.specs.Thing.{Thing, channel, component_by, device_memory, provided, region, state}
 use Rattle.policy_lawful.specs.Windows.{Window, channel_window, component_channel_window, component_windows, device_window, entry_of, monitor_window, region_window, required_window, role_rights, window, windows_of}
-use Rattle.policy_lawful.specs.Rights.{Rights}
+use Rattle.policy_lawful.specs.rights.Rights.{Rights}
 use Rattle.policy_lawful.specs.source.Channel.{Channel}
 use Rattle.policy_lawful.specs.source.ChannelUse.{ChannelUse}
 use Rattle.policy_lawful.specs.source.Component.{Component}

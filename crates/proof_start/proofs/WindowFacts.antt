@@ -25,7 +25,8 @@ use Rattle.policy_lawful.specs.declared.offence.Offence.{Offence}
 use Rattle.policy_lawful.specs.Contents.{Held, initial_bytes}
 use Rattle.policy_lawful.specs.Thing.{Thing, channel, component_by, device_memory, provided, region, same_thing, state, things_of}
 use Rattle.policy_lawful.specs.Windows.{Window, access_by, access_of, byte, channel_window, component_channel_window, component_windows, device_window, entry_of, holds, monitor_window, region_window, required_window, role_rights, violation, window, windows_of}
-use Rattle.policy_lawful.specs.Rights.{Rights, allows, may_execute}
+use Rattle.policy_lawful.specs.Rights.{allows, may_execute}
+use Rattle.policy_lawful.specs.rights.Rights.{Rights}
 use Rattle.policy_lawful.specs.rights.Role.{Role}
 use Rattle.policy_lawful.specs.source.Channel.{Channel}
 use Rattle.policy_lawful.specs.source.ChannelUse.{ChannelUse}

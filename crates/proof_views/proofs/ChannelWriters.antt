@@ -18,9 +18,10 @@ use Rattle.policy_lawful.specs.Events.{ChannelEnd, channel_ends, component_ends}
 use Rattle.policy_lawful.specs.Lawful.{IsLawful}
 use Rattle.policy_lawful.specs.MoreRules.{ends_of_channel, fits_event, is_connected, is_writer, offence_6, readers_of, writers_of}
 use Rattle.policy_lawful.specs.Offences.{alone}
-use Rattle.policy_lawful.specs.Rights.{Rights, allows}
+use Rattle.policy_lawful.specs.Rights.{allows}
 use Rattle.policy_lawful.specs.Thing.{Thing, channel, component_by, device_memory, provided, region, same_thing}
 use Rattle.policy_lawful.specs.Windows.{Window, channel_window, component_channel_window, component_windows, device_window, entry_of, monitor_window, region_window, required_window, role_rights, window, windows_of}
+use Rattle.policy_lawful.specs.rights.Rights.{Rights}
 use Rattle.policy_lawful.specs.rights.Role.{Role}
 use Rattle.policy_lawful.specs.rights.Role.TheVariants.{Reader, Writer}
 use Rattle.policy_lawful.specs.source.Channel.{Channel}

@@ -149,13 +149,13 @@ fn small(guest: u64, address: u64, rights: Rights, caching: Caching) -> Window {
 
 #[test]
 fn a_large_page_beside_a_small_one(rt: HostRuntime) -> Result<(), Fail> {
-    let rights = Rights::rx();
+    let rights = Rights::Rx;
     let code = small(0x40_0000, 0x10_7000, rights, Caching::Wb);
     let data = Window {
         guest: 0x80_0000,
         size: LARGE_PAGE,
         address: 0x20_0000,
-        rights: Rights::rw(),
+        rights: Rights::Rw,
         caching: Caching::Wb,
         leaf: Leaf::Large,
     };
@@ -177,7 +177,7 @@ fn a_page_of_a_gigabyte(rt: HostRuntime) -> Result<(), Fail> {
         guest: 0x4000_0000,
         size: 0x4000_0000,
         address: 0x8000_0000,
-        rights: Rights::rw(),
+        rights: Rights::Rw,
         caching: Caching::Wb,
         leaf: Leaf::Huge,
     };
@@ -188,7 +188,7 @@ fn a_page_of_a_gigabyte(rt: HostRuntime) -> Result<(), Fail> {
 
 #[test]
 fn the_highest_page(rt: HostRuntime) -> Result<(), Fail> {
-    let window = small(0xffff_ffff_f000, 0x10_6000, Rights::r(), Caching::Uc);
+    let window = small(0xffff_ffff_f000, 0x10_6000, Rights::R, Caching::Uc);
     let expected = [
         (0, 511, 0x10_1007),
         (1, 511, 0x10_2007),

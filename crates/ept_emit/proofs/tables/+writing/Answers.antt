@@ -7,10 +7,10 @@ use Rattle.ept_emit.proofs.Numbered.{entry_in, entry_small, numbered_free, numbe
 use Rattle.ept_emit.proofs.tables.+writing.Goals as goal
 
 pub write_entry-returns-in_default-clause-numbered : goal.write_entry-returns-in_default-clause-numbered
-write_entry-returns-in_default-clause-numbered t c = numbered_free c.args.pointers.now _ c.args.base c.args.used c.args.windows.now c.args.level c.args.table c.args.entry c.set_word.ensures.here (sym c.window_on.ensures.value ∙ c.in_default.is)
+write_entry-returns-in_default-clause-numbered t c = numbered_free c.args.pointers _ c.args.base c.args.used c.args.windows.now c.args.level c.args.table c.args.entry c.set_word.ensures.here (sym c.window_on.ensures.value ∙ c.in_default.is)
 
 pub write_entry-returns-then-is_whole-clause-numbered : goal.write_entry-returns-then-is_whole-clause-numbered
-write_entry-returns-then-is_whole-clause-numbered t c = numbered_leaf c.args.pointers.now _ c.args.base c.args.used c.args.windows.now c.args.level c.args.table c.args.entry c.in-Some.window (c.set_word-then-is_whole.ensures.here ∙ c.leaf_entry.ensures) (sym c.window_on.ensures.value ∙ c.in-Some.is) (sym c.is_whole.ensures ∙ c.if-is_whole.true)
+write_entry-returns-then-is_whole-clause-numbered t c = numbered_leaf c.args.pointers _ c.args.base c.args.used c.args.windows.now c.args.level c.args.table c.args.entry c.in-Some.window (c.set_word-then-is_whole.ensures.here ∙ c.leaf_entry.ensures) (sym c.window_on.ensures.value ∙ c.in-Some.is) (sym c.is_whole.ensures ∙ c.if-is_whole.true)
 
 pub write_entry-table_entry-requires : goal.write_entry-table_entry-requires
 write_entry-table_entry-requires t c =
@@ -41,7 +41,7 @@ write_entry-returns-clause-numbered t c =
     let part = sym c.is_whole.ensures ∙ c.if-is_whole.false in
     let high = not_lowest c.in-Some.window c.args.level c.args.entry part in
     let at = c.write_table.ensures.rest word (omega arith) (λ h. omega arith) ∙ (c.set_word-2.ensures.here ∙ c.table_entry.ensures) in
-    numbered_table_at c.args.pointers.now (word_at c.write_table.new.out) c.args.base c.args.used c.write_table.result c.args.windows.now c.args.level c.args.table c.args.entry c.in-Some.window high at some part (omega (arith, c.write_table.ensures.more)) c.write_table.ensures.numbered
+    numbered_table_at c.args.pointers (word_at c.write_table.new.out) c.args.base c.args.used c.write_table.result c.args.windows.now c.args.level c.args.table c.args.entry c.in-Some.window high at some part (omega (arith, c.write_table.ensures.more)) c.write_table.ensures.numbered
 
 pub write_table-overflow_mul-parent : goal.write_table-overflow_mul-parent
 write_table-overflow_mul-parent t c = omega (arith, entry_small c.args.level (512 * c.args.parent + 0) (2 ^ 48) (entry_in c.args.level c.args.parent 0 (2 ^ 48) c.requires.parent (omega arith)))
@@ -63,9 +63,9 @@ write_table-loop-i-preserved t c =
       few = omega (arith, needs_add c.args.windows.now l (512 * p) c.loop-i.i 1);
       more = omega arith;
       beyond = λ j h. c.write_entry-top.ensures.beyond j h ∙ c.loop-i.invariant.beyond j (omega (arith, c.write_entry-top.ensures.more));
-      numbered = one_more c.args.pointers.now (word_at c.loop-i.out) (word_at c.write_entry-top.new.out) c.args.base c.args.used c.loop-i.top c.write_entry-top.result c.args.windows.now l c.args.table p c.loop-i.i c.requires.table c.loop-i.invariant.more c.write_entry-top.ensures.more c.loop-i-test.true c.loop-i.invariant.numbered c.write_entry-top.ensures.numbered c.write_entry-top.ensures.rest;
+      numbered = one_more c.args.pointers (word_at c.loop-i.out) (word_at c.write_entry-top.new.out) c.args.base c.args.used c.loop-i.top c.write_entry-top.result c.args.windows.now l c.args.table p c.loop-i.i c.requires.table c.loop-i.invariant.more c.write_entry-top.ensures.more c.loop-i-test.true c.loop-i.invariant.numbered c.write_entry-top.ensures.numbered c.write_entry-top.ensures.rest;
       rest = λ j lt ne. c.write_entry-top.ensures.rest j (omega arith) (λ h. ne (omega arith)) ∙ c.loop-i.invariant.rest j lt ne;
     }
 
 pub write_table-returns-clause-numbered : goal.write_table-returns-clause-numbered
-write_table-returns-clause-numbered t c = whole_table c.args.pointers.now (word_at c.loop-i.out) c.args.base c.args.used c.loop-i.top c.args.windows.now c.args.level c.args.table c.args.parent c.loop-i.i (omega arith) c.loop-i.invariant.numbered
+write_table-returns-clause-numbered t c = whole_table c.args.pointers (word_at c.loop-i.out) c.args.base c.args.used c.loop-i.top c.args.windows.now c.args.level c.args.table c.args.parent c.loop-i.i (omega arith) c.loop-i.invariant.numbered

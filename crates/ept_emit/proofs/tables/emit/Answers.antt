@@ -1,5 +1,5 @@
 use Rattle.std.proofs.Common.{◌/◌, arith, refl}
-use Rattle.policy_types.specs.Rights.{Rwx}
+use Rattle.policy_types.specs.declared.rights.Rights.TheVariants.{Rwx}
 use Rattle.ept_emit.specs.Pages.{ept_pages, ranges_of}
 use Rattle.ept_emit.specs.Emitted.{window_at}
 use Rattle.ept_emit.specs.Entries.{word_at}
