@@ -6,7 +6,7 @@ ghost use Rattle.policy_lawful.specs.Offences.{broken};
 ghost use Rattle.policy_lawful.specs.Rules.{logical_names};
 ghost use Rattle.policy_names.specs.Parts.{component_repeats, device_repeats, names_of_device, names_of_wanted, repeats};
 
-use crate::declared::{declare, names_of};
+use crate::declared::{declare, names_hashed, names_of};
 use muen_num::Seq;
 use policy_lawful::source::{Component, Device};
 use policy_lawful::{NameDigest, NameSet, Named, Refusal};
@@ -93,7 +93,7 @@ fn collect_logical_names(alloc: Global, component: &Component) -> Result<NameSet
     digest.add_all(provides);
     digest.add_all(regions);
     digest.add_all(channels);
-    let provided = declare(NameSet::new(alloc, digest.hash()), provides)?;
+    let provided = names_hashed(alloc, digest.hash(), provides)?;
     let with_regions = declare(provided, regions)?;
     declare(with_regions, channels)
 }
@@ -128,7 +128,7 @@ pub fn collect_both<T: Named, U: Named>(
     let mut digest = NameDigest::new();
     digest.add_all(items);
     digest.add_all(more);
-    let together = declare(NameSet::new(alloc, digest.hash()), items)?;
+    let together = names_hashed(alloc, digest.hash(), items)?;
     declare(together, more)?;
     Ok((names_of(alloc, items)?, names_of(alloc, more)?))
 }
