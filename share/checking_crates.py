@@ -1,36 +1,33 @@
 """What crates.txt promises: each crate behind those that it cites, in its room, and its README with how many stand on it."""
 import re
 
-from checking import TOP, want
+from checking import TOP, Case, each, want
 from crate_list import count_line, crates, readme
 
 
-def checks():
-    """Each check with its name."""
-    yield "crates.txt is lowest first", lowest_first
-    yield "the rooms of crates.txt", rooms
-    for name in crates():
-        yield f"how many crates stand on {name}", lambda name=name: tells_count(name)
+class Crates(Case):
+    """crates.txt, the rooms of docs/architecture.md, and the READMEs of crates."""
 
+    def test_lowest_first(self):
+        """Each crate stands behind those that it cites."""
+        before = set()
+        for name, below in crates().items():
+            self.want([one for one in below if one not in before], [], f"what {name} cites and stands behind it")
+            before.add(name)
 
-def lowest_first():
-    """Each crate stands behind those that it cites."""
-    before = set()
-    for name, below in crates().items():
-        want([one for one in below if one not in before], [], f"what {name} cites and stands behind it")
-        before.add(name)
+    def test_rooms(self):
+        """The crates below each heading, which is `# ROOM` or `# ROOM (WHY)` behind an empty line, are those of docs/architecture.md."""
+        found = {}
+        for block in (TOP / "crates.txt").read_text(encoding="utf-8").split("\n\n")[1:]:
+            heading, *lines = block.splitlines()
+            room = re.fullmatch(r"# (.*?)(?: \(.*\))?", heading)[1]
+            found.setdefault(room, set()).update(line.split(":")[0] for line in lines)
+        rows = re.findall(r"(?m)^\| ([^|`]+) \| ((?:`\w+`(?:, )?)+) \|", (TOP / "docs" / "architecture.md").read_text(encoding="utf-8"))
+        self.want(set(found), {room for room, _ in rows}, "the rooms")
+        for room, names in rows:
+            self.want(found.get(room), set(re.findall(r"\w+", names)), f"the crates of the room {room}")
 
-
-def rooms():
-    """The crates below each heading, which is `# ROOM` or `# ROOM (WHY)` behind an empty line, are those of docs/architecture.md."""
-    found = {}
-    for block in (TOP / "crates.txt").read_text(encoding="utf-8").split("\n\n")[1:]:
-        heading, *lines = block.splitlines()
-        found.setdefault(re.fullmatch(r"# (.*?)(?: \(.*\))?", heading)[1], set()).update(line.split(":")[0] for line in lines)
-    rows = re.findall(r"(?m)^\| ([^|`]+) \| ((?:`\w+`(?:, )?)+) \|", (TOP / "docs" / "architecture.md").read_text(encoding="utf-8"))
-    want(found, {room: set(re.findall(r"\w+", names)) for room, names in rows}, "the crates of each room")
-
-
-def tells_count(name):
-    """The last line of its README."""
-    want(readme(name).read_text(encoding="utf-8").splitlines()[-1], count_line(name), "its last line (share/modules --count writes it)")
+    @each((f"how many crates stand on {name}", name) for name in crates())
+    def test_count(self, name):
+        """The last line of its README."""
+        want(readme(name).read_text(encoding="utf-8").splitlines()[-1], count_line(name), "its last line (share/modules --count writes it)")

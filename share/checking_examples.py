@@ -2,7 +2,7 @@
 import json
 import re
 
-from checking import EXAMPLES, PROGRAM, TOP, call, want
+from checking import EXAMPLES, PROGRAM, TOP, Case, call, each, want, with_program
 from looking.guest import TABLE, decode
 
 RULES = 24
@@ -14,26 +14,24 @@ def text_of(document):
     return (TOP / document).read_text(encoding="utf-8")
 
 
-def checks():
-    """Each check with its name."""
-    yield "an example of each key", each_key
-    yield "an example of each instruction", each_instruction
-    yield "an example of each mode, role and right", each_word
-    yield "an example of each line of a record", each_input
-    yield "a refusal by each rule", each_rule
-    yield "parts of sources in documents", excerpts
-    for where, *what in quoted():
-        yield f"the lines of {where}", lambda what=what: printed(*what)
-    for number, step in enumerate(steps(), 1):
-        yield f"step {number} of examples/README.md", lambda step=step: told(*step)
-
-
 def rows():
     """The cells of each row of the tables of examples/README.md whose first one is a policy."""
     for row in text_of("examples/README.md").splitlines():
         cells = [cell.strip() for cell in row.strip("|").split("|")]
         if re.fullmatch(r"`\S+\.json`", cells[0]):
             yield cells
+
+
+def readme_rows():
+    """Of each policy in the tables of examples/README.md its refusal, or none where it runs."""
+    for cells in rows():
+        line = re.fullmatch(r"`(muen: .*)`", cells[-1])
+        yield cells[0].strip("`"), line and line[1]
+
+
+# the examples that run, and those that are refused, with the line
+RUNNING = [name for name, line in readme_rows() if not line]
+REFUSED = [(name, line) for name, line in readme_rows() if line]
 
 
 # ---- everything has an example
@@ -63,49 +61,47 @@ def objects(kinds, kind, value):
                 yield from objects(kinds, below, item)
 
 
-def all_of(wanted, found, what):
-    """Nothing of what is wanted is missing."""
-    want(sorted(set(wanted) - set(found)), [], what)
+class Everything(Case):
+    """Everything has an example."""
 
+    def all_of(self, wanted, found, what):
+        """Nothing of what is wanted is missing."""
+        want(sorted(set(wanted) - set(found)), [], what)
 
-def each_key():
-    """Each key of each object of the schema stands in some policy."""
-    kinds = json.loads(text_of("share/policy.schema.json"))["$defs"]
-    found = {(kind, key) for policy in policies() for kind, value in objects(kinds, "System", policy) if isinstance(value, dict) for key in value}
-    wanted = {(kind, key) for kind in kinds if kind[0].isupper() for key in kinds[kind]["properties"] if key != "description"}
-    all_of(wanted, found, "keys without an example")
+    def test_key(self):
+        """Each key of each object of the schema stands in some policy."""
+        kinds = json.loads(text_of("share/policy.schema.json"))["$defs"]
+        found = {(kind, key) for policy in policies() for kind, value in objects(kinds, "System", policy) if isinstance(value, dict) for key in value}
+        wanted = {(kind, key) for kind in kinds if kind[0].isupper() for key in kinds[kind]["properties"] if key != "description"}
+        self.all_of(wanted, found, "keys without an example")
 
+    def test_instruction(self):
+        """Each instruction stands in the code of some policy that runs."""
+        found = set()
+        for policy in EXAMPLES.glob("*.json"):
+            for value in values(json.loads(policy.read_text(encoding="utf-8"))):
+                code = bytes.fromhex(value["hex"]) if isinstance(value, dict) and "hex" in value else b""
+                words = [decode(code[at:at + 8]) for at in range(0, len(code) - 7, 8)]
+                found |= {word.name for word in words if word}
+        self.all_of((row[0] for row in TABLE), found, "instructions without an example")
 
-def each_instruction():
-    """Each instruction stands in the code of some policy that runs."""
-    found = set()
-    for policy in EXAMPLES.glob("*.json"):
-        for value in values(json.loads(policy.read_text(encoding="utf-8"))):
-            code = bytes.fromhex(value["hex"]) if isinstance(value, dict) and "hex" in value else b""
-            words = [decode(code[at:at + 8]) for at in range(0, len(code) - 7, 8)]
-            found |= {word.name for word in words if word}
-    all_of((row[0] for row in TABLE), found, "instructions without an example")
+    def test_word(self):
+        """Each mode of events, role, right of a window and of MSRs, and each end of a line stands in some policy that runs."""
+        found = {(key, value[key]) for policy in EXAMPLES.glob("*.json") for value in values(json.loads(policy.read_text(encoding="utf-8")))
+                 if isinstance(value, dict) for key in ("mode", "hasEvent", "role", "rights") if isinstance(value.get(key), str)}
+        modes = {(key, mode) for key in ("mode", "hasEvent") for mode in ("asap", "async", "switch")}
+        self.all_of({*modes, ("mode", "self"), ("role", "writer"), ("role", "reader"), *(("rights", right) for right in ("r", "w", "rw", "rx", "rwx"))},
+                    found, "words without an example")
 
+    def test_input(self):
+        """Each kind of line stands in some record."""
+        found = {line.split()[0] for record in EXAMPLES.glob("*.record") for line in record.read_text(encoding="ascii").splitlines()}
+        self.all_of(("order", "port", "mem", "irq", "dma", "end"), found, "lines of a record without an example")
 
-def each_word():
-    """Each mode of events, role, right of a window and of MSRs, and each end of a line stands in some policy that runs."""
-    found = {(key, value[key]) for policy in EXAMPLES.glob("*.json") for value in values(json.loads(policy.read_text(encoding="utf-8")))
-             if isinstance(value, dict) for key in ("mode", "hasEvent", "role", "rights") if isinstance(value.get(key), str)}
-    modes = {(key, mode) for key in ("mode", "hasEvent") for mode in ("asap", "async", "switch")}
-    all_of({*modes, ("mode", "self"), ("role", "writer"), ("role", "reader"), *(("rights", right) for right in ("r", "w", "rw", "rx", "rwx"))},
-           found, "words without an example")
-
-
-def each_input():
-    """Each kind of line stands in some record."""
-    found = {line.split()[0] for record in EXAMPLES.glob("*.record") for line in record.read_text(encoding="ascii").splitlines()}
-    all_of(("order", "port", "mem", "irq", "dma", "end"), found, "lines of a record without an example")
-
-
-def each_rule():
-    """Each rule refuses some policy."""
-    found = [int(rule) for cells in rows() for rule in re.findall(r"^`muen: rule (\d+):", cells[-1])]
-    all_of(range(1, RULES + 1), found, "rules without a refusal")
+    def test_rule(self):
+        """Each rule refuses some policy."""
+        found = [int(rule) for cells in rows() for rule in re.findall(r"^`muen: rule (\d+):", cells[-1])]
+        self.all_of(range(1, RULES + 1), found, "rules without a refusal")
 
 
 # ---- what documents quote
@@ -126,17 +122,6 @@ def lines_in(text):
     return re.findall(r"(?m)(?:^|`)((?:\d+ \d|end|regs|region) \w[^`\n]*[^`.\n])(?:`|$)", text)
 
 
-def printed(policies, records, lines):
-    """Each line is printed of one of the policies with one of the records."""
-    found = set()
-    for policy in policies if lines else ():
-        for record in records or ["twenty_ticks.record"]:
-            done = call([PROGRAM, "boot", policy, record])
-            want((done.returncode, done.stderr), (0, b""), f"boot of {policy}")
-            found |= set(done.stdout.decode().splitlines())
-    want([line for line in lines if line not in found], [], "lines that aren't printed")
-
-
 def steps():
     """Each step of examples/README.md: its command, and the line that it prints."""
     for step in re.findall(r"(?m)^\d+\. .*$", text_of("examples/README.md")):
@@ -144,17 +129,33 @@ def steps():
         yield command, line
 
 
-def told(command, line):
-    """The command of a step prints the line."""
-    done = call(["bash", "-c", command])
-    want((done.returncode, line in done.stdout.decode().splitlines()), (0, True), line)
+class Quoted(Case):
+    """What documents quote is printed, or stands in a source."""
 
+    @with_program
+    @each((f"the lines of {where}", *what) for where, *what in quoted())
+    def test_printed(self, policies, records, lines):
+        """Each line is printed of one of the policies with one of the records."""
+        found = set()
+        for policy in policies if lines else ():
+            for record in records or ["twenty_ticks.record"]:
+                done = call([PROGRAM, "boot", policy, record])
+                self.want((done.returncode, done.stderr), (0, b""), f"boot of {policy} with {record}")
+                found |= set(done.stdout.decode().splitlines())
+        want([line for line in lines if line not in found], [], "lines that aren't printed")
 
-def excerpts():
-    """Each block of a document that begins with the name of a source is a part of it."""
-    count = 0
-    for document in sorted(TOP.glob("docs/*.md")):
-        for name, part in re.findall(r"(?ms)^```\n; (\w+/\w+\.asm)\n(.*?)^```", document.read_text(encoding="utf-8")):
-            count += 1
-            want(part in (EXAMPLES / name).read_text(encoding="utf-8"), True, f"{document.name}: the part of {name} is in it")
-    want(count > 0, True, "some document has a part of a source")
+    @with_program
+    @each((f"step {number} of examples/README.md", *step) for number, step in enumerate(steps(), 1))
+    def test_step(self, command, line):
+        """The command of a step prints the line."""
+        done = call(["bash", "-c", command])
+        want((done.returncode, line in done.stdout.decode().splitlines()), (0, True), line)
+
+    def test_excerpts(self):
+        """Each block of a document that begins with the name of a source is a part of it."""
+        count = 0
+        for document in sorted(TOP.glob("docs/*.md")):
+            for name, part in re.findall(r"(?ms)^```\n; (\w+/\w+\.asm)\n(.*?)^```", document.read_text(encoding="utf-8")):
+                count += 1
+                self.want(part in (EXAMPLES / name).read_text(encoding="utf-8"), True, f"{document.name}: the part of {name} is in it")
+        want(count > 0, True, "some document has a part of a source")

@@ -17,7 +17,9 @@ from dataclasses import dataclass
 from fractions import Fraction
 from itertools import groupby, product
 
-from checking import EXAMPLES, LOOK, PROGRAM, TOP, Wrong, call, look, looked, said, want
+from checking import EXAMPLES, LOOK, NO_DOT, PROGRAM, TOP, Case, Wrong, call, each, looked, said, want, with_program
+from checking_examples import RUNNING
+from checking_rules import POLICY
 from looking.draw_flows import dot_text
 from looking.draw_trace import KINDS, SLOT
 from looking.scene import scene_of
@@ -27,28 +29,6 @@ from looking.words import counted
 SVG = "{http://www.w3.org/2000/svg}"
 PICTURES = EXAMPLES / "pictures"
 LEAST_SIZE = 8
-
-
-def checks(examples, rules):
-    """Each check with its name; `examples` are the policies that run, `rules` is that of docs/rules.md."""
-    for name in examples:
-        for picture, check in (("trace", trace), ("plan", plan), ("matrix", matrix), ("flows", flows)):
-            yield f"look draw {picture} of examples/{name}", lambda name=name, check=check: of_example(name, check)
-        yield f"what is drawn of examples/{name} and of its image", lambda name=name: of_example(name, same_scene)
-    yield "look draw of the policy of docs/rules.md", lambda: of_rules(rules)
-    for name, rows in PLANS.items():
-        yield f"look draw plan of examples/{name}, by hand", lambda name=name, rows=rows: plan_is(EXAMPLES / name, rows)
-    yield "look draw plan of frames that are chosen, by hand", chosen_frames
-    yield "look draw trace of the gateway, by hand", lambda: of_example("gateway.json", gateway_arrows)
-    yield "look draw trace of packet_ring, by hand", lambda: of_example("packet_ring.json", above)
-    yield "look draw flows of the gateway, by hand", gateway_flows
-    yield "look draw, names of 63 letters", lambda: long_names(rules)
-    yield "look draw trace, printed in black and white", lightness
-    yield "faults of look draw", faults
-    there = [(name, picture) for name in examples for picture in pictures_of(name)]
-    for name, picture in there:
-        yield f"the picture {file_of(name, picture).relative_to(TOP)}", lambda name=name, picture=picture: stored(name, picture)
-    yield "no other pictures", lambda: want({file_of(*one) for one in there} >= set(PICTURES.iterdir()), True, "the files of examples/pictures")
 
 
 # ---- systems
@@ -202,26 +182,32 @@ LINES = [("inject", "event"), ("out", "output"), ("store", "store"), ("wrmsr", "
 CAUSED = re.compile(r"(\d+) \S+ \S+ .*\bevent \d+: (?:call|trap) \d+ of \S+ in tick (\d+)")
 
 
-def trace(built):
+def trace(case, built):
     """A cell for each line, in the place of its tick and its subject and with its kind's colour, and an arrow for each event."""
     told = [" ".join(line.split()) for line in looked("trace", built.image, built.text).splitlines()]
     middle = (int(built.lines[-1].split()[0]) + 1) // 2
     for begin, end, words in ((0, 150, []), (middle, middle + 40, ["--from", middle, "--until", middle + 40])):
-        seen = Seen(looked("draw", "trace", built.image, built.text, *words))
-        lines = {title: line for line, title in zip(built.lines, told) if begin <= int(line.split()[0]) < end}
-        cells = [(element, title) for element, title in seen.titled("rect") if re.match(r"\d+ \d ", title)]
-        want(Counter(title for _, title in cells), Counter(lines.keys()), "the cells")
-        seen.names(subject["name"] for subject in built.document["subjects"])
-        at, colours = tick_places(seen), legend(seen)
-        for element, title in cells:
-            is_cell(seen, element, lines[title], at, colours)
-        caused = Counter((match[2], match[1]) for match in map(CAUSED.match, lines) if match)
-        arrows = [(element, re.fullmatch(r"(arrow|handover) of tick (\d+) to tick (\d+)", title)) for element, title in seen.titled("path")]
-        drawn = Counter((match[2], match[3]) for _, match in arrows)
-        want(caused - drawn, Counter(), "events without an arrow")
-        want(Counter((match[2], match[3]) for _, match in arrows if match[1] == "arrow") - caused, Counter(), "arrows without an event")
-        for element, match in arrows:
-            is_arrow(element.get("d"), max(int(match[2]), begin), int(match[3]), at)
+        with case.subTest(f"ticks from {begin} until {end}"):
+            trace_between(built, told, begin, end, words)
+
+
+def trace_between(built, told, begin, end, words):
+    """The cells and arrows of these ticks."""
+    seen = Seen(looked("draw", "trace", built.image, built.text, *words))
+    lines = {title: line for line, title in zip(built.lines, told) if begin <= int(line.split()[0]) < end}
+    cells = [(element, title) for element, title in seen.titled("rect") if re.match(r"\d+ \d ", title)]
+    want(Counter(title for _, title in cells), Counter(lines.keys()), "the cells")
+    seen.names(subject["name"] for subject in built.document["subjects"])
+    at, colours = tick_places(seen), legend(seen)
+    for element, title in cells:
+        is_cell(seen, element, lines[title], at, colours)
+    caused = Counter((match[2], match[1]) for match in map(CAUSED.match, lines) if match)
+    arrows = [(element, re.fullmatch(r"(arrow|handover) of tick (\d+) to tick (\d+)", title)) for element, title in seen.titled("path")]
+    drawn = Counter((match[2], match[3]) for _, match in arrows)
+    want(caused - drawn, Counter(), "events without an arrow")
+    want(Counter((match[2], match[3]) for _, match in arrows if match[1] == "arrow") - caused, Counter(), "arrows without an event")
+    for element, match in arrows:
+        is_arrow(element.get("d"), max(int(match[2]), begin), int(match[3]), at)
 
 
 def tick_places(seen):
@@ -270,20 +256,20 @@ def lightness():
     want(min(later - earlier for earlier, later in zip(lights, lights[1:])) > 5, True, f"the lightness of kinds: {lights}")
 
 
-def gateway_arrows(built):
+def gateway_arrows(case, built):
     """Which calls of cipher lead to which events of black: those of the calls in the ticks 27 and 33 come in tick 34, since
     black had no tick before 30 and needed four to turn events on."""
     seen = Seen(looked("draw", "trace", built.image, built.text, "--until", 60))
     arrows = [f"arrow of tick {begin} to tick {end}" for begin, end in ((27, 34), (39, 40), (45, 46))]
-    want([title for _, title in seen.titled("path")], arrows, "arrows")
-    want([text.words for text in seen.texts if text.size == 8], ["5", "5", "5"], "the outputs in front of tick 60")
+    case.want([title for _, title in seen.titled("path")], arrows, "arrows")
+    case.want([text.words for text in seen.texts if text.size == 8], ["5", "5", "5"], "the outputs in front of tick 60")
     sums = Counter()
     for element, title in Seen(looked("draw", "trace", built.image, built.text, "--until", 5000)).titled("rect"):
         subject, count, kind = re.fullmatch(r"ticks \d+ to \d+ of (\S+): (\d+) (.*)", title).groups()
         sums[subject, kind] += int(count)
-    want(sums, Counter((line.split()[2], kind_of(line)) for line in built.lines), "the sums of all ticks")
+    case.want(sums, Counter((line.split()[2], kind_of(line)) for line in built.lines), "the sums of all ticks")
     grey = sorted(side(element, "y", "x", "width") for element in seen.root.iter(f"{SVG}rect") if element.get("fill") == SLOT)[1:]
-    want([round(one[2] / grey[0][2] * 30) for one in grey], [30, 10, 20, 10, 10, 10, 30], "the slots of plain, black, keys, slots, cipher")
+    case.want([round(one[2] / grey[0][2] * 30) for one in grey], [30, 10, 20, 10, 10, 10, 30], "the slots of plain, black, keys, slots, cipher")
 
 
 def above(built):
@@ -332,19 +318,25 @@ def chosen_frames():
                                                                ("ga", "a", "0", "3 of 6 / 1 of 5", "50 % / 20 %", "6 ticks")]))
 
 
-def plan(built):
+def plan(case, built):
     """A bar for each minor frame, in proportion to its ticks, and the rows as they come out tick by tick."""
     scheduling = built.document["scheduling"]
     titles = [group["name"] for group in scheduling["groups"]]
     for source, names in ((built.policy, titles), (built.image, [f"group {at}" for at in range(len(titles))])):
-        seen = Seen(looked("draw", "plan", source))
-        bars = {title: side(element, "width")[0] for element, title in seen.titled("rect") if title.startswith("major frame")}
-        wanted = {title: ticks for title, ticks in bars_of(scheduling, dict(zip(titles, names)))}
-        want(sorted(bars), sorted(wanted), "the bars")
-        for _, frame in groupby(sorted(bars), key=lambda title: title.split(",")[0]):
-            scales = [bars[title] / wanted[title] for title in frame]
-            want(max(scales) - min(scales) < .2, True, f"bars in proportion: {scales}")
-        want(groups_of(seen.rows()), [(name, *row) for name, row in zip(names, rows_of(scheduling))], "the rows of the groups")
+        with case.subTest(source.name):
+            plan_of(scheduling, dict(zip(titles, names)), source)
+
+
+def plan_of(scheduling, names, source):
+    """The bars and rows of a system whose groups have these names there."""
+    seen = Seen(looked("draw", "plan", source))
+    bars = {title: side(element, "width")[0] for element, title in seen.titled("rect") if title.startswith("major frame")}
+    wanted = {title: ticks for title, ticks in bars_of(scheduling, names)}
+    want(sorted(bars), sorted(wanted), "the bars")
+    for _, frame in groupby(sorted(bars), key=lambda title: title.split(",")[0]):
+        scales = [bars[title] / wanted[title] for title in frame]
+        want(max(scales) - min(scales) < .2, True, f"bars in proportion: {scales}")
+    want(groups_of(seen.rows()), [(name, *row) for name, row in zip(names.values(), rows_of(scheduling))], "the rows of the groups")
 
 
 def minor_frames(scheduling):
@@ -381,21 +373,27 @@ def rows_of(scheduling):
 
 # ---- the matrix
 
-def matrix(built):
+def matrix(case, built):
     """Of the image and of the policy: a cell for each window of `map`, and for all else that the policy grants."""
     regions = {words[2]: int(words[0], 16) for words in built.mapped("region")}
     for words, domain_name in ((built.sound, lambda at, _: str(at)), ([built.policy], lambda _, domain: domain["name"])):
-        seen = Seen(looked("draw", "matrix", *words))
-        cells = seen.titled("rect")
-        windows = [f"{subject} sees {shown} at {int(place, 16):x}, {rights}" for subject, place, _, rights, shown in built.mapped("window")]
-        want(Counter(title for _, title in cells), Counter([*windows, *granted(built.document, domain_name)]), "the cells")
-        seen.names(subject["name"] for subject in built.document["subjects"])
-        # the kernel's pages are left out, but for states that are monitored
-        shown = [name for name in regions if ":" not in name or any(f" sees {name} " in window for window in windows)]
-        seen.names(shown)
-        for name in shown if words is built.sound else ():
-            want(any(fact.startswith(f"{regions[name]:x}, ") for row in seen.rows() if name in row for fact in row), True, f"the place of {name}")
-        are_cells(seen, [(re.match(r"(.*) sees (\S+) at ", title), element) for element, title in cells])
+        with case.subTest(words[0].name):
+            matrix_of(built, regions, words, domain_name)
+
+
+def matrix_of(built, regions, words, domain_name):
+    """The cells, names and places of one of them."""
+    seen = Seen(looked("draw", "matrix", *words))
+    cells = seen.titled("rect")
+    windows = [f"{subject} sees {shown} at {int(place, 16):x}, {rights}" for subject, place, _, rights, shown in built.mapped("window")]
+    want(Counter(title for _, title in cells), Counter([*windows, *granted(built.document, domain_name)]), "the cells")
+    seen.names(subject["name"] for subject in built.document["subjects"])
+    # the kernel's pages are left out, but for states that are monitored
+    shown = [name for name in regions if ":" not in name or any(f" sees {name} " in window for window in windows)]
+    seen.names(shown)
+    for name in shown if words is built.sound else ():
+        want(any(fact.startswith(f"{regions[name]:x}, ") for row in seen.rows() if name in row for fact in row), True, f"the place of {name}")
+    are_cells(seen, [(re.match(r"(.*) sees (\S+) at ", title), element) for element, title in cells])
 
 
 def are_cells(seen, cells):
@@ -429,11 +427,11 @@ def granted(document, domain_name):
                    f" at {number(entry['virtualAddress']):x}, {entry['rights']}")
 
 
-def same_scene(built):
+def same_scene(case, built):
     """A policy and its image are drawn alike, but for the names and places that one of them lacks."""
     one, other = scene(built.policy), scene(built.image, built.tables)
     for part in ("cpus", "subjects", "things", "groups", "frames", "bodies", "choice", "choosers"):
-        want(getattr(one, part), getattr(other, part), part)
+        case.want(getattr(one, part), getattr(other, part), part)
 
 
 # ---- flows
@@ -454,35 +452,48 @@ def arrows_of(text):
             yield target, source, kind, label.split("\\n")
 
 
-def flows(built):
+def flows(case, built):
     """Over the arrows, those of devices left out, each subject is reached by those that `flows` prints; the arrows are the steps of
     `look ways`; and each subject and device is there, also as dot has laid it out."""
     printed = [line.split() for line in built.program("flows", built.policy).decode().splitlines()]
     steps = [re.match(r"(\S+) -> (\S+): (\S+) ", line).groups() for line in looked("ways", built.policy).splitlines()]
+    for words in ([built.policy], built.sound):
+        with case.subTest(words[0].name):
+            text = dot_text(scene(*words[::2]))
+            arrows_agree(case, text, printed, steps)
+            with case.subTest("as dot lays it out"):
+                laid_out(case, built, words, text)
+
+
+def arrows_agree(case, text, printed, steps):
+    """The arrows of a text for dot agree with what `flows` prints and with the steps of `look ways`."""
+    arrows = list(arrows_of(text))
     channels = {(source, target) for source, target, kind in steps if kind == "channel"}
     # events along a channel are on its arrow, and who chooses frames has one arrow to all
     wanted = {(source, target, kind) for source, target, kind in steps if kind not in ("device", "tau0")
               and not (kind == "event" and (source, target) in channels)}
     choosers = {source for source, _, kind in steps if kind == "tau0"}
-    for words in ([built.policy], built.sound):
-        text = dot_text(scene(*words[::2]))
-        arrows = list(arrows_of(text))
-        for _, name, _, *sources in printed:
-            want(reaching(name, arrows), set(sources), f"who reaches {name}")
-        want(len(arrows) - text.count("dir=both"), text.count(" -> "), "arrows that are understood")
-        want({(source, target, kind) for source, target, kind, _ in arrows if kind not in ("device", "tau0")}, wanted, "the arrows")
-        want({source for source, _, kind, _ in arrows if kind == "tau0"} >= choosers, True, "tau0")
-        over = {(source, other, "device") for source, device, kind, _ in arrows for begin, other, _, _ in arrows
-                if kind == "device" and device == begin and source != other and not source.startswith("device ")}
-        want(over, {step for step in steps if step[2] == "device"}, "ways over devices")
-        if shutil.which("dot"):
-            seen = Seen(looked("draw", "flows", *words))
-            names = [subject["name"] for subject in built.document["subjects"]]
-            seen.names(names)
-            for device in built.document.get("devices", []):
-                want(any(title.startswith("device ") and device["name"] in title for title in seen.titles), True, f"{device['name']} is there")
-            drawn = Counter(tuple(title.split("->")) for title in seen.titles if "->" in title)
-            want(sum(drawn.values()), text.count(" -> "), "the arrows that are drawn")
+    for _, name, _, *sources in printed:
+        case.want(reaching(name, arrows), set(sources), f"who reaches {name}")
+    case.want(len(arrows) - text.count("dir=both"), text.count(" -> "), "arrows that are understood")
+    case.want({(source, target, kind) for source, target, kind, _ in arrows if kind not in ("device", "tau0")}, wanted, "the arrows")
+    case.want({source for source, _, kind, _ in arrows if kind == "tau0"} >= choosers, True, "tau0")
+    over = {(source, other, "device") for source, device, kind, _ in arrows for begin, other, _, _ in arrows
+            if kind == "device" and device == begin and source != other and not source.startswith("device ")}
+    case.want(over, {step for step in steps if step[2] == "device"}, "ways over devices")
+
+
+def laid_out(case, built, words, text):
+    """Each subject, device and arrow is in the picture that dot makes."""
+    if not shutil.which("dot"):
+        case.skipTest(NO_DOT)
+    seen = Seen(looked("draw", "flows", *words))
+    names = [subject["name"] for subject in built.document["subjects"]]
+    seen.names(names)
+    for device in built.document.get("devices", []):
+        want(any(title.startswith("device ") and device["name"] in title for title in seen.titles), True, f"{device['name']} is there")
+    drawn = Counter(tuple(title.split("->")) for title in seen.titles if "->" in title)
+    want(sum(drawn.values()), text.count(" -> "), "the arrows that are drawn")
 
 
 def reaching(name, arrows):
@@ -493,13 +504,13 @@ def reaching(name, arrows):
     return reached
 
 
-def gateway_flows():
+def gateway_flows(case):
     """The text for dot where dot isn't there, and the arrows of docs/flows.md."""
     done = call([sys.executable, LOOK, "draw", "flows", "gateway.json"], env={"PATH": ""})
-    want((done.returncode, done.stderr), (0, b"look: graphviz's dot isn't there, so this is the text for it\n"), "without dot")
+    case.want((done.returncode, done.stderr), (0, b"look: graphviz's dot isn't there, so this is the text for it\n"), "without dot")
     net = ["ports 300 to 30f", "rx, vector 43"]
     channels = [("plain", "job", 40, "asap"), ("keys", "key", 41, "asap"), ("slots", "beat", 42, "async")]
-    want(list(arrows_of(done.stdout.decode())), [
+    case.want(list(arrows_of(done.stdout.decode())), [
         *((name, "cipher", "channel", [f"{channel}: call 1, {mode}, vector {vector}"]) for name, channel, vector, mode in channels),
         ("cipher", "black", "channel", ["sealed: call 1, asap, vector 40"]), ("black", "device net", "device", net), ("device net", "black", "device", net)], "the arrows")
 
@@ -520,25 +531,22 @@ def running(rules):
     return document
 
 
-def of_rules(rules):
-    """The same checks of the policy of docs/rules.md, and what it has that no example has."""
-    of_document(running(rules), of_rules_built)
-
-
-def of_rules_built(built):
-    """Call 2 of a hands the CPU to b, whose first turn is in tick 2. Call 1 of c comes in tick 3, and reaches b behind its STI of tick 4."""
+def of_rules(case, built):
+    """The same checks of the policy of docs/rules.md, and what it has that no example has: call 2 of a hands the CPU to b, whose first
+    turn is in tick 2. Call 1 of c comes in tick 3, and reaches b behind its STI of tick 4."""
     for check in (trace, plan, matrix, flows, same_scene):
-        check(built)
+        with case.subTest(check.__name__):
+            check(case, built)
     seen = Seen(looked("draw", "trace", built.image, built.text))
-    want([title for _, title in seen.titled("path")], ["handover of tick 1 to tick 2", "arrow of tick 3 to tick 5"], "the arrows")
+    case.want([title for _, title in seen.titled("path")], ["handover of tick 1 to tick 2", "arrow of tick 3 to tick 5"], "the arrows")
     found = [(source, target, kind) for source, target, kind, _ in arrows_of(dot_text(scene(built.policy)))]
     net = "device net in domain dnet"
-    want(found, [("a", "c", "channel"), ("c", "b", "channel"), ("a", "b", "region"), ("a", "b", "handover"), ("c", "a", "event"),
+    case.want(found, [("a", "c", "channel"), ("c", "b", "channel"), ("a", "b", "region"), ("a", "b", "handover"), ("c", "a", "event"),
                  ("b", "a", "monitor"), ("a", "next major frame", "tau0"), ("a", net, "device"), (net, "a", "device")], "the arrows of flows")
-    want(("MSRs c0000080 to c0000082", "rw") in Seen(looked("draw", "matrix", built.policy)).rows(), True, "the row of MSRs")
+    case.want(("MSRs c0000080 to c0000082", "rw") in Seen(looked("draw", "matrix", built.policy)).rows(), True, "the row of MSRs")
 
 
-def long_names(rules):
+def long_names(case):
     """Names of 63 wide letters are shortened, and stand whole in titles."""
     def longer(value, key=""):
         """A value with its names made longer."""
@@ -554,18 +562,20 @@ def long_names(rules):
         names = [subject["name"] for subject in built.document["subjects"]]
         for picture, *words in (("trace", built.image, built.text), ("plan", built.policy), ("matrix", *built.sound),
                                 ("matrix", built.policy), ("flows", built.policy)):
-            if picture != "flows" or shutil.which("dot"):
+            with case.subTest(f"{picture} of {words[0].name}"):
+                if picture == "flows" and not shutil.which("dot"):
+                    case.skipTest(NO_DOT)
                 Seen(looked("draw", picture, *words)).names(names)
-    of_document(longer(running(rules)), drawn)
+    of_document(longer(running(RULES)), drawn)
 
 
 # ---- faults, and what is stored
 
-def faults():
+def faults(case):
     """What can't be drawn is answered by one line."""
     def answered(words, line):
         """This line, and status 1."""
-        want(said("draw", *words), (1, f"look: {line}\n"), " ".join(map(str, words)))
+        case.want(said("draw", *words), (1, f"look: {line}\n"), " ".join(map(str, words)))
     policy, record, unlawful = (EXAMPLES / name for name in ("gateway.json", "gateway.record", "refused/shared_writable.json"))
     answered([], "the following arguments are required: PICTURE; look draw --help says more")
     answered(["plan"], "the following arguments are required: SYSTEM; look draw plan --help says more")
@@ -590,8 +600,8 @@ def faults():
         answered(["trace", image, text, "--from", "3", "--until", "3"], "from 3 until 3: want 1 to 10000 ticks")
         answered(["trace", image, text, "--from", "x"], "argument --from: invalid int value: 'x'; look draw trace --help says more")
         picture = built.folder / "plan.svg"
-        look(["draw", "plan", built.policy, "--output", picture], 0, "", "")
-        want(picture.read_text(encoding="ascii"), looked("draw", "plan", built.policy), "the file that is written")
+        case.look(["draw", "plan", built.policy, "--output", picture], 0, "", "")
+        case.want(picture.read_text(encoding="ascii"), looked("draw", "plan", built.policy), "the file that is written")
     of_example("jumps.json", of_images)
 
 
@@ -619,12 +629,11 @@ def now(built, picture):
     return looked("draw", picture, *words)
 
 
-def stored(name, picture):
+def stored(case, name, picture):
     """A picture that is stored is what is drawn now; of flows, which each version of dot lays out in its way, the words are the same."""
     file = file_of(name, picture)
     if picture == "flows" and not shutil.which("dot"):
-        print(f"share/check: {file.name} isn't checked: graphviz's dot isn't there")
-        return
+        case.skipTest(NO_DOT)
 
     def same(built):
         """Drawn anew."""
@@ -634,3 +643,88 @@ def stored(name, picture):
             drawn, there = ((sorted(text.words for text in seen.texts), sorted(seen.titles)) for seen in map(Seen, (drawn, there)))
         want(drawn == there, True, "it is what share/draw-pictures draws")
     of_example(name, same)
+
+
+# ---- the tests
+
+RULES = json.loads(POLICY)
+CHECKS = (("trace", trace), ("plan", plan), ("matrix", matrix), ("flows", flows))
+STORED = [(name, picture) for name in RUNNING for picture in pictures_of(name)]
+
+
+@with_program
+class OfExamples(Case):
+    """Each picture of each example that runs."""
+
+    @each((f"look draw {picture} of examples/{name}", name, check) for name in RUNNING for picture, check in CHECKS)
+    def test_picture(self, name, check):
+        """It says what it has to."""
+        of_example(name, lambda built: check(self, built))
+
+    @each((f"what is drawn of examples/{name} and of its image", name) for name in RUNNING)
+    def test_same_scene(self, name):
+        """The same, but for names and places."""
+        of_example(name, lambda built: same_scene(self, built))
+
+
+@with_program
+class OfOthers(Case):
+    """Pictures of the policy of docs/rules.md, and of it with long names; faults."""
+
+    def test_rules(self):
+        """The pictures of the policy of docs/rules.md, with what no example has."""
+        of_document(running(RULES), lambda built: of_rules(self, built))
+
+    def test_long_names(self):
+        """Pictures with names of 63 letters."""
+        long_names(self)
+
+    def test_faults(self):
+        """What can't be drawn is answered by one line."""
+        faults(self)
+
+
+class ByHand(Case):
+    """What was worked out by hand."""
+
+    @each((f"look draw plan of examples/{name}, by hand", name, rows) for name, rows in PLANS.items())
+    def test_plan(self, name, rows):
+        """The rows of the groups."""
+        plan_is(EXAMPLES / name, rows)
+
+    @with_program
+    def test_chosen_frames(self):
+        """The plan of frames that are chosen."""
+        chosen_frames()
+
+    @with_program
+    def test_trace_of_gateway(self):
+        """Which calls of cipher lead to which events of black."""
+        of_example("gateway.json", lambda built: gateway_arrows(self, built))
+
+    @with_program
+    def test_trace_of_packet_ring(self):
+        """The interrupts stand above their deliveries."""
+        of_example("packet_ring.json", above)
+
+    def test_flows_of_gateway(self):
+        """The text for dot, and the arrows of docs/flows.md."""
+        gateway_flows(self)
+
+    def test_lightness(self):
+        """Kinds of lines differ when they are printed in black and white."""
+        lightness()
+
+
+@with_program
+class Stored(Case):
+    """The pictures that are stored."""
+
+    @each((f"the picture {file_of(name, picture).relative_to(TOP)}", name, picture) for name, picture in STORED)
+    def test_stored(self, name, picture):
+        """It is what is drawn now."""
+        stored(self, name, picture)
+
+    def test_no_others(self):
+        """There are no other pictures."""
+        self.want(set(PICTURES.iterdir()) - {file_of(*one) for one in STORED}, set(), "the files of examples/pictures")

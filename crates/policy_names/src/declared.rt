@@ -45,15 +45,29 @@ pub fn declare<T: Named>(names: NameSet, items: &[T]) -> Result<NameSet, Refusal
     Ok(names)
 }
 
-/// The names of these elements.
+/// The names of these elements, which are hashed so.
 ///
 /// Answers the refusal by rule 1 of the first name that stood before, and `NoMemory` where memory
 /// was refused.
 #[tactic(auto, using(crate::proofs::Names::none_in_front))]
+pub fn names_hashed<T: Named>(
+    alloc: Global,
+    hash: NameHash,
+    items: &[T],
+) -> Result<NameSet, Refusal>
+    ensures { Keeps (broken 1 (repeats (map T.name items.now))) (λ x. x ≡ map T.name items.now) result }
+{
+    declare(NameSet::new(alloc, hash), items)
+}
+
+/// The names of these elements.
+///
+/// Answers the refusal by rule 1 of the first name that stood before, and `NoMemory` where memory
+/// was refused.
 pub fn names_of<T: Named>(alloc: Global, items: &[T]) -> Result<NameSet, Refusal>
     ensures { Keeps (broken 1 (repeats (map T.name items.now))) (λ x. x ≡ map T.name items.now) result }
 {
-    declare(NameSet::new(alloc, NameHash::behind(items)), items)
+    names_hashed(alloc, NameHash::behind(items), items)
 }
 
 /// The index of a name; `None` exactly where it isn't there.

@@ -6,7 +6,7 @@ ghost use Rattle.policy_lawful.specs.Offences.{broken};
 ghost use Rattle.policy_lawful.specs.Rules.{logical_names};
 ghost use Rattle.policy_names.specs.Parts.{component_repeats, device_repeats, names_of_device, names_of_wanted, repeats};
 
-use crate::declared::{declare, names_of};
+use crate::declared::{declare, names_hashed, names_of};
 use muen_num::Seq;
 use policy_lawful::source::{Component, Device};
 use policy_lawful::{NameDigest, NameSet, Named, Refusal};
@@ -93,7 +93,7 @@ fn collect_logical_names(alloc: Global, component: &Component) -> Result<NameSet
     digest.add_all(provides);
     digest.add_all(regions);
     digest.add_all(channels);
-    let provided = declare(NameSet::new(alloc, digest.hash()), provides)?;
+    let provided = names_hashed(alloc, digest.hash(), provides)?;
     let with_regions = declare(provided, regions)?;
     declare(with_regions, channels)
 }
@@ -113,6 +113,22 @@ pub fn collect_all<T: HasParts>(alloc: Global, items: &[T]) -> Result<Seq<T::Nam
     Ok(names)
 }
 
+// The names of two lists, one behind the other.
+#[tactic(auto, using(crate::proofs::PartNames::in_parts))]
+fn collect_together<T: Named, U: Named>(
+    alloc: Global,
+    items: &[T],
+    more: &[U],
+) -> Result<NameSet, Refusal>
+    ensures { Keeps (broken 1 (repeats (map T.name items.now ++ map U.name more.now))) (λ x. x ≡ map T.name items.now ++ map U.name more.now) result }
+{
+    let mut digest = NameDigest::new();
+    digest.add_all(items);
+    digest.add_all(more);
+    let names = names_hashed(alloc, digest.hash(), items)?;
+    declare(names, more)
+}
+
 /// The names of two lists, which are unique together.
 ///
 /// Answers the refusal of the first name that stood before, in either, and `NoMemory` where memory
@@ -125,10 +141,6 @@ pub fn collect_both<T: Named, U: Named>(
 ) -> Result<(NameSet, NameSet), Refusal>
     ensures { Keeps (broken 1 (repeats (map T.name items.now ++ map U.name more.now))) (λ both. (both.0 ≡ map T.name items.now) × (both.1 ≡ map U.name more.now)) result }
 {
-    let mut digest = NameDigest::new();
-    digest.add_all(items);
-    digest.add_all(more);
-    let together = declare(NameSet::new(alloc, digest.hash()), items)?;
-    declare(together, more)?;
+    collect_together(alloc, items, more)?;
     Ok((names_of(alloc, items)?, names_of(alloc, more)?))
 }

@@ -1,5 +1,5 @@
 -- Each name is taken in turn.
-use Rattle.std.proofs.Common.{◌++◌, map, sym, ap, ◌∷◌, [], subst, take}
+use Rattle.std.proofs.Common.{◌++◌, map, ◌∷◌, [], subst, take}
 use Rattle.policy_lawful.specs.NameHashes.{AreDigested}
 use Rattle.policy_lawful.proofs.NameHashes.{all_names, next_name, none_yet}
 use Rattle.policy_lawful.proofs.name_hash.NameDigest.add_all.Goals as goal

@@ -1,5 +1,6 @@
-use Rattle.std.proofs.Common.{◌≡◌, List, ℕ, [], ◌∷◌, ◌++◌, map, ◌+◌, ◌-◌, ◌*◌, ◌<◌, ◌≤◌, length, take}
-use Rattle.policy_lawful.specs.NameHashes.{AreDigested, hasher_behind}
+-- The names so far were taken.
+use Rattle.std.proofs.Common.{List, ℕ, ◌++◌, map, take}
+use Rattle.policy_lawful.specs.NameHashes.{AreDigested}
 use Rattle.policy_lawful.proofs.name_hash.NameDigest.add_all.Given as goal
 
 abbrev pub invariant-loop-item : goal.invariant-loop-item

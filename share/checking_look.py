@@ -1,0 +1,177 @@
+"""The checks of what share/look tells of policies: refusals explained, faults found at once, ways."""
+import json
+import pathlib
+import re
+import tempfile
+
+from checking import EXAMPLES, PROGRAM, Case, call, each, said, want, with_program
+from checking_examples import REFUSED, RUNNING
+from checking_rules import POLICY, ROWS, changed
+
+
+def told_by_look(*words):
+    """The status and the lines of a form of share/look."""
+    status, text = said(*words)
+    return status, text.splitlines()
+
+
+def spread(policy, at, value):
+    """The changed policy over many lines, and from where to where the changed value stands in it with its key."""
+    text, marked = (json.dumps(json.loads(changed(policy, at, one)), separators=(",\n", ": ")) for one in (value, "here"))
+    begin = marked.index('"here"')
+    end = begin + len('"here"') + len(text) - len(marked)
+    key = json.dumps(at.split("/")[-1]) + ": "
+    return text, begin - len(key) if marked[:begin].endswith(key) else begin, end
+
+
+def offsets(text, lines):
+    """Where in a text the places are with which these lines begin."""
+    starts = [0, *(match.end() for match in re.finditer("\n", text))]
+    for line in lines:
+        if place := re.match(r"\S+\.json:(\d+):(\d+): ", line):
+            yield starts[int(place[1]) - 1] + int(place[2]) - 1
+
+# texts with one fault between the two marks, and what muen says of each
+FAULTS = [
+    ('{"processor": {"logicalCpus": 1<,>}, "scheduling": {}}', "not JSON"),
+    ('{"processor": {"logicalCpus": 1},\n </>/ plan\n "scheduling": {}}', "not JSON"),
+    ('{"processor": {<"logicalCpu">: 1}, "scheduling": {}}', "shape at /processor: want known keys"),
+    ('{"processor": {"logicalCpus": 1}, "subjects": <[]>, "scheduling": {"groups": []}}', "rule 20: subjects subjects"),
+    ('{"processor": {"logicalCpus": "16#1<g>#"}, "scheduling": {}}', "shape at /processor/logicalCpus: want number"),
+    ('{"processor": {"logicalCpus": 1},\n "memory": [{"name": "m", "size": 4096, "content": {"hex": "00< >11"}}], "scheduling": {}}',
+     "shape at /memory/0/content/hex: want hexadecimal"),
+    ('{"processor": <{>}, "scheduling": {}}', "shape at /processor/logicalCpus: want present"),
+]
+
+# contents in the policy of docs/rules.md, and what muen says of each
+CONTENTS = [
+    ("/memory/0/content", {"hex": 4097 * "00"}, "code: 4097 bytes in room for 4096"),
+    ("/components/0/provides/0/content", {"hex": 4097 * "00"}, "b|text: 4097 bytes in room for 4096"),
+    ("/memory/1/content", {"file": "nothing.bin"}, "missing file nothing.bin"),
+    ("/memory/4/size", 2**25, "no room for buf of 33554432 bytes"),
+]
+
+# a subject more in the policy of docs/rules.md, whose group has no ticks
+IDLE = [
+    ("/devices/1/irqs", [{"name": "late"}]),
+    ("/subjects/3", {"name": "d", "cpu": 1, "entry": 0, "devices": [{"device": "disk", "irqs": [{"irq": "late", "vector": 50}]}]}),
+    ("/scheduling/groups/2", {"name": "g2", "cpu": 1, "subjects": ["d"]}),
+]
+
+# what may stand there, and of what `look lint` warns then
+WARNINGS = [
+    ("/subjects/0/entry", 0, "the entry of a lies in no window with the right to execute"),
+    ("/memory/0/content", {"hex": "00"}, "the code has 1 byte, no multiple of 8"),
+    ("/memory/5", {"name": "spare", "size": 4096}, "the region spare: nobody has a window on it"),
+    ("/components/1", {"name": "idle", "provides": [{"logical": "text", "virtualAddress": 0, "size": 4096, "rights": "r", "content": {"hex": 4097 * "00"}}]},
+     "no subject uses the component idle"),
+    ("/subjects/0/sources/1", {"event": "turn", "trap": 5}, "no exit with the reason 5 can be trapped"),
+    ("/scheduling/groups/2", {"name": "g2", "cpu": 1, "subjects": ["d"]}, "the group g2 has no ticks, so no member runs"),
+    ("/subjects/3/devices/0/irqs/0", {"irq": "late", "vector": 51}, "d never takes the interrupt late of disk: its group g2 has no ticks"),
+]
+
+
+@with_program
+class Refusal(Case):
+    """`look refusal`: the line of the program, and where the fault is."""
+
+    def explained(self, text, line, begin, end):
+        """`look refusal` tells the line, and a place from begin to end."""
+        with tempfile.TemporaryDirectory() as folder:
+            policy = pathlib.Path(folder, "policy.json")
+            policy.write_text(text, encoding="utf-8")
+            status, lines = told_by_look("refusal", policy, "--program", PROGRAM)
+        want((status, lines[:1]), (0, [line]), "look refusal")
+        want(any(begin <= offset <= end for offset in offsets(text, lines)), True, f"a place is in the changed value: {lines}")
+
+    @each((f"look refusal: {stands} at {at}", at, json.loads(stands), line) for at, stands, line in ROWS)
+    def test_row(self, at, value, line):
+        """`look refusal` tells the line of a row of docs/rules.md, and a place in the changed value."""
+        text, begin, end = spread(POLICY, at, value)
+        self.explained(text, line, begin, end)
+
+    @each((f"look refusal: {line}", at, value, f"muen: {line}") for at, value, line in CONTENTS)
+    def test_content(self, at, value, line):
+        """As of a row, of contents."""
+        text, begin, end = spread(POLICY, at, value)
+        self.explained(text, line, begin, end)
+
+    @each((f"look refusal: {marked}", marked, line) for marked, line in FAULTS)
+    def test_fault(self, marked, line):
+        """`look refusal` points to what stands between the marks."""
+        begin, text = marked.index("<"), marked.replace("<", "").replace(">", "")
+        self.explained(text, f"muen: {line}", begin, marked.index(">") - 2)
+
+
+class Lint(Case):
+    """`look lint`: faults and warnings."""
+
+    # that there is no room, lint doesn't tell
+    @each((f"look lint of examples/{name}", name, line) for name, line in [*((name, None) for name in RUNNING), *REFUSED]
+          if not (line and "no room" in line))
+    def test_lint(self, name, line):
+        """`look lint` finds no fault, or first the one of muen's line."""
+        status, lines = told_by_look("lint", EXAMPLES / name)
+        told = [one for one in lines if ": fault: " in one]
+        want((status, len(told) > 0), (1, True) if line else (0, False), f"look lint: {lines}")
+        want(not line or line.removeprefix("muen: ") in told[0], True, f"the first fault of look lint: {lines}")
+
+    @each((f"look lint: {warning}", at, value, warning) for at, value, warning in WARNINGS)
+    def test_warning(self, at, value, warning):
+        """`look lint` finds no fault in the changed policy, and warns of it so."""
+        policy = POLICY
+        for place, stands in IDLE:
+            policy = changed(policy, place, stands)
+        text, begin, end = spread(policy, at, value)
+        with tempfile.TemporaryDirectory() as folder:
+            file = pathlib.Path(folder, "policy.json")
+            file.write_text(text, encoding="utf-8")
+            status, lines = told_by_look("lint", file)
+        told = [line for line in lines if line.endswith(f": warning: {warning}")]
+        want((status, len(told)), (0, 1), f"look lint: {lines}")
+        want(begin <= next(offsets(text, told)) <= end, True, "its place")
+
+
+class Ways(Case):
+    """`look ways`: the steps between subjects."""
+
+    @with_program
+    @each((f"look ways of examples/{name}", name) for name in RUNNING)
+    def test_closed(self, name):
+        """Over the steps of `look ways`, those over devices left out, each subject is reached by those that `flows` prints."""
+        printed = call([PROGRAM, "flows", name]).stdout.decode().splitlines()
+        flows = {words[1]: set(words[3:]) for words in map(str.split, printed)}
+        status, lines = told_by_look("ways", EXAMPLES / name)
+        want(status, 0, f"look ways: {lines}")
+        steps = [re.match(r"(\S+) -> (\S+): (\S+) ", line).groups() for line in lines]
+        for subject, sources in flows.items():
+            reached = {subject}
+            while more := {source for source, target, kind in steps if kind != "device" and target in reached} - reached:
+                reached |= more
+            self.want(reached, sources, f"those who reach {subject}")
+
+    def test_gateway(self):
+        """A shortest way, and that there is none without a subject which all ways pass."""
+        gateway = EXAMPLES / "gateway.json"
+        self.want(told_by_look("ways", gateway, "plain", "black"), (0, ["plain -> cipher: channel job", "cipher -> black: channel sealed"]), "a way")
+        self.want(told_by_look("ways", gateway, "plain", "black", "without", "cipher"),
+                  (0, ["no declared way from plain to black without cipher"]), "none")
+        self.want(told_by_look("ways", gateway, "plain", "nobody")[0], 1, "the status of a name that isn't there")
+
+    def test_two_way_gateway(self):
+        """Each direction passes one subject."""
+        gateway = EXAMPLES / "two_way_gateway.json"
+        for source, target, between in (("red", "black", "encrypt"), ("black", "red", "decrypt")):
+            self.want(told_by_look("ways", gateway, source, target, "without", between),
+                      (0, [f"no declared way from {source} to {target} without {between}"]), f"no way from {source} to {target}")
+            self.want(len(told_by_look("ways", gateway, source, target)[1]), 2, f"the steps from {source} to {target}")
+
+    def test_over_devices(self):
+        """What leads over a device is listed as such, and told where no flow leads from A to B."""
+        text = changed(POLICY, "/subjects/1/memory/1", {"region": "buf", "virtualAddress": "16#0090_0000#", "rights": "rw"})
+        with tempfile.TemporaryDirectory() as folder:
+            file = pathlib.Path(folder, "policy.json")
+            file.write_text(changed(text, "/subjects/0/monitors", []), encoding="utf-8")
+            step = "b -> a: device net in domain dnet"
+            self.want(told_by_look("ways", file, "b", "a"), (0, ["no declared way from b to a", "over devices, which are no flows:", step]), "the way")
+            self.want(step in told_by_look("ways", file)[1], True, "it is listed")
