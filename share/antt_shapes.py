@@ -18,6 +18,7 @@ class Names:
     def __init__(self, files):
         self.files = {file.module: file for file in files}
         self.crates = {module.split(".")[1] for module in self.files}
+        self.constructors = set().union(*(file.constructors for file in files))
         self.parts = {}
 
     def item(self, path):
@@ -165,12 +166,17 @@ class Shape:
 
     def is_constructor(self, word):
         path = self.known.path(self.item.names, word) or ""
-        return bool(path) and (word in ("zero", "suc", "true", "false", "inl", "inr") or not word[0].islower())
+        known = path in self.known.constructors or word in ("zero", "suc", "true", "false", "inl", "inr")
+        return bool(path) and (known or not word[0].islower())
 
     def clause(self, nodes, bound):
         """A clause of a definition."""
         end = nodes.index("=") if "=" in nodes else 0
         return [*self.pattern(nodes[:end], bound), *self.walk(nodes[end:], bound)]
+
+    def field(self, nodes, bound):
+        """A field of a record, or a constructor."""
+        return [*nodes[:1], *self.walk(nodes[1:], bound)]
 
 
 def is_binder(node):

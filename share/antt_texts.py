@@ -35,11 +35,12 @@ class Item:
 
 @dataclasses.dataclass
 class File:
-    """A file's items, the names that it has from elsewhere, and those that it hands on."""
+    """A file's items, the names that it has from elsewhere, those that it hands on, and its constructors."""
     module: str
     items: list
     names: dict
     handed: dict
+    constructors: set
 
 
 def split(word):
@@ -118,7 +119,7 @@ class Reader:
 
     def __init__(self, file):
         self.path = str(file.relative_to(TOP))
-        self.read = File("Rattle." + ".".join(file.relative_to(CRATES).with_suffix("").parts), [], {}, {})
+        self.read = File("Rattle." + ".".join(file.relative_to(CRATES).with_suffix("").parts), [], {}, {}, set())
         self.take(blocks(list(bare(file.read_text(encoding="utf-8")))), [], self.read.names)
 
     def take(self, found, parameters, names):
@@ -134,7 +135,7 @@ class Reader:
                     self.add_clause(last, block, text)
 
     def take_other(self, block, text, parameters, names):
-        """Takes a `use`, a module or a record, and answers whether the block is one of these."""
+        """Takes what isn't a lemma or a definition, and answers whether the block is that."""
         first = text.removeprefix("pub ").split(maxsplit=1)[0]
         rest = text.removeprefix("pub ").removeprefix(first).strip()
         if first in ("use", "open"):
@@ -145,12 +146,22 @@ class Reader:
             end = where(block)
             groups = [node for node in tree(joined(block[:end])) if isinstance(node, tuple)]
             self.take(blocks(block[end:]), parameters + groups, names)
-        elif first == "record" and rest[:1] != "{" and " where" in rest:
-            name, _, kind = rest.partition(" where")[0].partition(" ")
-            item = self.add(block, (None, "record", name, kind), parameters, names)
-            fields = rest.partition(" where")[2].strip().splitlines()
-            item.clauses, item.is_record = [tree(field.strip().removeprefix("pub ")) for field in fields], True
-        return first in ("use", "open", "module", "mod", "infixl", "infixr") or (first == "record" and " where" in rest)
+        elif first in ("record", "data") and where(block) < len(block) and rest[:1] != "{":
+            self.add_record(block, first, rest.partition(" where")[0], parameters, names)
+        else:
+            return first in ("mod", "infixl", "infixr")
+        return True
+
+    def add_record(self, block, first, head, parameters, names):
+        """A record with its fields, or data with their constructors."""
+        name, _, kind = head.partition(" ")
+        item = self.add(block, (None, first, name, kind), parameters, names)
+        fields = [joined(field).strip().removeprefix("pub ") for field in blocks(block[where(block):])]
+        item.clauses, item.is_record = [tree(field) for field in fields], True
+        if first == "data":
+            made = {field.split()[0]: f"{self.read.module}.{field.split()[0]}" for field in fields}
+            names.update(made)
+            self.read.constructors.update(made.values())
 
     def add(self, block, head, parameters, names):
         """An item, known by its name to what stands beside and below it."""

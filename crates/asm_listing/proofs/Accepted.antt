@@ -17,7 +17,7 @@ use Rattle.asm_text.specs.declared.mnemonic.Mnemonic.{Mnemonic}
 use Rattle.asm_text.specs.declared.mnemonic.Mnemonic.TheVariants.{Nop, Li, Lih, Mov, Add, Sub, And, Or, Xor, Shl, Shr, Load, Store, Jmp, Jz, Jnz, Jb, In, Out, Rdmsr, Wrmsr, Rdtsc, Vmcall, Hlt, Sti, Cli, Setv, Reti}
 use Rattle.asm_text.specs.declared.statement.Operation.{Operation}
 use Rattle.asm_listing.proofs.Chunks.{signed_fits}
-use Rattle.asm_listing.proofs.Instructions.{immediate}
+use Rattle.asm_listing.proofs.Instructions.{immediate, none_fits}
 use Rattle.asm_text.proofs.Accepted.{Holds, SizeFits, after}
 
 -- ---- immediates
@@ -83,9 +83,6 @@ unfolding immediate_of
 immediate_fits names here o = after (FitsSigned w32) (sum_of names o.operands.value.terms) _ λ s. by_mnemonic o.mnemonic here o.operands.value.left s
 
 -- ---- the instruction
-
-none_fits : FitsSigned w32 (pos 0)
-none_fits = record { sfits = omega arith }
 
 -- an instruction of the table
 pub record IsSound (i : Instr) : Type 0 where

@@ -14,8 +14,9 @@ use Rattle.guest_isa.specs.declared.instr.Instr.{Instr}
 use Rattle.guest_isa.specs.declared.instr.Instr.TheVariants.{Nop, Li, Lih, Mov, Add, Sub, And, Or, Xor, Shl, Shr, Load, Store, Jmp, Jz, Jnz, Jb, In, Out, Rdmsr, Wrmsr, Rdtsc, Vmcall, Hlt, Sti, Cli, Setv, Reti}
 use Rattle.guest_isa.specs.GuestIsa.{AreSpelled, IsSmall, IsValid, access, are_unset, code_of, decode_of, encoding_of, fields, fields_for, fields_of, imm_of, instruction_of, names, port_row, row, sized_row, spelled, system_instruction_of}
 use Rattle.guest_isa.proofs.Spelled.{at_test, eight, spelled_by, word_bytes}
+use Rattle.asm_text.proofs.Accepted.{zero_low}
 use Rattle.asm_listing.specs.Source.{chunks_of}
-use Rattle.asm_listing.proofs.Instructions.{immediate}
+use Rattle.asm_listing.proofs.Instructions.{immediate, none_fits}
 
 -- ---- pieces
 
@@ -52,9 +53,6 @@ pub record IsDecoded (b : List ℕ) (i : Instr) : Type 0 where
 abbrev pub AreDecoded : List ℕ → Option Instr → Type 0
 AreDecoded b None = Unit {0}
 AreDecoded b (Some i) = IsDecoded b i
-
-none_fits : FitsSigned w32 (pos 0)
-none_fits = record { sfits = omega arith }
 
 -- a number of 32 bits, read as a signed one
 pub signed_fits : (n : ℕ) → n < 2 ^ 32 → FitsSigned w32 (cast_signed w32 n)
@@ -184,9 +182,6 @@ fields_back opcode rd rs size z h k fits =
     let low : (rd * 16 + rs) % 16 ≡ rs = omega arith in
     let word = from_le_bytes-to_le_bytes_4 (cast_unsigned w32 z) (unsigned_low z fits) in
     λ i. record { opcode = opcode; rd = high i; rs = low i; size = size; zero = 0; imm = word i }
-
-zero_low : 0 < 16
-zero_low = omega arith
 
 for_back : (i : Instr) → IsValid i → FitsSigned w32 (immediate i) → fields_of (spelled (fields_for i)) ≡ fields_for i
 for_back Nop v fits = fields_back 0 0 0 0 (pos 0) zero_low zero_low fits

@@ -195,8 +195,9 @@ read_by i m text rd rs size imm is ends o fits back =
 abbrev pub immediate : Instr → ℤ
 immediate i = (parts_of i).imm
 
-none : FitsSigned w32 (pos 0)
-none = record { sfits = omega arith }
+-- 0 fits it
+pub none_fits : FitsSigned w32 (pos 0)
+none_fits = record { sfits = omega arith }
 
 -- the texts of operands, grouped to the right
 

@@ -8,6 +8,7 @@ use Rattle.muen_num.specs.AccessSize.{bytes_of}
 use Rattle.muen_num.specs.declared.access.AccessSize.{AccessSize}
 use Rattle.muen_num.specs.declared.access.AccessSize.TheVariants.{One, Two, Four, Eight}
 use Rattle.muen_num.specs.declared.limits.TheConstants.{COMPONENT_FILE_MOST}
+use Rattle.muen_num.proofs.Numbers.{byte_low}
 use Rattle.guest_isa.specs.GuestIsa.{IsValid, code_of, encoding_of, fields, spelled}
 use Rattle.guest_isa.specs.declared.instr.Instr.{Instr}
 use Rattle.guest_isa.specs.declared.instr.Instr.TheVariants.{Nop, Li, Lih, Mov, Add, Sub, And, Or, Xor, Shl, Shr, Load, Store, Jmp, Jz, Jnz, Jb, In, Out, Rdmsr, Wrmsr, Rdtsc, Vmcall, Hlt, Sti, Cli, Setv, Reti}
@@ -18,7 +19,7 @@ use Rattle.asm_text.specs.Meaning.{Item, instruction, data_of, zeros, bytes_of_i
 use Rattle.asm_text.specs.declared.statement.Placed.{Placed}
 use Rattle.asm_text.specs.declared.statement.Statement.{Statement}
 use Rattle.asm_text.specs.declared.statement.Statement.TheVariants.{Nothing, Definition, Offset, Data, Instruction}
-use Rattle.asm_text.proofs.Accepted.{Holds, holds_then}
+use Rattle.asm_text.proofs.Accepted.{Holds, holds_then, zero_low}
 use Rattle.asm_text.proofs.Seats.{AreSeated, AreSeatedIn, IsLong, IsPassed, encoding_long, filled, in_line_holds, layout_seated, numbers_long, numbers_many}
 use Rattle.asm_listing.proofs.Accepted.{IsSound, immediate_fits, sound_with}
 use Rattle.asm_listing.proofs.Sources.{IsLow}
@@ -37,10 +38,6 @@ AreStanding here [] = here ≤ COMPONENT_FILE_MOST
 AreStanding here (item ∷ items) = IsSeat here item × All IsLow (bytes_of_item item) × AreStanding (here + length (bytes_of_item item)) items
 
 -- ---- bytes
-
-byte_low : (i n : ℕ) → byte_at i n < 256
-byte_low zero n = omega arith
-byte_low (suc i) n = omega arith
 
 bytes_low : (i k n : ℕ) → All IsLow (bytes_low_first i k n)
 bytes_low i zero n = All-nil IsLow
@@ -69,9 +66,6 @@ code_low One = omega arith
 code_low Two = omega arith
 code_low Four = omega arith
 code_low Eight = omega arith
-
-zero_low : 0 < 16
-zero_low = omega arith
 
 encoding_low : (i : Instr) → IsValid i → All IsLow (encoding_of i)
 unfolding encoding_of

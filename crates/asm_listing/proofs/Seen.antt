@@ -11,6 +11,7 @@ use Rattle.std.proofs.lemmas.List.Elements.{All-head, All-tail}
 use Rattle.std.proofs.lemmas.List.Folds.{list_all-append}
 use Rattle.muen_num.specs.declared.access.AccessSize.{AccessSize}
 use Rattle.muen_num.specs.declared.access.AccessSize.TheVariants.{One, Two, Four, Eight}
+use Rattle.muen_num.proofs.Lists.{each_from}
 use Rattle.guest_isa.specs.GuestIsa.{IsValid}
 use Rattle.guest_isa.specs.declared.instr.Instr.{Instr}
 use Rattle.guest_isa.specs.declared.instr.Instr.TheVariants.{Nop as INop, Li as ILi, Lih as ILih, Mov as IMov, Add as IAdd, Sub as ISub, And as IAnd, Or as IOr, Xor as IXor, Shl as IShl, Shr as IShr, Load as ILoad, Store as IStore, Jmp as IJmp, Jz as IJz, Jnz as IJnz, Jb as IJb, In as IIn, Out as IOut, Rdmsr as IRdmsr, Wrmsr as IWrmsr, Rdtsc as IRdtsc, Vmcall as IVmcall, Hlt as IHlt, Sti as ISti, Cli as ICli, Setv as ISetv, Reti as IReti}
@@ -19,12 +20,13 @@ use Rattle.asm_text.specs.declared.mnemonic.Mnemonic.{Mnemonic}
 use Rattle.asm_text.specs.declared.mnemonic.Mnemonic.TheVariants.{Nop, Li, Lih, Mov, Add, Sub, And, Or, Xor, Shl, Shr, Load, Store, Jmp, Jz, Jnz, Jb, In, Out, Rdmsr, Wrmsr, Rdtsc, Vmcall, Hlt, Sti, Cli, Setv, Reti}
 use Rattle.asm_text.specs.declared.mnemonic.Shape.{Shape}
 use Rattle.asm_text.specs.declared.mnemonic.Shape.TheVariants.{Alone, Immediate, Pair, Memory, PortRead, PortWrite, Destination, Source, Jump, JumpIf, JumpBelow}
+use Rattle.asm_text.proofs.Accepted.{zero_low}
 use Rattle.asm_listing.specs.Source.{byte_text, data_text, displacement_text, instruction_text, operands_text, parts_of, register_text, size_text}
 use Rattle.asm_listing.specs.declared.parts.Parts.{Parts}
 use Rattle.text_words.proofs.Numerals.{digits_alone}
 use Rattle.asm_listing.proofs.Instructions.{immediate}
 use Rattle.asm_listing.proofs.Values.{below_zero, small}
-use Rattle.asm_listing.proofs.Words.{all_from, byte_seen, is_seen}
+use Rattle.asm_listing.proofs.Words.{byte_seen, is_seen}
 
 abbrev pub Seen : List ℕ → Type 0
 Seen text = list_all is_seen text ≡ true
@@ -36,7 +38,7 @@ digit_seen : (c : ℕ) → is_ascii_digit c ≡ true → is_seen c ≡ true
 digit_seen c h = grind (arith, nat_tests)
 
 decimal_seen : (n : ℕ) → n < 2 ^ 64 → Seen (decimal n)
-decimal_seen n h = all_from is_ascii_digit is_seen digit_seen (decimal n) (digits_alone n h)
+decimal_seen n h = each_from is_ascii_digit is_seen digit_seen (decimal n) (digits_alone n h)
 
 register_seen : (r : ℕ) → r < 16 → Seen (register_text r)
 register_seen r h = decimal_seen r (omega arith)
@@ -111,9 +113,6 @@ mnemonic_seen Sti = refl
 mnemonic_seen Cli = refl
 mnemonic_seen Setv = refl
 mnemonic_seen Reti = refl
-
-zero_low : 0 < 16
-zero_low = omega arith
 
 low_registers : (i : Instr) → IsValid i → ((parts_of i).rd < 16) × ((parts_of i).rs < 16)
 low_registers INop v = (zero_low, zero_low)

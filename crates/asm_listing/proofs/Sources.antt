@@ -12,6 +12,7 @@ use Rattle.guest_isa.specs.GuestIsa.{decode_of}
 use Rattle.guest_isa.specs.declared.instr.Instr.{Instr}
 use Rattle.text_words.specs.Parts.{lines_of, parts_of, without_empty_end}
 use Rattle.text_words.specs.Steps.{◌>>=◌}
+use Rattle.text_words.proofs.Cuts.{more_parts}
 use Rattle.asm_text.specs.Layout.{Layout, Names, Standing, after_line, in_line, layout_from, line_at, moved, stated, with_line}
 use Rattle.asm_text.specs.Meaning.{Item, instruction, data_of, bytes_of_item, bytes_of_items, item_of, items_of, little_endian, said}
 use Rattle.asm_text.specs.Reading.{line_of, wanted}
@@ -115,17 +116,13 @@ no_feed (c ∷ text) h =
     printed : (c : ℕ) → is_seen c ≡ true → (c == 10) ≡ false
     printed c h = grind (arith, nat_tests)
 
-kept : (line : List ℕ) (parts : List (List ℕ)) → 0 < length parts → without_empty_end (line ∷ parts) ≡ line ∷ without_empty_end parts
-kept line [] h = absurd (omega arith)
-kept line (part ∷ parts) h = refl
-
 first_line : (text rest : List ℕ) → Seen text → lines_of ((text ++ codes "\n") ++ rest) ≡ text ∷ lines_of rest
 unfolding lines_of
 first_line text rest h =
     let p : ℕ → Bool = λ c. c == 10 in
     ap (λ t. without_empty_end (parts_of 10 t)) (append_assoc text (codes "\n") rest)
     ∙ ap without_empty_end (slice_split_at p text 10 rest (no_feed text h) refl)
-    ∙ kept text (slice_split p rest) (omega (arith, length-slice_split p rest))
+    ∙ more_parts text (slice_split p rest) (omega (arith, length-slice_split p rest))
 
 no_lines : lines_of [] ≡ []
 unfolding lines_of

@@ -5,6 +5,7 @@ use Rattle.std.specs.Fmt.{signed_decimal}
 use Rattle.std.specs.Int.RustNames.{FitsSigned}
 use Rattle.std.specs.Str.{bytes_eq}
 use Rattle.std.proofs.lemmas.Int.{ints}
+use Rattle.std.proofs.Math.Bool.{and-false}
 use Rattle.text_words.specs.Steps.{◌>>=◌}
 use Rattle.asm_text.specs.Layout.{Names}
 use Rattle.asm_text.specs.Meaning.{sum_of}
@@ -94,12 +95,8 @@ pub record ValueRead (ts : Tokens) (z : ℤ) : Type 0 where
 after_minus : (rest : List ℕ) → tokens_of (45 ∷ rest) ≡ token (length (45 ∷ rest)) (codes "-") (tokens_of rest)
 unfolding tokens_of
 after_minus rest =
-    let e : (goes_on rest && false) ≡ false = never (goes_on rest) in
+    let e : (goes_on rest && false) ≡ false = and-false (goes_on rest) in
     λ i. if e i then with_byte (length (45 ∷ rest)) 45 (tokens_of rest) else token (length (45 ∷ rest)) (45 ∷ []) (tokens_of rest)
-  where
-    never : (b : Bool) → (b && false) ≡ false
-    never true = refl
-    never false = refl
 
 pub small : (z : ℤ) → FitsSigned w32 z → (n : ℕ) → z ≡ pos n → n < 2 ^ 64
 small z h n e = omega (arith, ints, h, e)

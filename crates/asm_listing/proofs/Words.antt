@@ -10,6 +10,7 @@ use Rattle.std.specs.Str.{bytes_eq}
 use Rattle.std.proofs.lemmas.Bool.{agree_below_at, and_from, and_parts, both_ways, eqb-true, false_from_ne_true, false≢true, lt-ltb}
 use Rattle.std.proofs.lemmas.Bool.Decides.{nat_tests}
 use Rattle.std.proofs.lemmas.Fmt.{decimal_nonempty}
+use Rattle.muen_num.proofs.Lists.{each_from}
 use Rattle.hex.specs.Hex.{encode_lower, encode_with}
 use Rattle.text_words.specs.Groups.{before_mark, behind_mark, groups_of, number_of_groups}
 use Rattle.text_words.specs.declared.number.NumberError.{NumberError}
@@ -26,12 +27,6 @@ abbrev pub ◌⧺◌ : List ℕ → List ℕ → List ℕ
 a ⧺ b = a ++ b
 
 -- ---- all bytes of a text
-
-pub all_from : (p q : ℕ → Bool) → ((c : ℕ) → p c ≡ true → q c ≡ true) → (xs : List ℕ) → list_all p xs ≡ true → list_all q xs ≡ true
-all_from p q each [] h = refl
-all_from p q each (x ∷ xs) h =
-    let a = and_parts (p x) (list_all p xs) h in
-    and_from (q x) (list_all q xs) (each x a.0) (all_from p q each xs a.1)
 
 all_taken : (p : ℕ → Bool) (n : ℕ) (xs : List ℕ) → list_all p xs ≡ true → list_all p (take n xs) ≡ true
 all_taken p zero xs h = refl
@@ -111,7 +106,7 @@ word_digit c h = grind (arith, nat_tests)
 
 module _ (n : ℕ) (h : n < 2 ^ 64) where
   pub decimal_word : IsWord (decimal n)
-  decimal_word = record { some = decimal_nonempty n h; bytes = all_from is_ascii_digit is_word_byte word_digit (decimal n) (digits_alone n h) }
+  decimal_word = record { some = decimal_nonempty n h; bytes = each_from is_ascii_digit is_word_byte word_digit (decimal n) (digits_alone n h) }
 
   no_prefix : behind (codes "0x") (decimal n) ≡ None
   no_prefix =

@@ -70,7 +70,8 @@ pub record AreFit (shape : Shape) (o : Operands) : Type 0 where
   pub rs : o.rs < 16
   pub size : SizeFits shape o.size
 
-zero_low : 0 < 16
+-- register 0 is one of them
+pub zero_low : 0 < 16
 zero_low = omega arith
 
 module _ {X : Type 0} where

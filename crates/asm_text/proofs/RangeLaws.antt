@@ -1,12 +1,13 @@
 -- Numbers that fit so many bits, and sums.
-use Rattle.std.proofs.Common.{◌≡◌, ℕ, ◌+◌, ◌-◌, ◌^◌, ◌<◌, ◌≤◌, Bool, true, false, List, [], length, drop, get_or, Some, None, Result, Ok, Err, refl, ap, ◌∙◌, sym, arith}
-use Rattle.std.specs.Prelude.{ℤ, pos, negsuc, neg_ℤ, ◌+ℤ◌, ◌≤ℤ◌, ◌<ℤ◌, ◌&&◌, int_le, int_lt}
+use Rattle.std.proofs.Common.{◌≡◌, ℕ, ◌+◌, ◌-◌, ◌^◌, ◌<◌, ◌≤◌, Bool, true, List, [], length, drop, get_or, Some, None, Result, Ok, Err, refl, ap, ◌∙◌, sym, arith}
+use Rattle.std.specs.Prelude.{ℤ, pos, negsuc, neg_ℤ, ◌+ℤ◌, ◌≤ℤ◌, ◌<ℤ◌, int_le, int_lt}
 use Rattle.std.proofs.Math.Nat.{pow-le-pow_right}
 use mir.Syntax.{w128}
 use mir.Val.{to_z, of_z}
 use Rattle.std.specs.Int.RustNames.{FitsSigned}
 use Rattle.std.proofs.lemmas.Int.{ints, to_z-of_z}
 use Rattle.std.proofs.lemmas.List.{drop_all, drop_more}
+use Rattle.std.proofs.lemmas.Bool.{and_parts}
 use Rattle.text_words.specs.Steps.{◌>>=◌, mapped}
 use Rattle.asm_text.specs.Layout.{Names}
 use Rattle.asm_text.specs.Meaning.{added, fits, signed, sum_of, sum_of_atom}
@@ -17,22 +18,17 @@ use Rattle.asm_text.specs.declared.fault.Want.TheVariants.{KnownName}
 use Rattle.asm_text.specs.declared.meaning.Sum.{Sum}
 use Rattle.asm_text.specs.declared.statement.Term.{Term}
 
-both : (a b : Bool) → (a && b) ≡ true → (a ≡ true) × (b ≡ true)
-both true true h = (refl, refl)
-both true false h = cc
-both false b h = cc
-
 pub powers : (bits : ℕ) → bits ≤ 64 → (1 ≤ 2 ^ bits) × (2 ^ bits ≤ 2 ^ 64) × (2 ^ (bits - 1) ≤ 2 ^ bits)
 powers bits h = (pow-le-pow_right {n = 2} (omega arith) {i = 0} {j = bits} (omega arith), pow-le-pow_right {n = 2} (omega arith) {i = bits} {j = 64} h, pow-le-pow_right {n = 2} (omega arith) {i = bits - 1} {j = bits} (omega arith))
 
 pub fits_low : (bits : ℕ) (z : ℤ) → fits bits z ≡ true → neg_ℤ (pos (2 ^ (bits - 1))) ≤ℤ z
 fits_low bits z h =
-    let p = both (int_le (neg_ℤ (pos (2 ^ (bits - 1)))) z) (int_lt z (pos (2 ^ bits))) h in
+    let p = and_parts (int_le (neg_ℤ (pos (2 ^ (bits - 1)))) z) (int_lt z (pos (2 ^ bits))) h in
     omega (arith, ints, p.0)
 
 pub fits_high : (bits : ℕ) (z : ℤ) → fits bits z ≡ true → z <ℤ pos (2 ^ bits)
 fits_high bits z h =
-    let p = both (int_le (neg_ℤ (pos (2 ^ (bits - 1)))) z) (int_lt z (pos (2 ^ bits))) h in
+    let p = and_parts (int_le (neg_ℤ (pos (2 ^ (bits - 1)))) z) (int_lt z (pos (2 ^ bits))) h in
     omega (arith, ints, p.1)
 
 -- ---- sums, term by term

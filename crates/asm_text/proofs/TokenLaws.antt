@@ -3,6 +3,7 @@ use Rattle.std.proofs.Common.{◌≡◌, ℕ, suc, ◌+◌, ◌≤◌, Bool, tru
 use Rattle.std.specs.Prelude.{◌&&◌, if◌then◌else◌}
 use Rattle.std.specs.List.{position_or_len}
 use Rattle.std.proofs.lemmas.Bool.Decides.{nat_tests}
+use Rattle.text_words.proofs.Cuts.{is_none}
 use Rattle.asm_text.specs.Tokens.{Tokens, end_with, token, begins_comment, goes_on, is_blank, is_mark, is_word_byte, tokens_of, with_byte, word_size, IsPastBlanks}
 
 -- ---- by what the first byte is
@@ -131,9 +132,6 @@ sizes (c ∷ cs) =
 at_position : (a n at : ℕ) → cond (ltb a n) (Some a) None ≡ Some at → a ≡ at
 at_position a n at h = grind (arith, nat_tests)
 
-at_no_position : (a n : ℕ) → cond (ltb a n) (Some a) None ≡ None → n ≤ a
-at_no_position a n h = grind (arith, nat_tests)
-
 pub size_by_position : (cs : List ℕ) (at : ℕ) → position (λ c. not (is_word_byte c)) cs ≡ Some at → at ≡ word_size cs
 size_by_position cs at h = sym (sizes cs ∙ at_position (position_or_len (λ c. not (is_word_byte c)) cs) (length cs) at h)
 
@@ -148,7 +146,7 @@ within_line (c ∷ cs) =
 
 pub size_without_position : (cs : List ℕ) → position (λ c. not (is_word_byte c)) cs ≡ None → length cs ≡ word_size cs
 size_without_position cs h =
-    let past = at_no_position (position_or_len (λ c. not (is_word_byte c)) cs) (length cs) h in
+    let past = is_none (position_or_len (λ c. not (is_word_byte c)) cs) (length cs) h in
     let within = within_line cs in
     let same = sizes cs in
     omega (arith, past, within, same)

@@ -9,6 +9,7 @@ use Rattle.muen_outside.specs.States.{History, Look, SinkState, Write, look, loo
 use Rattle.muen_outside.specs.Store.{Reading, Store, absent, long, whole}
 use Rattle.muen_outside.specs.declared.files.FileError.{FileError}
 use Rattle.muen_outside.specs.declared.files.FileError.TheVariants.{Failed as FileFailed, NoMemory as FileMemory}
+use Rattle.muen_outside.proofs.Explained.{told_none}
 use Rattle.asm_top.specs.Answers.{Answer, prints, writes, answer_of, of_source}
 use Rattle.asm_top.specs.Calls.{Comes, DoesOrNot, IsCallOf, Told, WriteEnds, missing_text, too_long_text}
 use Rattle.asm_top.specs.Commands.{Command, bin, file_of, most_of}
@@ -168,10 +169,6 @@ module _ (held held' : Option Store) (old new : History) (out out' : SinkState) 
 
   nothing : new ≡ old → new ≡ went old [] []
   nothing is = is ∙ ap (λ ls. record { looks = ls; writes = old.writes }) (sym (append-nil old.looks)) ∙ ap (λ ws. record { looks = old.looks ++ []; writes = ws }) (sym (append-nil old.writes))
-
-  told_none : (m : Option Store) → IfSome m (λ m. ShowAll m [])
-  told_none None = tt
-  told_none (Some m) = tt
 
   pub agrees : (c : Option Command) → ComesOf c held held' old new out out' outcome → IfSome held (λ m. ShowAll m (looks_since old new))
   agrees None u = subst (λ looks. IfSome held (λ m. ShowAll m looks)) (sym (looks_are [] [] (nothing u.history))) (told_none held)

@@ -279,11 +279,11 @@ coded_within n decode name bytes s e =
       | inr h ↦ rw (coded_err name (length bytes) (drop n bytes) (decode (take n bytes)) s h) (omega arith)
     ]
 
-coded_in_stays : {A : Type 0} (name : Field) (left n : ℕ) (behind more : List ℕ) (o : Option A) → coded_in name (left + n) (behind ++ more) o ≡ extended (longer more) n (coded_in name left behind o)
+pub coded_in_stays : {A : Type 0} (name : Field) (left n : ℕ) (behind more : List ℕ) (o : Option A) → coded_in name (left + n) (behind ++ more) o ≡ extended (longer more) n (coded_in name left behind o)
 coded_in_stays title left n behind more None = refl
 coded_in_stays title left n behind more (Some x) = refl
 
-coded_stays : {A : Type 0} (n : ℕ) (decode : List ℕ → Option A) (name : Field) (bytes more : List ℕ) → IsSettled (coded_at n decode name bytes)
+pub coded_stays : {A : Type 0} (n : ℕ) (decode : List ℕ → Option A) (name : Field) (bytes more : List ℕ) → IsSettled (coded_at n decode name bytes)
     → coded_at n decode name (bytes ++ more) ≡ extended (longer more) (length more) (coded_at n decode name bytes)
 unfolding coded_at
 coded_stays n decode name bytes more settled =

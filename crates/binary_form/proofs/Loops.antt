@@ -1,6 +1,7 @@
 -- Reading items one after the other, as a loop does.
 use Rattle.std.proofs.Common.{◌≡◌, ℕ, suc, ◌-◌, ◌+◌, ◌≤◌, ◌<◌, List, [], ◌∷◌, ◌++◌, Result, Ok, Err, refl, sym, ap, ◌∙◌, append_assoc, length, drop, get_or, drop-cons, add-one, arith}
 use Rattle.std.proofs.lemmas.List.{append-nil, drop_all}
+use Rattle.muen_num.proofs.Lists.{drop_more}
 use Rattle.binary_form.specs.declared.fault.FormFault.{FormFault}
 use Rattle.binary_form.specs.declared.fault.FormError.{FormError}
 use Rattle.binary_form.specs.declared.fault.FormError.TheVariants.{NoMemory, At}
@@ -45,9 +46,6 @@ is_done {A} next read front c count i bytes total le so_far =
     sym so_far ∙ one
 
 -- ---- one for each of a list
-
-pub drop_more : {R : Type 0} (rs : List R) (i : ℕ) (r : R) → i < length rs → r ≡ get_or rs i r → drop i rs ≡ r ∷ drop (i + 1) rs
-drop_more rs i r lt e = drop-cons rs i r lt ∙ rw (← e, add-one) refl
 
 pub each_goes_on : {R A : Type 0} (read : R → List ℕ → Result (A × List ℕ) FormFault) (front : List A) (rs : List R) (i : ℕ) (r : R) (bytes : List ℕ) (x : A) (after : List ℕ) (total : Result (List A × List ℕ) FormFault)
     → i < length rs → r ≡ get_or rs i r → read r bytes ≡ Ok (x, after)

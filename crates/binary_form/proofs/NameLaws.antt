@@ -1,7 +1,7 @@
 -- The field of a name is read as it was written, and has one spelling.
 use Rattle.std.proofs.Common.{◌≡◌, ℕ, ◌-◌, ◌≤◌, Bool, true, false, cond, ◌&&◌, leb, eqb, List, [], ◌∷◌, ◌++◌, length, take, drop, replicate, Option, Some, None, refl, sym, ap, subst, ◌∙◌, arith}
 use Rattle.std.specs.List.{list_all}
-use Rattle.std.proofs.lemmas.Bool.{leb-true, le-leb}
+use Rattle.std.proofs.lemmas.Bool.{leb-true, le-leb, and_parts}
 use Rattle.std.proofs.lemmas.Grind.{common_steps}
 use Rattle.std.proofs.lemmas.List.{take_at, drop_at, take-append-drop, length-append, length-replicate, length-take, length-drop}
 use Rattle.muen_num.specs.Naming.{is_name, name_of, name_room}
@@ -9,7 +9,7 @@ use Rattle.binary_form.specs.declared.fault.Field.TheVariants as at
 use Rattle.binary_form.specs.Form.{coded}
 use Rattle.binary_form.specs.Name.{name, name_in, name_bytes}
 use Rattle.binary_form.proofs.Leaves.{IsCode, Laws, coded_laws}
-use Rattle.binary_form.proofs.Forms.{both_true, zeros_are, are_zeros}
+use Rattle.binary_form.proofs.Forms.{zeros_are, are_zeros}
 
 abbrev found : List ℕ → Option (List ℕ)
 found text = Some text
@@ -28,7 +28,7 @@ unfolding name_room
 name_back [] text size e = absurd cc
 name_back (n ∷ body) text size e =
     let g = tested (leb n 63 && list_all (λ b. eqb b 0) (drop n body)) (name_of (take n body)) text e in
-    let h = both_true (leb n 63) (list_all (λ b. eqb b 0) (drop n body)) g.0 in
+    let h = and_parts (leb n 63) (list_all (λ b. eqb b 0) (drop n body)) g.0 in
     let small : n ≤ 63 = leb-true n 63 h.0 in
     let front : length (take n body) ≡ n = omega (arith, length-take n body) in
     let many : length (drop n body) ≡ 63 - length (take n body) = omega (arith, length-drop n body) in
@@ -42,7 +42,7 @@ unfolding name_room
 name_size text e =
     let rest = text ++ replicate (63 - length text) 0 in
     let g = tested (leb (length text) 63 && list_all (λ b. eqb b 0) (drop (length text) rest)) (name_of (take (length text) rest)) text e in
-    let h = both_true (leb (length text) 63) (list_all (λ b. eqb b 0) (drop (length text) rest)) g.0 in
+    let h = and_parts (leb (length text) 63) (list_all (λ b. eqb b 0) (drop (length text) rest)) g.0 in
     let small : length text ≤ 63 = leb-true (length text) 63 h.0 in
     omega (arith, length-append text (replicate (63 - length text) 0), length-replicate {A = ℕ} (63 - length text) 0)
 

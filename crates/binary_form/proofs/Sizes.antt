@@ -1,19 +1,19 @@
 -- What fits a form is spelled in bytes, and in no more of them than the form has.
-use Rattle.std.proofs.Common.{◌≡◌, ℕ, zero, suc, ◌+◌, ◌-◌, ◌*◌, ◌^◌, ◌/◌, ◌%◌, ◌<◌, ◌≤◌, Bool, true, false, List, [], ◌∷◌, ◌++◌, length, replicate, Option, Some, None, subst, mul-le-mul_right, suc-mul, mod-lt, arith, nat_lt}
+use Rattle.std.proofs.Common.{◌≡◌, ℕ, zero, suc, ◌+◌, ◌-◌, ◌*◌, ◌<◌, ◌≤◌, Bool, true, false, List, [], ◌∷◌, ◌++◌, length, replicate, Option, Some, None, subst, mul-le-mul_right, suc-mul, arith, nat_lt}
 use Rattle.std.specs.Prelude.{IsTrue}
 use Rattle.std.specs.Int.{Width, byte_len, bytes_low_first, byte_at as digit_at}
 use Rattle.std.specs.List.{list_all, sum_by}
-use Rattle.std.proofs.lemmas.Bool.{ltb-true}
+use Rattle.std.proofs.lemmas.Bool.{ltb-true, and_parts}
 use Rattle.std.proofs.lemmas.Grind.{common_steps}
 use Rattle.std.proofs.lemmas.List.{length-append, length-replicate}
 use Rattle.std.proofs.lemmas.List.Sums.{sum_by-cons}
+use Rattle.muen_num.proofs.Numbers.{byte_low}
 use Rattle.muen_num.specs.Naming.{is_name, is_name_byte, name_room}
 use Rattle.binary_form.specs.declared.fault.Field.{Field}
 use Rattle.binary_form.specs.declared.fault.Field.TheVariants as at
 use Rattle.binary_form.specs.Form.{IsBytes, Form, number, byte, bytes_of, coded, only, field, gap, done, absent, present, spelled_there, fits_there, either, items, spells, all_fit, each, each_spelled, each_fit}
 use Rattle.binary_form.specs.Name.{name, name_in, name_bytes}
 use Rattle.binary_form.proofs.Leaves.{IsCode, IsWide}
-use Rattle.binary_form.proofs.Forms.{both_true}
 use Rattle.binary_form.proofs.NameLaws.{name_code, name_kept, name_short}
 
 -- ---- bytes
@@ -37,16 +37,12 @@ zeros (suc n) = one_more 0 (replicate n 0) (omega arith) (zeros n)
 pub each_low : (bytes : List ℕ) → list_all (λ b. nat_lt b 256) bytes ≡ true → IsBytes bytes
 each_low [] h = no_bytes
 each_low (b ∷ bytes) h =
-    let p = both_true (nat_lt b 256) (list_all (λ b. nat_lt b 256) bytes) h in
+    let p = and_parts (nat_lt b 256) (list_all (λ b. nat_lt b 256) bytes) h in
     one_more b bytes (ltb-true b 256 p.0) (each_low bytes p.1)
-
-digit_low : (i n : ℕ) → digit_at i n < 256
-digit_low zero n = mod-lt n (omega arith)
-digit_low (suc i) n = mod-lt (n / 256 ^ suc i) (omega arith)
 
 digits_low : (i k n : ℕ) → IsBytes (bytes_low_first i k n)
 digits_low i zero n = no_bytes
-digits_low i (suc k) n = one_more (digit_at i n) (bytes_low_first (suc i) k n) (digit_low i n) (digits_low (suc i) k n)
+digits_low i (suc k) n = one_more (digit_at i n) (bytes_low_first (suc i) k n) (byte_low i n) (digits_low (suc i) k n)
 
 letter_low : (c : ℕ) → is_name_byte c ≡ true → c < 256
 letter_low c h = grind (arith, common_steps)
@@ -54,14 +50,14 @@ letter_low c h = grind (arith, common_steps)
 letters_low : (text : List ℕ) → list_all is_name_byte text ≡ true → IsBytes text
 letters_low [] h = no_bytes
 letters_low (c ∷ text) h =
-    let p = both_true (is_name_byte c) (list_all is_name_byte text) h in
+    let p = and_parts (is_name_byte c) (list_all is_name_byte text) h in
     one_more c text (letter_low c p.0) (letters_low text p.1)
 
 name_in_bytes : (text : List ℕ) → is_name text ≡ true → IsBytes (name_bytes text)
 unfolding is_name name_room
 name_in_bytes text h =
     let few : length text ≤ 63 = name_short text h in
-    let letters = both_true _ (list_all is_name_byte text) h in
+    let letters = and_parts _ (list_all is_name_byte text) h in
     let behind : List ℕ = replicate (63 - length text) 0 in
     one_more (length text) (text ++ behind) (omega (arith, few)) (both_bytes text behind (letters_low text letters.1) (zeros (63 - length text)))
 

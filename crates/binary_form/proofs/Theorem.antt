@@ -41,7 +41,7 @@ back f laws x fits = is_unpacked f (f.spell x) x (whole_again f laws x fits)
 pub only_that : {A : Type 0} (f : Form A) → Laws f → (bytes : List ℕ) (r : Result A ImageFault) → Tells (unpacked f bytes) r → (x : A) → f.fits x → bytes ≡ f.spell x → Tells (Ok x) r
 only_that {A} f laws bytes r h x fits e = subst (λ (w : Result A ImageFault). Tells w r) (ap (unpacked f) e ∙ back f laws x fits) h
 
-located_ok : {A : Type 0} (total : ℕ) (r : Result A FormFault) (x : A) → located_in total r ≡ Ok x → r ≡ Ok x
+pub located_ok : {A : Type 0} (total : ℕ) (r : Result A FormFault) (x : A) → located_in total r ≡ Ok x → r ≡ Ok x
 located_ok total (Ok y) x e = cc
 located_ok total (Err s) x e = absurd cc
 

@@ -12,9 +12,9 @@ use Rattle.std.proofs.lemmas.List.Filters.{sum_by-filter_both}
 use Rattle.std.proofs.lemmas.List.Kept.{AllPairs-filter}
 use Rattle.std.proofs.lemmas.List.Sums.{sum_by-cons, sum_by-le-sum_by}
 use Rattle.std.proofs.lemmas.Slice.Eq.{bytes_eq-Decides}
+use Rattle.muen_num.proofs.Lookups.{same_self}
 use Rattle.ept_emit.specs.Pages.{count, ept_pages, is_taken, one, touches}
 use Rattle.ept_emit.specs.declared.window.GuestRange.{GuestRange}
-use Rattle.policy_lawful.proofs.Indexes.{same_self}
 use Rattle.span_emit.proofs.PairLaws.{pairs_head}
 
 -- ---- tables of ranges

@@ -1,7 +1,7 @@
 -- By the domains of a placed policy a device gets where the policy declares.
-use Rattle.std.proofs.Common.{◌≡◌, inl, inr, ℕ, zero, suc, ◌+◌, ◌-◌, ◌<◌, Bool, true, false, cond, List, [], ◌∷◌, get_or, length, map, Option, Some, None, refl, sym, ap, ◌∙◌, subst, arith}
+use Rattle.std.proofs.Common.{◌≡◌, inl, inr, ℕ, ◌+◌, ◌-◌, ◌<◌, Bool, true, false, cond, List, [], ◌∷◌, get_or, length, map, Option, Some, None, refl, sym, ap, ◌∙◌, arith}
 use Rattle.std.specs.Prelude.{◌&&◌, if◌then◌else◌, is_some, nat_le, nat_lt, option_and_then, option_map, slice_get}
-use Rattle.std.specs.List.{cons_option, filter_map, find, flat_map, list_any, position_or_len}
+use Rattle.std.specs.List.{cons_option, filter_map, find, list_any, position_or_len}
 use Rattle.std.specs.List.Sorted.{IsPermutation}
 use Rattle.std.specs.Option.{option_map_or}
 use Rattle.std.specs.Str.{bytes_eq}
@@ -16,20 +16,20 @@ use Rattle.dma_emit.specs.Reached.{kind_of, placed_at}
 use Rattle.dma_emit.proofs.DomainRules.{IsDomain, devices_kept}
 use Rattle.dma_emit.proofs.DomainWindows.{AreTwo, are_two, each_domain}
 use Rattle.dma_emit.proofs.DomainsReady.{ready, stands}
-use Rattle.dma_emit.proofs.Found.{found_by_position, made_from, position_found}
+use Rattle.dma_emit.proofs.Found.{made_from, position_found}
 use Rattle.dma_emit.proofs.Unordered.{found_moved}
 use Rattle.dma_emit.proofs.Walk.{by_domains, led, led_device}
 use Rattle.ept_emit.specs.Emitted.{holds as is_in, window_at}
 use Rattle.ept_emit.specs.declared.window.Window.{Window}
 use Rattle.expand_kernel.proofs.Ordered.{in_order_permutes}
 use Rattle.muen_num.proofs.Lists.{found, there}
-use Rattle.muen_num.proofs.Members.{In, all_in, any_in, any_some, filter_map_in, find_in, left_in, map_in, passes_in, right_in}
+use Rattle.muen_num.proofs.Lookups.{at_position, same_self}
+use Rattle.muen_num.proofs.Members.{In, all_in, any_in, any_some, filter_map_in, find_in, map_in, passes_in, flat_in, at_in}
 use Rattle.policy_lawful.specs.Dma.{dma_access, domain_of, domain_windows}
 use Rattle.policy_lawful.specs.Domains.{Listed, device_has_bdf, listed_devices}
 use Rattle.policy_lawful.specs.Resolution.{source_of}
 use Rattle.policy_lawful.specs.Thing.{Thing, region}
 use Rattle.policy_lawful.specs.Windows.{Window as Granted, access_by, access_of, byte, holds, region_window, violation, window}
-use Rattle.policy_lawful.proofs.Indexes.{same_self}
 use Rattle.policy_lawful.proofs.KeptRules.{rules_of}
 use Rattle.policy_lawful.specs.Rights.{allows}
 use Rattle.policy_lawful.specs.source.Bdf.{Bdf}
@@ -43,11 +43,6 @@ use Rattle.region_alloc.specs.Placed.{IsPlaced, Placement}
 -- where a device reads or writes by an address, by the policy's declaration
 abbrev pub declared_at : Placement → List ℕ → ℕ → Bool → Option ℕ
 declared_at x device addr write = placed_at x (dma_access (source_of x.expanded.lawful) device addr (kind_of write))
-
-flat_in : {X Y : Type 0} (f : X → List Y) (xs : List X) (x : X) (y : Y) → In x xs → In y (f x) → In y (flat_map f xs)
-flat_in f [] x y i j = absurd i
-flat_in f (z ∷ zs) x y (inl same) j = left_in (f z) (flat_map f zs) y (subst (λ w. In y (f w)) (sym same) j)
-flat_in f (z ∷ zs) x y (inr i) j = right_in (f z) (flat_map f zs) y (flat_in f zs x y i j)
 
 not_both : (a b : Window) (addr : ℕ) → AreTwo a b → is_in addr a ≡ true → is_in addr b ≡ true → ⊥
 not_both a b addr two p q =
@@ -119,7 +114,7 @@ module _ (x : Placement) (placed : IsPlaced x) where
 
   domain_is : (device : List ℕ) (n : ℕ) (d : Domain) → domain_number p device ≡ Some n → slice_get domains n ≡ Some d → domain_of p device ≡ Some d
   unfolding source_of
-  domain_is device n d e at = found_by_position (has device) domains n e ∙ at
+  domain_is device n d e at = sym (at_position (has device) domains n e) ∙ at
 
   windows_are : (n : ℕ) (d : Domain) → slice_get domains n ≡ Some d → windows_at (domains_of x) n ≡ windows_of x d
   windows_are n d at = get_or_from_slice_get (map (windows_of x) domains) n (windows_of x d) [] (slice_get-map (windows_of x) domains n ∙ ap (option_map (windows_of x)) at)
@@ -178,11 +173,6 @@ module _ (x : Placement) (placed : IsPlaced x) where
       let below = all_in (λ v. v.domain < length (domains_of x).windows) (domain_devices p) (ready x placed).domains v i in
       omega arith
 
-  element : (ds : List Domain) (n : ℕ) (d : Domain) → slice_get ds n ≡ Some d → In d ds
-  element [] n d e = absurd (cc)
-  element (y ∷ ds) zero d e = inl (cc)
-  element (y ∷ ds) (suc n) d e = inr (element ds n d e)
-
   by_device : (device : List ℕ) (addr : ℕ) (write : Bool) (o : Option DomainDevice) → find (λ v. bytes_eq v.device.name device) (domain_devices p) ≡ o → option_and_then (led_device (domains_of x) addr write) o ≡ declared_at x device addr write
   by_device device addr write None e = sym (ap (λ o. placed_at x (access_of (option_map_or (domain_windows p) o []) addr (kind_of write))) (no_domain device e))
   by_device device addr write (Some v) e =
@@ -196,7 +186,7 @@ module _ (x : Placement) (placed : IsPlaced x) where
       let at = there domains v.domain below in
       let is = domain_is device v.domain at.0 domain at.1 in
       ap (λ ws. led (window_at ws addr) addr write) (windows_are v.domain at.0 at.1)
-      ∙ (domain_leads at.0 (element domains v.domain at.0 at.1) addr write
+      ∙ (domain_leads at.0 (at_in domains v.domain at.0 at.1) addr write
       ∙ sym (ap (λ o. placed_at x (access_of (option_map_or (domain_windows p) o []) addr (kind_of write))) is))
 
   pub declares : (device : List ℕ) (addr : ℕ) (write : Bool) → by_domains (domains_of x) device addr write ≡ declared_at x device addr write

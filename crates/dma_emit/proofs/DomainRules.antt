@@ -10,6 +10,7 @@ use Rattle.muen_num.specs.Search.{first_after, first_in, first_pair, unless}
 use Rattle.muen_num.specs.declared.limits.TheConstants.{GUEST_END, MOST_DOMAINS}
 use Rattle.muen_num.proofs.FirstPair.{none_at, pairs_at}
 use Rattle.muen_num.proofs.Members.{In, left_in, right_in}
+use Rattle.muen_num.proofs.Pairs.{pairs_unmapped}
 use Rattle.muen_num.proofs.SearchLaws.{all_pass, none_both, unless_none}
 use Rattle.policy_lawful.specs.Domains.{Listed, device_has_bdf, domain_extent, domain_overlap, is_bdf, listed_devices, listed_regions, offence_21, offence_22, offence_23, region_size, same_bdf, stands_before}
 use Rattle.policy_lawful.specs.Offences.{alone, two}
@@ -19,7 +20,7 @@ use Rattle.policy_lawful.specs.Rights.{may_execute}
 use Rattle.policy_lawful.specs.source.Domain.{Domain}
 use Rattle.policy_lawful.specs.source.Mapping.{Mapping}
 use Rattle.policy_lawful.specs.source.Source.{Source}
-use Rattle.span_emit.proofs.PairLaws.{pairs_unmapped, pairs_weaker}
+use Rattle.span_emit.proofs.PairLaws.{pairs_weaker}
 
 -- ---- rule 21
 

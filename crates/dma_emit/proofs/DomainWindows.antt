@@ -11,9 +11,9 @@ use Rattle.std.proofs.lemmas.List.Sorted.{All-permutation}
 use Rattle.dma_emit.specs.Domains.{is_lower, mapped, place_of, region_mapped, windows_of}
 use Rattle.dma_emit.specs.Ready.{AreWindows, HaveDifferentGuests, IsForDevices}
 use Rattle.dma_emit.proofs.DomainRules.{IsDomain, IsWindow, domains_kept}
-use Rattle.dma_emit.proofs.Found.{all_made, beside_at, found_at, pairs_made, pairs_mapped, position_found}
+use Rattle.dma_emit.proofs.Found.{all_made, beside_at, found_at, pairs_made, position_found}
 use Rattle.std.proofs.lemmas.Option.{slice_get_within}
-use Rattle.dma_emit.proofs.PlacesThere.{addresses_long, region_at}
+use Rattle.dma_emit.proofs.PlacesThere.{addresses_long}
 use Rattle.dma_emit.proofs.Ranges.{AreTwo as AreApart, ascending, two_moved}
 use Rattle.ept_emit.specs.Entries.{IsEmittable}
 use Rattle.ept_emit.specs.Pages.{range_of}
@@ -23,6 +23,7 @@ use Rattle.expand_kernel.proofs.Ordered.{in_order_permutes}
 use Rattle.expand_kernel.specs.declared.region.Region.{Region}
 use Rattle.muen_num.specs.declared.limits.TheConstants.{PAGE, PHYSICAL_END}
 use Rattle.muen_num.proofs.Lists.{found_among}
+use Rattle.muen_num.proofs.Pairs.{pairs_mapped}
 use Rattle.policy_lawful.specs.Domains.{domain_extent, region_size}
 use Rattle.policy_lawful.specs.Ranges.{in_a_block}
 use Rattle.policy_lawful.specs.Resolution.{source_of}
@@ -34,6 +35,7 @@ use Rattle.policy_lawful.specs.source.Mapping.{Mapping}
 use Rattle.policy_lawful.specs.source.Region.{Region as SourceRegion}
 use Rattle.region_alloc.specs.Placed.{IsPlaced, Placement}
 use Rattle.region_alloc.proofs.Lowest.{ends_well}
+use Rattle.region_alloc.proofs.OwnRegions.{region_at}
 use Rattle.span_emit.proofs.DeviceSpans.{some_block}
 use Rattle.span_emit.proofs.Placed.{IsPlaced as IsLaidOut, is_placed}
 use Rattle.expand_kernel.specs.ByIndex.{own_region}

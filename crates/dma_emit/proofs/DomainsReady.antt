@@ -18,10 +18,10 @@ use Rattle.dma_emit.specs.Ready.{AreWindows, HaveDifferentGuests, IsReady, same_
 use Rattle.dma_emit.proofs.Counts.{few_tables, found_weight, sum_found, tables_for}
 use Rattle.dma_emit.proofs.DomainRules.{DevicesKept, IsDomain, devices_kept, regions_once}
 use Rattle.dma_emit.proofs.DomainWindows.{are_windows, different, each_domain, laid_out}
-use Rattle.dma_emit.proofs.Found.{all_made, fewer_made, pairs_made, pairs_mapped}
+use Rattle.dma_emit.proofs.Found.{all_made, fewer_made, pairs_made}
 use Rattle.dma_emit.proofs.Layouts.{few_buses}
 use Rattle.dma_emit.proofs.Lists.{listed}
-use Rattle.dma_emit.proofs.PlacesThere.{position_within, regions_are}
+use Rattle.dma_emit.proofs.PlacesThere.{position_within}
 use Rattle.dma_emit.proofs.TotalSize.{first_bytes, regions_bytes}
 use Rattle.ept_emit.specs.Pages.{ept_pages, range_of, ranges_of}
 use Rattle.ept_emit.specs.declared.window.GuestRange.{GuestRange}
@@ -31,7 +31,8 @@ use Rattle.muen_num.specs.Range.{numbers_below}
 use Rattle.muen_num.specs.Search.{unless}
 use Rattle.muen_num.specs.declared.limits.TheConstants.{BDF_FUNCTIONS, MOST_DOMAINS, MOST_REGIONS, PAGE}
 use Rattle.muen_num.proofs.FirstPair.{pairs_at}
-use Rattle.muen_num.proofs.Lists.{sum_by-map}
+use Rattle.muen_num.proofs.Lists.{sum_by-map, all_passing}
+use Rattle.muen_num.proofs.Pairs.{pairs_unmapped, pairs_mapped}
 use Rattle.muen_num.proofs.SearchLaws.{unless_none}
 use Rattle.policy_lawful.specs.Domains.{Listed, is_bdf, listed_regions, same_bdf}
 use Rattle.policy_lawful.specs.Offences.{alone}
@@ -45,8 +46,9 @@ use Rattle.policy_lawful.specs.source.Domain.{Domain}
 use Rattle.policy_lawful.specs.source.Mapping.{Mapping}
 use Rattle.policy_lawful.specs.source.Region.{Region}
 use Rattle.policy_lawful.specs.source.Source.{Source}
+use Rattle.region_alloc.proofs.OwnRegions.{regions_are}
 use Rattle.region_alloc.specs.Placed.{IsPlaced, Placement}
-use Rattle.span_emit.proofs.PairLaws.{all_from, pairs_unmapped, pairs_weaker}
+use Rattle.span_emit.proofs.PairLaws.{pairs_weaker}
 
 -- ---- devices
 
@@ -252,7 +254,7 @@ module _ (x : Placement) (placed : IsPlaced x) where
 
   pub bdfs : All (λ d. is_bdf d.bdf ≡ true) x.expanded.lawful.devices
   unfolding source_of
-  bdfs = all_from (λ d. is_bdf d.bdf) (λ d. is_bdf d.bdf ≡ true) (λ d h. h) x.expanded.lawful.devices kept.bdfs
+  bdfs = all_passing (λ d. is_bdf d.bdf) (λ d. is_bdf d.bdf ≡ true) (λ d h. h) x.expanded.lawful.devices kept.bdfs
 
   names_differ : AllPairs (λ a b. bytes_eq a.name b.name ≡ false) x.expanded.lawful.devices
   unfolding source_of

@@ -6,7 +6,7 @@ use Rattle.std.proofs.lemmas.Bool.{and_parts, eqb-true, leb-true}
 use Rattle.std.proofs.lemmas.List.{length-map}
 use Rattle.std.proofs.lemmas.List.Elements.{All-append, All-map, All-nil}
 use Rattle.std.proofs.lemmas.List.Sums.{sum_by-append, sum_by-cons}
-use Rattle.muen_num.proofs.Lists.{sum_by-map}
+use Rattle.muen_num.proofs.Lists.{sum_by-map, all_passing}
 use Rattle.muen_num.proofs.SearchLaws.{none_both, unless_none}
 use Rattle.muen_num.specs.declared.limits.TheConstants.{MOST_BLOCKS, PAGE, PHYSICAL_END}
 use Rattle.policy_lawful.specs.Lawful.{IsLawful}
@@ -20,7 +20,6 @@ use Rattle.policy_lawful.specs.source.Block.{Block}
 use Rattle.policy_lawful.specs.source.Device.{Device}
 use Rattle.policy_lawful.specs.source.DeviceMemory.{DeviceMemory}
 use Rattle.policy_lawful.specs.source.Source.{Source}
-use Rattle.span_emit.proofs.PairLaws.{all_from}
 
 -- whole pages of physical memory
 pub record IsWhole (e : Extent) : Type 0 where
@@ -47,14 +46,14 @@ devices_whole [] h = All-nil IsWhole
 devices_whole (d ∷ ds) h =
     let both = and_parts (list_all is_memory d.memory) (list_all (λ d. list_all is_memory d.memory) ds) h in
     All-append IsWhole (map memory_extent d.memory) (flat_map (λ d. map memory_extent d.memory) ds)
-    (All-map IsWhole memory_extent d.memory (all_from is_memory (λ m. IsWhole (memory_extent m)) (λ m k. whole (memory_extent m) k) d.memory both.0))
+    (All-map IsWhole memory_extent d.memory (all_passing is_memory (λ m. IsWhole (memory_extent m)) (λ m k. whole (memory_extent m) k) d.memory both.0))
     (devices_whole ds both.1)
 
 pub all_whole : (p : Source) → IsLawful p → All IsWhole (extents_of p)
 all_whole p lawful =
     let kept = addresses_kept p (rules_of lawful).rule_4 in
     All-append IsWhole (map block_extent p.memory_blocks) (flat_map (λ d. map memory_extent d.memory) p.devices)
-    (All-map IsWhole block_extent p.memory_blocks (all_from (λ b. is_physical b.physical_address b.size) (λ b. IsWhole (block_extent b)) (λ b k. whole (block_extent b) k) p.memory_blocks kept.blocks))
+    (All-map IsWhole block_extent p.memory_blocks (all_passing (λ b. is_physical b.physical_address b.size) (λ b. IsWhole (block_extent b)) (λ b k. whole (block_extent b) k) p.memory_blocks kept.blocks))
     (devices_whole p.devices kept.devices)
 
 -- ---- how much room they take

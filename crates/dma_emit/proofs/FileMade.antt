@@ -21,11 +21,10 @@ use Rattle.dma_tables.specs.DmaConditions.{IsDmaDevice, KeepsConditions}
 use Rattle.dma_tables.specs.DmaWalk.{dma_walk, root_page}
 use Rattle.dma_tables.specs.declared.file.DmaDevice.{DmaDevice}
 use Rattle.dma_tables.specs.declared.file.DmaFile.{DmaFile}
-use Rattle.muen_num.proofs.Lists.{map-map}
+use Rattle.muen_num.proofs.Lists.{map-map, all_unmapped}
 use Rattle.muen_num.specs.declared.limits.TheConstants.{PAGE, PHYSICAL_END}
 use Rattle.policy_lawful.specs.Resolution.{source_of}
 use Rattle.region_alloc.specs.Placed.{IsPlaced, Placement}
-use Rattle.span_emit.proofs.PairLaws.{all_unmapped}
 
 module _ (d : Domains) (is_ready : IsReady d) (t : DmaFile) (file : IsFileOf d t) (aligned : t.base % PAGE ≡ 0) (low : t.base + PAGE * page_count d ≤ PHYSICAL_END) (are : All IsDmaDevice t.devices) where
   pub many : length t.pages ≡ PAGE * page_count d

@@ -1,9 +1,9 @@
 -- What is found in a list, and where it stands.
-use Rattle.std.proofs.Common.{◌≡◌, inl, inr, ℕ, zero, suc, ◌+◌, ◌<◌, ◌≤◌, All, Bool, true, false, cond, not, List, [], ◌∷◌, length, get_or, map, Option, Some, None, refl, sym, ap, ◌∙◌, subst, arith}
-use Rattle.std.specs.Prelude.{nat_lt, position, slice_get}
+use Rattle.std.proofs.Common.{◌≡◌, inl, inr, ℕ, zero, suc, ◌+◌, ◌≤◌, All, Bool, true, false, cond, not, List, [], ◌∷◌, length, get_or, Option, Some, None, refl, sym, ap, ◌∙◌, subst, arith}
+use Rattle.std.specs.Prelude.{position, slice_get}
 use Rattle.std.specs.List.{AllPairs, AllZip, cons_option, filter_map, find, position_or_len}
-use Rattle.std.proofs.lemmas.Bool.{lt-ltb, ltb-true}
-use Rattle.std.proofs.lemmas.List.Elements.{All-cons, All-head, All-map, All-nil, All-tail}
+use Rattle.std.proofs.lemmas.Bool.{lt-ltb}
+use Rattle.std.proofs.lemmas.List.Elements.{All-cons, All-head, All-nil, All-tail}
 use Rattle.std.proofs.lemmas.List.Kept.{AllPairs-cons}
 use Rattle.std.proofs.lemmas.Option.{slice_get_within}
 use Rattle.muen_num.proofs.Members.{In}
@@ -23,25 +23,6 @@ pub position_found : {X : Type 0} (p : X → Bool) (xs : List X) (x : X) → fin
 position_found p xs x h =
     let within = slice_get_within xs (position_or_len p xs) x (found_at p xs x h) in
     ap (λ b. cond b (Some (position_or_len p xs)) None) (lt-ltb (position_or_len p xs) (length xs) within)
-
--- an index that is found is that of what is found
-index_is : {X : Type 0} (p : X → Bool) (xs : List X) (n : ℕ) → position p xs ≡ Some n → (position_or_len p xs ≡ n) × (position_or_len p xs < length xs)
-index_is p xs n e =
-    elim (nat_lt (position_or_len p xs) (length xs)) as (λ b. nat_lt (position_or_len p xs) (length xs) ≡ b → cond b (Some (position_or_len p xs)) None ≡ Some n → (position_or_len p xs ≡ n) × (position_or_len p xs < length xs)) [
-      | true ↦ λ is some. (cc, ltb-true (position_or_len p xs) (length xs) is)
-      | false ↦ λ is some. absurd (cc)
-    ] refl e
-
-by_index : {X : Type 0} (p : X → Bool) (xs : List X) → position_or_len p xs < length xs → find p xs ≡ slice_get xs (position_or_len p xs)
-by_index p [] l = absurd (omega arith)
-by_index p (y ∷ ys) l =
-    elim (p y) as (λ b. cond (not b) (1 + position_or_len p ys) 0 < length (y ∷ ys) → cond b (Some y) (find p ys) ≡ slice_get (y ∷ ys) (cond (not b) (1 + position_or_len p ys) 0)) [
-      | true ↦ λ m. refl
-      | false ↦ λ m. let next : 1 + position_or_len p ys ≡ suc (position_or_len p ys) = omega arith in by_index p ys (omega arith) ∙ sym (ap (slice_get (y ∷ ys)) next)
-    ] l
-
-pub found_by_position : {X : Type 0} (p : X → Bool) (xs : List X) (n : ℕ) → position p xs ≡ Some n → find p xs ≡ slice_get xs n
-found_by_position p xs n e = let is = index_is p xs n e in by_index p xs is.1 ∙ ap (slice_get xs) is.0
 
 none_some : (n : ℕ) → Some n ≡ None → ⊥
 none_some n e = cc
@@ -95,9 +76,3 @@ beside_at R [] ys i x h e = absurd (cc)
 beside_at R (y ∷ xs) [] i x h e = absurd h
 beside_at R (y ∷ xs) (p ∷ ys) zero x h e = let same : y ≡ x = cc in subst (λ z. R z p) same h.0
 beside_at R (y ∷ xs) (p ∷ ys) (suc i) x h e = beside_at R xs ys i x h.1 e
-
--- of images
-pub pairs_mapped : {X Y : Type 0} (f : X → Y) (R : Y → Y → Type 0) (xs : List X) → AllPairs (λ a b. R (f a) (f b)) xs → AllPairs R (map f xs)
-pairs_mapped f R [] h = λ i j d l m. absurd (omega arith)
-pairs_mapped f R (x ∷ xs) h =
-    AllPairs-cons R (f x) (map f xs) (All-map (R (f x)) f xs (pairs_head (λ a b. R (f a) (f b)) x xs h)) (pairs_mapped f R xs (pairs_tail (λ a b. R (f a) (f b)) x xs h))

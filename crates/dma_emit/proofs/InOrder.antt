@@ -1,8 +1,7 @@
 -- Windows of which no two are at the same address, in the order of their addresses.
-use Rattle.std.proofs.Common.{◌≡◌, ℕ, ◌≤◌, true, false, List, get_or, sym, arith}
-use Rattle.std.specs.Prelude.{◌==◌, nat_le}
+use Rattle.std.proofs.Common.{◌≡◌, List, get_or, sym, arith}
 use Rattle.std.specs.List.Sorted.{IsNonDecreasingBy, IsPermutation}
-use Rattle.std.proofs.lemmas.Bool.Decides.{nat_tests}
+use Rattle.muen_num.proofs.Numbers.{equal_turned, lower}
 use Rattle.dma_emit.specs.Domains.{is_lower}
 use Rattle.dma_emit.specs.Ready.{HaveDifferentGuests, same_guest}
 use Rattle.ept_emit.specs.declared.window.Window.{Window}
@@ -10,14 +9,8 @@ use Rattle.expand_kernel.specs.Ordered.{in_order}
 use Rattle.expand_kernel.proofs.Ordered.{ordered_is}
 use Rattle.span_emit.proofs.PairLaws.{pairs_permuted}
 
-pub flips : (a b : ℕ) → (a == b) ≡ (b == a)
-flips a b = grind (arith, nat_tests)
-
-lower : (a b : ℕ) → a ≤ b → (a == b) ≡ false → (nat_le a b ≡ true) × (nat_le b a ≡ false)
-lower a b l h = (grind (arith, nat_tests, l), grind (arith, nat_tests, l, h))
-
 pub still_different : (xs ys : List Window) → IsPermutation xs ys → HaveDifferentGuests xs → HaveDifferentGuests ys
-still_different xs ys moved different = pairs_permuted same_guest (λ a b. flips a.guest b.guest) xs ys moved different
+still_different xs ys moved different = pairs_permuted same_guest (λ a b. equal_turned a.guest b.guest) xs ys moved different
 
 -- what is sorted by addresses that differ is in their order
 pub sorted_is : (xs ys : List Window) → HaveDifferentGuests xs → IsPermutation xs ys → IsNonDecreasingBy (λ w. w.guest) ys → ys ≡ in_order is_lower xs

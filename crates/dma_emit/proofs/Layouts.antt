@@ -9,13 +9,13 @@ use Rattle.dma_emit.specs.declared.domains.Domains.{Domains}
 use Rattle.dma_emit.specs.declared.layout.TheConstants.{BUSES}
 use Rattle.dma_emit.specs.Layout.{buses, buses_below, context_page, domain_pages, has_device, on_bus, page_count, tables_page, windows_at}
 use Rattle.dma_emit.specs.Ready.{AreWindows, IsReady}
-use Rattle.dma_emit.proofs.Lists.{filter_fits_numbers, filter_passes_next, length_pushed, numbered_at, sum_grows, sum_next, sum_rises}
+use Rattle.dma_emit.proofs.Lists.{filter_fits_numbers, filter_passes_next, length_pushed, sum_grows, sum_next, sum_rises}
 use Rattle.ept_emit.specs.Entries.{IsEmittable}
 use Rattle.ept_emit.specs.Pages.{IsMapped, ept_pages, range_of, ranges_of}
 use Rattle.ept_emit.specs.declared.window.Window.{Window}
 use Rattle.muen_num.specs.Range.{numbers_below}
 use Rattle.muen_num.proofs.Members.{all_in, any_some, filter_fits}
-use Rattle.muen_num.proofs.NumbersBelow.{length_numbers}
+use Rattle.muen_num.proofs.NumbersBelow.{length_numbers, mapped_at}
 
 -- ---- buses
 
@@ -69,7 +69,7 @@ module _ (d : Domains) (pages : List ℕ) (are : pages ≡ map (tables_page d) (
       omega arith
 
   pub page_at : (n : ℕ) → n ≤ length d.windows → get_or pages n 0 ≡ tables_page d n
-  page_at n l = ap (λ xs. get_or xs n 0) are ∙ numbered_at (tables_page d) (length d.windows + 1) n 0 (omega arith)
+  page_at n l = ap (λ xs. get_or xs n 0) are ∙ mapped_at (tables_page d) (length d.windows + 1) n 0 (omega arith)
 
 -- ---- domains in which a device stands
 

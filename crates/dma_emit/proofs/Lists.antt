@@ -3,7 +3,7 @@ use Rattle.std.proofs.Common.{◌≡◌, inl, inr, ℕ, zero, suc, ◌+◌, ◌*
 use Rattle.std.specs.Prelude.{filter}
 use Rattle.std.specs.List.{concat, flat_map, range_with_len, sum_by}
 use Rattle.std.proofs.lemmas.Bool.{cases_Bool, cases_eq}
-use Rattle.std.proofs.lemmas.List.{append-nil, get_or-map, get_or_default, length-map, map_push, same_lists, take_at, take_more}
+use Rattle.std.proofs.lemmas.List.{append-nil, get_or-map, get_or_default, length-map, map_push, same_lists, take_more}
 use Rattle.std.proofs.lemmas.List.Concat.{concat_is, flat_map-append, length-flat_map}
 use Rattle.std.proofs.lemmas.List.Sums.{sum_by_push}
 use Rattle.std.proofs.lemmas.Option.{get_or_from_slice_get}
@@ -229,13 +229,6 @@ pub concat_step : (xss : List (List ℕ)) (i : ℕ) (x front old new : List ℕ)
 concat_step xss i x front old new l is before more =
     more ∙ ((λ j. before j ++ is j) ∙ (append_assoc front (concat (take i xss)) (get_or xss i x) ∙ ap (λ t. front ++ t) (sym (concat_more xss i x l))))
 
--- a list of numbers, by their places
-pub numbered_at : (f : ℕ → ℕ) (n k d : ℕ) → k < n → get_or (map f (numbers_below n)) k d ≡ f k
-numbered_at f n k d l =
-    let many : length (numbers_below n) ≡ n = length_numbers n in
-    let within : k < length (numbers_below n) = omega arith in
-    get_or-map f (numbers_below n) k 0 d within ∙ ap f (get_or_from_slice_get (numbers_below n) k k 0 (number_at n k l))
-
 pub map_step : {X : Type 0} (f : ℕ → X) (n m : ℕ) (old new : List X) → m ≡ n + 1 → old ≡ map f (numbers_below n) → new ≡ old ++ f n ∷ [] → new ≡ map f (numbers_below m)
 map_step f n m old new e before more = more ∙ (ap (λ t. t ++ f n ∷ []) before ∙ (sym (map_push f (numbers_below n) n) ∙ ap (map f) (sym (numbers_next n m e))))
 
@@ -253,10 +246,6 @@ filter_fits_numbers p n (suc m) l =
 -- what is read at an index
 pub index_is : {X : Type 0} (xs ys : List X) (n : ℕ) (x d : X) → x ≡ get_or xs n x → xs ≡ ys → n < length ys → x ≡ get_or ys n d
 index_is xs ys n x d is same l = is ∙ (ap (λ zs. get_or zs n x) same ∙ get_or_default ys n x d l)
-
--- as many elements as were written
-pub written : (n : ℕ) (new old : List ℕ) → length new ≡ n → take n (new ++ old) ≡ new
-written n new old long = take_at new old n long
 
 pub length_pushed : {X : Type 0} (xs : List X) (x : X) → length (xs ++ x ∷ []) ≡ length xs + 1
 length_pushed xs x = length-append xs (x ∷ [])

@@ -1,9 +1,10 @@
 -- Ranges of numbers of which no two share one: in the order of their starts each ends before the next starts.
-use Rattle.std.proofs.Common.{◌≡◌, ℕ, zero, suc, ◌+◌, ◌<◌, ◌≤◌, ◌⊎◌, inl, inr, Bool, true, false, not, All, List, [], ◌∷◌, refl, sym, ap, ◌∙◌, arith}
+use Rattle.std.proofs.Common.{◌≡◌, ℕ, zero, suc, ◌+◌, ◌<◌, ◌≤◌, ◌⊎◌, inl, inr, Bool, true, false, not, All, List, [], ◌∷◌, ap, ◌∙◌, arith}
 use Rattle.std.specs.Prelude.{◌||◌, nat_le}
 use Rattle.std.specs.List.{AllPairs}
 use Rattle.std.specs.List.Sorted.{IsNonDecreasingBy, IsPermutation}
-use Rattle.std.proofs.lemmas.Bool.{cases_Bool, le-leb, leb-false, leb-true, or_cases}
+use Rattle.std.proofs.Math.Bool.{or_comm}
+use Rattle.std.proofs.lemmas.Bool.{cases_Bool, le-leb, leb-false, leb-true, not-false, or_cases}
 use Rattle.std.proofs.lemmas.List.Elements.{All-cons, All-nil, All-weaker}
 use Rattle.std.proofs.lemmas.List.Sorted.{All-permutation}
 use Rattle.expand_kernel.specs.Ordered.{in_order, inserted}
@@ -58,24 +59,14 @@ module _ {X : Type 0} (start size : X → ℕ) where
   abbrev clash : X → X → Bool
   clash a b = not (nat_le (start a + size a) (start b) || nat_le (start b + size b) (start a))
 
-  either_way : (p q : Bool) → not (p || q) ≡ not (q || p)
-  either_way true true = refl
-  either_way true false = refl
-  either_way false true = refl
-  either_way false false = refl
-
   no_clash : (a b : X) → AreTwo a b → clash a b ≡ false
   no_clash a b (inl first) = ap (λ t. not (t || nat_le (start b + size b) (start a))) (le-leb (start a + size a) (start b) first)
   no_clash a b (inr behind) =
       ap (λ t. not (nat_le (start a + size a) (start b) || t)) (le-leb (start b + size b) (start a) behind)
-      ∙ either_way (nat_le (start a + size a) (start b)) true
-
-  so : (b : Bool) → not b ≡ false → b ≡ true
-  so true h = refl
-  so false h = sym h
+      ∙ ap not (or_comm (nat_le (start a + size a) (start b)) true)
 
   two_from : (a b : X) → clash a b ≡ false → AreTwo a b
-  two_from a b h = elim (or_cases (nat_le (start a + size a) (start b)) (nat_le (start b + size b) (start a)) (so _ h)) [
+  two_from a b h = elim (or_cases (nat_le (start a + size a) (start b)) (nat_le (start b + size b) (start a)) (not-false _ h)) [
     | inl first ↦ inl (leb-true _ _ first)
     | inr behind ↦ inr (leb-true _ _ behind)
   ]
@@ -84,7 +75,7 @@ module _ {X : Type 0} (start size : X → ℕ) where
   pub two_moved : (xs ys : List X) → IsPermutation xs ys → AllPairs AreTwo xs → AllPairs AreTwo ys
   two_moved xs ys moved two =
       pairs_weaker (λ a b. clash a b ≡ false) AreTwo two_from ys
-      (pairs_permuted clash (λ a b. either_way (nat_le (start a + size a) (start b)) (nat_le (start b + size b) (start a))) xs ys moved
+      (pairs_permuted clash (λ a b. ap not (or_comm (nat_le (start a + size a) (start b)) (nat_le (start b + size b) (start a)))) xs ys moved
       (pairs_weaker AreTwo (λ a b. clash a b ≡ false) no_clash xs two))
 
   -- in the order of their starts

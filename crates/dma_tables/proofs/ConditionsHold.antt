@@ -1,16 +1,13 @@
 -- The conditions on tables in plain words are those of the form.
-use Rattle.std.proofs.Common.{◌≡◌, ◌∙◌, refl, sym, subst, ap, arith, ℕ, suc, ◌+◌, ◌*◌, ◌/◌, ◌%◌, ◌<◌, ◌≤◌, ◌&&◌, ◌||◌, not, Bool, true, false, List, [], ◌∷◌, ◌++◌, get_or, length, map, nat_le, le-leb, eq-eqb}
-use Rattle.std.specs.Str.{bytes_eq}
+use Rattle.std.proofs.Common.{◌≡◌, ◌∙◌, refl, sym, subst, ap, arith, ℕ, ◌+◌, ◌*◌, ◌/◌, ◌%◌, ◌≤◌, ◌&&◌, not, true, false, List, [], ◌∷◌, ◌++◌, length, map, nat_le, le-leb, eq-eqb}
 use Rattle.std.specs.List.{All}
-use Rattle.std.proofs.lemmas.Bool.{eqb-true, leb-true, not-true, or_parts}
+use Rattle.std.proofs.lemmas.Bool.{and_from, and_parts, eqb-true, leb-true, not-true}
 use Rattle.std.proofs.lemmas.List.Elements.{All-cons, All-head, All-nil, All-tail}
-use Rattle.std.proofs.lemmas.List.Folds.{list_any-append}
-use Rattle.std.proofs.lemmas.List.Kept.{AllPairs-cons}
-use Rattle.std.specs.List.{list_any}
 use Rattle.muen_num.specs.declared.limits.TheConstants.{MOST_DEVICES, PAGE, PHYSICAL_END}
 use Rattle.binary_form.specs.Form.{all_fit, byte, bytes_of, done, field, gap, items, number, only, tag}
-use Rattle.binary_form.proofs.Forms.{both_true}
 use Rattle.binary_form.proofs.NameLaws.{name_fits, name_kept}
+use Rattle.image_pack.proofs.DevicesFit.{still_new, distinct_behind}
+use Rattle.image_pack.proofs.DevicesKeep.{Differ, name_before}
 use Rattle.dma_tables.specs.DmaConditions.{AreDistinct, IsDmaDevice, KeepsConditions}
 use Rattle.dma_tables.specs.DmaFile.{after_device, device, dma_file, is_listed, pages_in}
 use Rattle.dma_tables.specs.Tables.{AreTables}
@@ -23,35 +20,6 @@ use Rattle.dma_tables.specs.declared.file.DmaFile.{DmaFile}
 -- none of these names is listed
 abbrev AreNew : List (List ℕ) → List (List ℕ) → Type 0
 AreNew names texts = All (λ t. is_listed names t ≡ false) texts
-
-neither : (a b : Bool) → a ≡ false → b ≡ false → (a || b) ≡ false
-neither true b h g = h
-neither false b h g = g
-
-both : (a b : Bool) → a ≡ true → b ≡ true → (a && b) ≡ true
-both a b e f = rw (e, f) refl
-
--- names that differ, and from those listed
-record Differ (names texts : List (List ℕ)) : Type 0 where
-  new : AreNew names texts
-  distinct : AreDistinct texts
-
-name_before : (names : List (List ℕ)) (t : List ℕ) (texts : List (List ℕ)) → is_listed names t ≡ false → Differ (names ++ t ∷ []) texts → Differ names (t ∷ texts)
-name_before names t texts new rest =
-    let parts : (k : ℕ) (d : List ℕ) → k < length texts → (is_listed names (get_or texts k d) ≡ false) × (is_listed (t ∷ []) (get_or texts k d) ≡ false) =
-    λ k d l. or_parts (is_listed names (get_or texts k d)) (is_listed (t ∷ []) (get_or texts k d)) (sym (list_any-append (λ m. bytes_eq m (get_or texts k d)) names (t ∷ [])) ∙ rest.new k d l) in
-    record {
-      new = All-cons (λ n. is_listed names n ≡ false) t texts new (λ k d l. (parts k d l).0);
-      distinct = AllPairs-cons (λ a b. bytes_eq a b ≡ false) t texts (λ k d l. (or_parts (bytes_eq t (get_or texts k d)) false (parts k d l).1).0) rest.distinct;
-    }
-
-still_new : (names : List (List ℕ)) (t : List ℕ) (texts : List (List ℕ)) → AreNew names (t ∷ texts) → AreDistinct (t ∷ texts) → AreNew (names ++ t ∷ []) texts
-still_new names t texts new differ k d l =
-    list_any-append (λ m. bytes_eq m (get_or texts k d)) names (t ∷ [])
-    ∙ neither (list_any (λ m. bytes_eq m (get_or texts k d)) names) (list_any (λ m. bytes_eq m (get_or texts k d)) (t ∷ [])) (new (suc k) d (omega (arith, l))) (neither (bytes_eq t (get_or texts k d)) false (differ 0 (suc k) d (omega arith) (omega (arith, l))) refl)
-
-distinct_behind : (t : List ℕ) (texts : List (List ℕ)) → AreDistinct (t ∷ texts) → AreDistinct texts
-distinct_behind t texts h = λ i j d lt l. h (suc i) (suc j) d (omega (arith, lt)) (omega (arith, l))
 
 -- ---- devices
 
@@ -93,15 +61,12 @@ devices_fit names (d ∷ ds) all differ new = (
 
 -- ---- the whole
 
-in_pages : (n k : ℕ) → n ≡ 4096 * k → n / 4096 ≡ k
-in_pages n k e = omega (arith, e)
-
 pub conditions_kept : (t : DmaFile) → AreTables t → KeepsConditions t
 unfolding dma_file tag field only gap done number byte bytes_of items
 conditions_kept t f =
     let k : ℕ = pages_in t in
-    let size = both_true (nat_le 1 k) (nat_le k MOST_DMA_PAGES && nat_le (t.base + PAGE * k) PHYSICAL_END) f.1.0.1 in
-    let most = both_true (nat_le k MOST_DMA_PAGES) (nat_le (t.base + PAGE * k) PHYSICAL_END) size.1 in
+    let size = and_parts (nat_le 1 k) (nat_le k MOST_DMA_PAGES && nat_le (t.base + PAGE * k) PHYSICAL_END) f.1.0.1 in
+    let most = and_parts (nat_le k MOST_DMA_PAGES) (nat_le (t.base + PAGE * k) PHYSICAL_END) size.1 in
     let devices = devices_kept [] t.devices f.1.1.1.0.1 in
     record {
       aligned = eqb-true (t.base % PAGE) 0 f.0.1;
@@ -117,14 +82,14 @@ conditions_kept t f =
     }
 
 size_passes : (base k : ℕ) → 1 ≤ k → k ≤ MOST_DMA_PAGES → base + PAGE * k ≤ PHYSICAL_END → (nat_le 1 k && (nat_le k MOST_DMA_PAGES && nat_le (base + PAGE * k) PHYSICAL_END)) ≡ true
-size_passes base k some few low = both _ _ (le-leb 1 k some) (both _ _ (le-leb k MOST_DMA_PAGES few) (le-leb (base + PAGE * k) PHYSICAL_END low))
+size_passes base k some few low = and_from _ _ (le-leb 1 k some) (and_from _ _ (le-leb k MOST_DMA_PAGES few) (le-leb (base + PAGE * k) PHYSICAL_END low))
 
 pub conditions_fit : (t : DmaFile) → KeepsConditions t → AreTables t
 unfolding dma_file tag field only gap done number byte bytes_of items
 conditions_fit t k =
     let n : ℕ = k.pages in
     let many : length t.pages ≡ 4096 * n = k.many in
-    let is : length t.pages / PAGE ≡ n = in_pages (length t.pages) n many in
+    let is : length t.pages / PAGE ≡ n = omega (arith, many) in
     let few : n ≤ 16384 = k.few in
     let low : t.base + 4096 * n ≤ 1099511627776 = k.low in
     let devices : length t.devices ≤ 32 = k.few_devices in (

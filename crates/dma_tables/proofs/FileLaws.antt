@@ -16,13 +16,15 @@ device_laws among names =
     field_laws _ _ _ byte_laws (λ devfn. search laws depth 60) (λ devfn.
     gap_laws _ _ _ (done_laws _))))
 
-in_pages : (n k : ℕ) → n ≡ 4096 * k → n / 4096 ≡ k
-in_pages n k e = omega (arith, e)
-
 -- so many bytes are so many pages
 knows_pages : (n : ℕ) → Knows (λ (bytes : List ℕ). length bytes / PAGE) n (bytes_of (PAGE * n))
 unfolding bytes_of
-knows_pages n = record { is = λ bytes fits. in_pages (length bytes) n fits.0 }
+knows_pages n = record {
+  is = λ bytes fits.
+      let many : length bytes ≡ 4096 * n = fits.0 in
+      let pages : length bytes / PAGE ≡ n = omega (arith, many) in
+      pages;
+}
 
 pub file_laws : Laws dma_file
 unfolding dma_file

@@ -2,12 +2,11 @@
 use Rattle.std.proofs.Common.{◌≡◌, refl, sym, subst, ℕ, ◌+◌, ◌*◌, ◌≤◌, ◌&&◌, nat_le, List, length, arith}
 use Rattle.std.specs.Int.{w32, w64}
 use Rattle.std.specs.Prelude.{IsTrue}
-use Rattle.std.proofs.lemmas.Bool.{leb-true}
+use Rattle.std.proofs.lemmas.Bool.{leb-true, and_parts}
 use Rattle.std.proofs.lemmas.List.{length-append}
 use Rattle.muen_num.specs.declared.limits.TheConstants.{MOST_DEVICES, PAGE, PHYSICAL_END}
 use Rattle.binary_form.specs.declared.fault.Field.{Field}
 use Rattle.binary_form.specs.Form.{Form, IsBytes, tag}
-use Rattle.binary_form.proofs.Forms.{both_true}
 use Rattle.binary_form.proofs.Leaves.{wide32, wide64}
 use Rattle.binary_form.proofs.Sizes.{IsSized, both_bytes, byte_sized, bytes_sized, condition, done_sized, each_low, field_sized, gap_sized, items_sized, name_sized, number_sized, only_sized, rows, wider}
 use Rattle.dma_tables.specs.DmaFile.{after_device, device, dma_file, is_size, mark_bytes}
@@ -25,7 +24,7 @@ tag_sized m wanted _ more low s = record {
       omega (arith, sum, behind);
 }
 
-device_sized : (among : Unit {0}) (names : List (List ℕ)) → IsSized device_size (device among names)
+pub device_sized : (among : Unit {0}) (names : List (List ℕ)) → IsSized device_size (device among names)
 unfolding device
 device_sized among names =
     field_sized 64 4 _ _ _ (only_sized 64 _ _ _ name_sized) (λ called a.
@@ -35,8 +34,8 @@ device_sized among names =
 
 few_pages : (base pages : ℕ) → IsTrue (is_size base pages) → PAGE * pages ≤ PAGE * MOST_DMA_PAGES
 few_pages base pages h =
-    let a = both_true (nat_le 1 pages) (nat_le pages MOST_DMA_PAGES && nat_le (base + PAGE * pages) PHYSICAL_END) h in
-    let b = both_true (nat_le pages MOST_DMA_PAGES) (nat_le (base + PAGE * pages) PHYSICAL_END) a.1 in
+    let a = and_parts (nat_le 1 pages) (nat_le pages MOST_DMA_PAGES && nat_le (base + PAGE * pages) PHYSICAL_END) h in
+    let b = and_parts (nat_le pages MOST_DMA_PAGES) (nat_le (base + PAGE * pages) PHYSICAL_END) a.1 in
     let few : pages ≤ 16384 = leb-true pages MOST_DMA_PAGES b.0 in
     omega (arith, few)
 
@@ -44,7 +43,7 @@ marked : IsBytes mark_bytes
 unfolding mark_bytes
 marked = each_low mark_bytes refl
 
-marked_size : length mark_bytes ≡ 8
+pub marked_size : length mark_bytes ≡ 8
 unfolding mark_bytes
 marked_size = refl
 

@@ -1,25 +1,18 @@
 -- The writes of a line: where its pages lead decides where each of its bytes goes.
-use Rattle.std.proofs.Common.{◌≡◌, ◌∙◌, refl, sym, ap, arith, ℕ, ◌+◌, ◌-◌, ◌*◌, ◌/◌, ◌%◌, ◌<◌, ◌≤◌, ◌&&◌, Bool, true, false, le-leb, List, [], ◌∷◌, ◌++◌, length, map, take, drop, Option, Some, None, if◌then◌else◌}
+use Rattle.std.proofs.Common.{◌≡◌, ◌∙◌, refl, sym, ap, arith, ℕ, ◌+◌, ◌-◌, ◌*◌, ◌/◌, ◌%◌, ◌<◌, ◌≤◌, ◌&&◌, Bool, true, false, le-leb, List, [], ◌∷◌, length, map, take, drop, Option, Some, None, if◌then◌else◌}
 use Rattle.std.specs.Prelude.{is_some, nat_le, unwrap_or}
 use Rattle.std.specs.List.{enumerate_from, list_all}
-use Rattle.std.proofs.lemmas.Bool.{leb-true, lt-leb}
+use Rattle.std.proofs.lemmas.Bool.{and_parts, leb-true, lt-leb}
 use Rattle.std.proofs.Math.Bool.{and-true}
 use Rattle.std.proofs.lemmas.List.{length-take, length-drop, take-append-drop}
 use Rattle.std.proofs.lemmas.List.Folds.{list_all-append}
+use Rattle.muen_num.proofs.Lists.{numbered_append}
 use Rattle.muen_num.specs.declared.limits.TheConstants.{PAGE}
-use Rattle.binary_form.proofs.Forms.{both_true}
 use Rattle.device_bench.specs.declared.effect.Effect.TheVariants.{Mem}
 use Rattle.record_text.specs.declared.record.TheConstants.{INPUT_MOST}
 use Rattle.dma_tables.specs.LineWrites.{byte_going, one_write, two_writes}
 use Rattle.dma_tables.specs.Lowered.{all_go, is_line, left_in_page, line_writes}
 use Rattle.dma_tables.proofs.ByPages.{IsByPage, along}
-
--- ---- bytes with their addresses
-
-pub numbered_append : {A : Type 0} (n : ℕ) (xs ys : List A) → enumerate_from n (xs ++ ys) ≡ enumerate_from n xs ++ enumerate_from (n + length xs) ys
-numbered_append n [] ys = ap (λ k. enumerate_from k ys) (omega arith)
-numbered_append n (x ∷ xs) ys =
-    ap (λ es. (n, x) ∷ es) (numbered_append (n + 1) xs ys ∙ ap (λ k. enumerate_from (n + 1) xs ++ enumerate_from k ys) (omega arith))
 
 -- ---- bytes in one page
 
@@ -66,7 +59,7 @@ bytes_as_one go b k a p at (x ∷ bytes) e there low high =
 
 pub line_length : (bytes : List ℕ) → is_line bytes ≡ true → (1 ≤ length bytes) × (length bytes ≤ 64)
 line_length bytes line =
-    let h = both_true (nat_le 1 (length bytes)) (nat_le (length bytes) INPUT_MOST) line in
+    let h = and_parts (nat_le 1 (length bytes)) (nat_le (length bytes) INPUT_MOST) line in
     (leb-true 1 (length bytes) h.0, leb-true (length bytes) INPUT_MOST h.1)
 
 pub no_line : (go : ℕ → Option ℕ) (addr : ℕ) (bytes : List ℕ) → is_line bytes ≡ false → unwrap_or (line_writes go addr bytes) [] ≡ []

@@ -1,13 +1,13 @@
 -- Lowered records: order and ticks stay, and what is written lies in the spans.
-use Rattle.std.proofs.Common.{◌≡◌, ◌∙◌, ◌⊎◌, inl, inr, le-leb, ◌-◌, refl, sym, subst, ap, arith, ℕ, zero, suc, ◌+◌, ◌*◌, ◌/◌, ◌%◌, ◌<◌, ◌≤◌, ◌^◌, ◌&&◌, ◌||◌, Bool, true, false, true≢false, List, [], ◌∷◌, ◌++◌, get_or, length, map, take, drop, Option, Some, None, if◌then◌else◌, flat_map}
+use Rattle.std.proofs.Common.{◌≡◌, ◌∙◌, ◌⊎◌, inl, inr, le-leb, ◌-◌, refl, sym, subst, ap, arith, ℕ, zero, suc, ◌+◌, ◌*◌, ◌/◌, ◌%◌, ◌<◌, ◌≤◌, ◌^◌, ◌&&◌, Bool, true, false, true≢false, List, [], ◌∷◌, ◌++◌, get_or, length, map, take, drop, Option, Some, None, if◌then◌else◌, flat_map}
 use Rattle.std.specs.Prelude.{is_some, nat_le, nat_lt, option_and_then, unwrap_or}
 use Rattle.std.specs.List.{All, enumerate_from, list_any, slice_get}
 use Rattle.std.specs.List.Sorted.{IsNonDecreasing}
-use Rattle.std.proofs.lemmas.Bool.{cases_lt, leb-true, lt-leb, ltb-true}
+use Rattle.std.proofs.lemmas.Bool.{and_parts, cases_lt, leb-true, lt-leb, ltb-true, or_cases}
 use Rattle.std.proofs.lemmas.List.{append-nil, length-drop, length-take, map-append, take-append-drop}
 use Rattle.std.proofs.lemmas.List.Elements.{All-cons, All-head, All-nil, All-tail}
+use Rattle.muen_num.proofs.Lists.{numbered_append}
 use Rattle.muen_num.specs.declared.limits.TheConstants.{PAGE, PHYSICAL_END}
-use Rattle.binary_form.proofs.Forms.{both_true}
 use Rattle.image_pack.specs.Parts.{IsParts}
 use Rattle.image_pack.specs.SpanConditions.{end_of}
 use Rattle.image_pack.specs.declared.parts.DevicePart.{DevicePart}
@@ -30,7 +30,7 @@ use Rattle.dma_tables.specs.Lowered.{all_go, by_pages, goes, in_tick, is_in_span
 use Rattle.dma_tables.specs.LoweredRecord.{AreInSpans, HaveMemoriesIn, IsEffectIn, IsRecordIn}
 use Rattle.dma_tables.specs.declared.file.DmaFile.{DmaFile}
 use Rattle.dma_tables.proofs.ByPages.{AreAligned, IsByPage, along, goes_by_page, goes_is, goes_page, landing_page, named_page, parts_aligned, parts_low, spans_page, spans_same}
-use Rattle.dma_tables.proofs.Lines.{all_as_one, all_split, bytes_as_one, has_two, line_in_one, line_in_two, line_length, no_line, numbered_append}
+use Rattle.dma_tables.proofs.Lines.{all_as_one, all_split, bytes_as_one, has_two, line_in_one, line_in_two, line_length, no_line}
 
 -- ---- what holds of each
 
@@ -99,20 +99,16 @@ rises_lowered t i (e ∷ es) rises =
 -- the memory of a device has them
 memory_has : (spans : List SpanPart) (at count : ℕ) (m : RecordMemory) → AreInSpans spans m.address m.bytes → (nat_le m.address at && nat_le (at + count) (m.address + m.bytes)) ≡ true → AreInSpans spans at count
 memory_has spans at count m lies h place low high =
-    let two = both_true (nat_le m.address at) (nat_le (at + count) (m.address + m.bytes)) h in
+    let two = and_parts (nat_le m.address at) (nat_le (at + count) (m.address + m.bytes)) h in
     let first : m.address ≤ at = leb-true m.address at two.0 in
     let last : at + count ≤ m.address + m.bytes = leb-true (at + count) (m.address + m.bytes) two.1 in
     lies place (omega (arith, first, low)) (omega (arith, last, high))
-
-either : (a b : Bool) → (a || b) ≡ true → (a ≡ true) ⊎ (b ≡ true)
-either true b h = inl refl
-either false b h = inr h
 
 memories_have : (spans : List SpanPart) (at count : ℕ) (ms : List RecordMemory) → All (λ m. AreInSpans spans m.address m.bytes) ms
     → list_any (λ m. nat_le m.address at && nat_le (at + count) (m.address + m.bytes)) ms ≡ true → AreInSpans spans at count
 memories_have spans at count [] all h = absurd (true≢false (sym h))
 memories_have spans at count (m ∷ ms) all h =
-    elim (either (nat_le m.address at && nat_le (at + count) (m.address + m.bytes)) (list_any (λ m. nat_le m.address at && nat_le (at + count) (m.address + m.bytes)) ms) h) [
+    elim (or_cases (nat_le m.address at && nat_le (at + count) (m.address + m.bytes)) (list_any (λ m. nat_le m.address at && nat_le (at + count) (m.address + m.bytes)) ms) h) [
       | inl here ↦ memory_has spans at count m (All-head (λ m. AreInSpans spans m.address m.bytes) m ms all) here
       | inr rest ↦ memories_have spans at count ms (All-tail (λ m. AreInSpans spans m.address m.bytes) m ms all) rest
     ]
@@ -124,7 +120,7 @@ devices_have : (spans : List SpanPart) (at count : ℕ) (ds : List RecordDevice)
     → list_any (λ d. list_any (λ m. nat_le m.address at && nat_le (at + count) (m.address + m.bytes)) d.memories) ds ≡ true → AreInSpans spans at count
 devices_have spans at count [] all h = absurd (true≢false (sym h))
 devices_have spans at count (d ∷ ds) all h =
-    elim (either (list_any (λ m. nat_le m.address at && nat_le (at + count) (m.address + m.bytes)) d.memories) (list_any (λ d. list_any (λ m. nat_le m.address at && nat_le (at + count) (m.address + m.bytes)) d.memories) ds) h) [
+    elim (or_cases (list_any (λ m. nat_le m.address at && nat_le (at + count) (m.address + m.bytes)) d.memories) (list_any (λ d. list_any (λ m. nat_le m.address at && nat_le (at + count) (m.address + m.bytes)) d.memories) ds) h) [
       | inl here ↦ memories_have spans at count d.memories (All-head (λ d. All (λ m. AreInSpans spans m.address m.bytes) d.memories) d ds all) here
       | inr rest ↦ devices_have spans at count ds (All-tail (λ d. All (λ m. AreInSpans spans m.address m.bytes) d.memories) d ds all) rest
     ]
@@ -236,13 +232,13 @@ still_record t i devices r parts lie is =
 
 span_low : (s : SpanPart) (place : ℕ) → end_of s ≤ PHYSICAL_END → (nat_le s.address place && nat_lt place (s.address + PAGE * s.pages)) ≡ true → place < PHYSICAL_END
 span_low s place low h =
-    let last : place < s.address + PAGE * s.pages = ltb-true place (s.address + PAGE * s.pages) (both_true (nat_le s.address place) (nat_lt place (s.address + PAGE * s.pages)) h).1 in
+    let last : place < s.address + PAGE * s.pages = ltb-true place (s.address + PAGE * s.pages) (and_parts (nat_le s.address place) (nat_lt place (s.address + PAGE * s.pages)) h).1 in
     omega (arith, low, last)
 
 spans_low : (spans : List SpanPart) (place : ℕ) → All (λ s. end_of s ≤ PHYSICAL_END) spans → is_in_spans spans place ≡ true → place < PHYSICAL_END
 spans_low [] place low h = absurd (true≢false (sym h))
 spans_low (s ∷ spans) place low h =
-    elim (either (nat_le s.address place && nat_lt place (s.address + PAGE * s.pages)) (is_in_spans spans place) h) [
+    elim (or_cases (nat_le s.address place && nat_lt place (s.address + PAGE * s.pages)) (is_in_spans spans place) h) [
       | inl here ↦ span_low s place (All-head (λ s. end_of s ≤ PHYSICAL_END) s spans low) here
       | inr rest ↦ spans_low spans place (All-tail (λ s. end_of s ≤ PHYSICAL_END) s spans low) rest
     ]
@@ -315,7 +311,7 @@ line_written go b addr (x ∷ rest) few all =
     elim (cases_lt n (length bytes)) [
       | inl long ↦
           let two = has_two go addr bytes long few in
-          let split = both_true (all_go go addr (take n bytes)) (all_go go (addr + n) (drop n bytes)) (sym (all_split go addr n bytes (omega (arith, long))) ∙ all) in
+          let split = and_parts (all_go go addr (take n bytes)) (all_go go (addr + n) (drop n bytes)) (sym (all_split go addr n bytes (omega (arith, long))) ∙ all) in
           let front = part_written go b (addr / PAGE) addr (take n bytes) split.0 two.front (omega arith) two.front_in in
           let back = part_written go b (addr / PAGE + 1) (addr + n) (drop n bytes) split.1 two.back (omega arith) two.back_in in
           let size : length (take n bytes) ≡ n = omega (arith, long, length-take n bytes) in
@@ -332,7 +328,7 @@ unfolding line_writes
 each_byte t i device addr bytes writes parts e =
     let go = goes t i device in
     let h = some_same go writes (is_line bytes && all_go go addr bytes) (map (write_of go) (by_pages addr bytes)) e in
-    let two = both_true (is_line bytes) (all_go go addr bytes) h.0 in
+    let two = and_parts (is_line bytes) (all_go go addr bytes) h.0 in
     ap (flat_map bytes_written) (sym h.1) ∙ line_written go (goes_by_page t i device (parts_aligned i parts)) addr bytes (line_length bytes two.0).1 two.1
 
 -- ---- page by page
@@ -375,5 +371,5 @@ unfolding line_writes
 each_page t i device addr bytes writes parts e =
     let go = goes t i device in
     let h = some_same go writes (is_line bytes && all_go go addr bytes) (map (write_of go) (by_pages addr bytes)) e in
-    let two = both_true (is_line bytes) (all_go go addr bytes) h.0 in
+    let two = and_parts (is_line bytes) (all_go go addr bytes) h.0 in
     subst (λ (ws : List Effect). (length ws ≡ pages_touched addr bytes) × All IsInPage ws) h.1 (line_paged go (goes_by_page t i device (parts_aligned i parts)) addr bytes two.0)

@@ -1,23 +1,14 @@
 -- Tests of some element.
-use Rattle.std.proofs.Common.{◌≡◌, ℕ, zero, suc, ◌<◌, Bool, true, false, List, [], ◌∷◌, Option, Some, None, refl, ap, ◌∙◌, inl, inr, arith}
-use Rattle.std.specs.Prelude.{slice_get, ◌||◌}
+use Rattle.std.proofs.Common.{◌≡◌, ℕ, zero, suc, ◌<◌, Bool, true, false, List, [], ◌∷◌, Option, Some, None, refl, ◌∙◌, inl, inr, arith}
+use Rattle.std.specs.Prelude.{slice_get}
 use Rattle.std.specs.List.{list_any}
-use Rattle.std.proofs.lemmas.Bool.{cases_Bool, cases_lt}
+use Rattle.std.proofs.lemmas.Bool.{cases_Bool}
 use Rattle.std.proofs.lemmas.List.Folds.{list_any-append}
 use Rattle.muen_num.specs.Range.{numbers_below}
 
 abbrev passes : {X : Type 0} → (X → Bool) → Option X → Bool
 passes test None = false
 passes test (Some x) = test x
-
-or_true : (b : Bool) → (b || true) ≡ true
-or_true true = refl
-or_true false = refl
-
-pub any_of : {X : Type 0} (test : X → Bool) (xs : List X) (k : ℕ) (x : X) → slice_get xs k ≡ Some x → test x ≡ true → list_any test xs ≡ true
-any_of test [] k x h t = absurd (cc)
-any_of test (y ∷ ys) zero x h t = let e : test y ≡ true = ap (λ o. passes test o) h ∙ t in rw e refl
-any_of test (y ∷ ys) (suc k) x h t = elim (cases_Bool (test y)) [ inl e ↦ rw e refl | inr e ↦ rw e (any_of test ys k x h t) ]
 
 pub none_of : {X : Type 0} (test : X → Bool) (xs : List X) → ((k : ℕ) (x : X) → slice_get xs k ≡ Some x → test x ≡ false) → list_any test xs ≡ false
 none_of test [] h = refl
@@ -36,15 +27,6 @@ some_of test (y ∷ ys) h = elim (cases_Bool (test y)) [
   | inl e ↦ record { k = 0; x = y; here = refl; passes = e }
   | inr e ↦ let r = some_of test ys (rw e at h) in record { k = suc r.k; x = r.x; here = r.here; passes = r.passes }
 ]
-
-pub any_below : (test : ℕ → Bool) (n k : ℕ) → k < n → test k ≡ true → list_any test (numbers_below n) ≡ true
-any_below test zero k l t = absurd (omega (arith, l))
-any_below test (suc n) k l t =
-    list_any-append test (numbers_below n) (n ∷ [])
-    ∙ elim (cases_lt k n) [
-      | inl h ↦ let e = any_below test n k h t in rw e refl
-      | inr h ↦ let same : n ≡ k = omega (arith, l, h) in let e : test n ≡ true = ap test same ∙ t in rw e (or_true (list_any test (numbers_below n)))
-    ]
 
 pub none_below : (test : ℕ → Bool) (n : ℕ) → ((k : ℕ) → k < n → test k ≡ false) → list_any test (numbers_below n) ≡ false
 none_below test zero h = refl

@@ -1,8 +1,9 @@
 -- The first window that doesn't end by an address.
 use Rattle.std.proofs.Common.{◌≡◌, ℕ, zero, suc, ◌+◌, ◌<◌, ◌≤◌, Bool, true, false, List, [], ◌∷◌, length, None, Some, refl, sym, ap, subst, inl, inr, arith}
-use Rattle.std.specs.Prelude.{◌&&◌, nat_le, slice_index_or}
+use Rattle.std.specs.Prelude.{nat_le, slice_index_or}
 use Rattle.std.specs.List.{All, find}
 use Rattle.std.specs.List.Sorted.{IsPartitionPoint}
+use Rattle.std.proofs.Math.Bool.{and-false}
 use Rattle.std.proofs.lemmas.Bool.{cases_lt, and_from, leb-true, leb-false, le-leb, lt-ltb, lt-leb, le-ltb}
 use Rattle.ept_check.specs.Pieces.{Holds, IsApart}
 use Rattle.ept_check.specs.Sound.{AreApart, IsWhole}
@@ -20,13 +21,9 @@ some_window = record { guest = 0; size = 0; address = 0; rights = R; caching = U
 abbrev end_of : Window → ℕ
 end_of w = w.guest + w.size
 
-and_no : (b : Bool) → (b && false) ≡ false
-and_no true = refl
-and_no false = refl
-
 -- it doesn't hold an address by which it ends, nor one before it
 past_not : (addr : ℕ) (w : Window) → end_of w ≤ addr → holds addr w ≡ false
-past_not addr w h = let out = le-ltb addr (end_of w) h in rw out (and_no (nat_le w.guest addr))
+past_not addr w h = let out = le-ltb addr (end_of w) h in rw out (and-false (nat_le w.guest addr))
 
 later_not : (addr : ℕ) (w : Window) → addr < w.guest → holds addr w ≡ false
 later_not addr w h = let out = lt-leb w.guest addr h in rw out refl

@@ -3,7 +3,8 @@ use Rattle.std.proofs.Common.{◌≡◌, ℕ, suc, ◌+◌, ◌-◌, ◌*◌, �
 use Rattle.std.specs.Prelude.{not, slice_get, bit_and}
 use Rattle.std.specs.List.{list_any}
 use Rattle.std.proofs.lemmas.Bool.{cases_Bool, cases_lt, true≢false}
-use Rattle.ept_check.proofs.Anys.{any_of, none_of, some_of}
+use Rattle.std.proofs.lemmas.Map.Keys.{any_passes_from_place}
+use Rattle.ept_check.proofs.Anys.{none_of, some_of}
 use Rattle.ept_check.proofs.Comes.{come_addresses, come_same, come_walk, head_is}
 use Rattle.ept_check.proofs.Firsts.{same_from}
 use Rattle.ept_check.proofs.Knowns.{not_outside, not_twice, table_is}
@@ -27,7 +28,7 @@ off v at = not (v.is_table (at / 4096))
 
 pub none_at : (test : ℕ → Bool) (xs : List ℕ) (k x : ℕ) → list_any test xs ≡ false → slice_get xs k ≡ Some x → test x ≡ false
 none_at test xs k x none here = elim (cases_Bool (test x)) [
-  | inl e ↦ absurd (true≢false (sym (any_of test xs k x here e) ∙ none))
+  | inl e ↦ absurd (true≢false (sym (any_passes_from_place test xs k x here e) ∙ none))
   | inr e ↦ e
 ]
 
@@ -41,7 +42,7 @@ module _ (v : Tables) (q l t r : ℕ) (low : l ≤ 3) (at : come v q (3 - l) l �
   out_here h =
       let here : slice_get (addresses v q) (3 - l) ≡ Some (entry_address t (index_at l (addr_of q))) = place_at 0 (3 - l) (omega arith) ∙ head_is v l t (addr_of q) in
       let same : entry_address t (index_at l (addr_of q)) / 4096 ≡ t = omega arith in
-      any_of (off v) (addresses v q) (3 - l) (entry_address t (index_at l (addr_of q))) here (ap (λ n. not (v.is_table n)) same ∙ ap not h)
+      any_passes_from_place (off v) (addresses v q) (3 - l) (entry_address t (index_at l (addr_of q))) here (ap (λ n. not (v.is_table n)) same ∙ ap not h)
 
   -- those above are, and so it is a matter of those below
   pub out_rest : (seen : ℕ → Bool) → Known v seen q q (suc l) → is_outside v q ≡ leaves v.entry v.is_table (addr_of q) l t
@@ -49,7 +50,7 @@ module _ (v : Tables) (q l t r : ℕ) (low : l ≤ 3) (at : come v q (3 - l) l �
   out_rest seen known = elim (cases_Bool (list_any (off v) (addresses_from v.entry (addr_of q) l t))) [
     | inl e ↦
         let x = some_of (off v) (addresses_from v.entry (addr_of q) l t) e in
-        any_of (off v) (addresses v q) ((3 - l) + x.k) x.x (place_at x.k ((3 - l) + x.k) refl ∙ x.here) x.passes ∙ sym e
+        any_passes_from_place (off v) (addresses v q) ((3 - l) + x.k) x.x (place_at x.k ((3 - l) + x.k) refl ∙ x.here) x.passes ∙ sym e
     | inr e ↦ none_of (off v) (addresses v q) (λ n place here. elim (cases_lt n (3 - l)) [
       | inl f ↦
           let level : 3 - (3 - n) ≡ n = omega (arith, f) in

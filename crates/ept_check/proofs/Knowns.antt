@@ -3,7 +3,10 @@ use Rattle.std.proofs.Common.{◌≡◌, ◌≢◌, ℕ, zero, suc, ◌+◌, ◌
 use Rattle.std.specs.Prelude.{slice_get, option_map, not, ◌&&◌}
 use Rattle.std.specs.List.{list_any}
 use Rattle.std.proofs.lemmas.Bool.{cases_Bool, cases_lt, cases_eq, and_parts, and_from, eqb-true, eq-eqb, ne_eqb, true≢false}
-use Rattle.ept_check.proofs.Anys.{any_below, any_of, none_below, none_of}
+use Rattle.std.proofs.lemmas.Map.Keys.{any_passes_from_place}
+use Rattle.std.proofs.lemmas.Option.{same_Some}
+use Rattle.muen_num.proofs.NumbersBelow.{any_below}
+use Rattle.ept_check.proofs.Anys.{none_below, none_of}
 use Rattle.ept_check.proofs.Comes.{come_same, table_come}
 use Rattle.ept_check.proofs.Sizes.{above_is, before_is, here_is, index_is, not_before, page_some, part_is, subject_is}
 use Rattle.ept_check.specs.Entries.{leads_on, pages}
@@ -11,13 +14,6 @@ use Rattle.ept_check.specs.Faults.{is_clash, is_outside, is_twice, levels, same_
 use Rattle.ept_check.specs.Known.{IsBefore, IsOnePath, Known, Reads, by_entry, come}
 use Rattle.ept_check.specs.Tables.{Tables, addr_of, addresses, root_at, table_read}
 use Rattle.machine_layout.specs.Walks.{addresses_from, bits_of, entry_size, goes_on, index_at}
-
-abbrev number_or : Option ℕ → ℕ
-number_or None = 0
-number_or (Some n) = n
-
-some_is : (a b : ℕ) → Some a ≡ Some b → a ≡ b
-some_is a b h = ap (λ o. number_or o) h
 
 pub and_false : (b : Bool) → (b && not true) ≡ false
 and_false true = refl
@@ -44,7 +40,7 @@ module _ (v : Tables) where
       record { depth = l; here = table_come v o m l ∙ ap (option_map (λ s. s.0)) (come_same v (3 - m) m o p (omega (arith, l)) (sym h)) ∙ sym (table_come v p m l) ∙ r.here }
 
   pub one_read : (p m t u : ℕ) → Reads v p m t → Reads v p m u → t ≡ u
-  one_read p m t u a b = some_is t u (sym a.here ∙ b.here)
+  one_read p m t u a b = same_Some t u (sym a.here ∙ b.here)
 
   come_below : (p up level : ℕ) → come v p up (suc level) ≡ None → come v p (suc up) level ≡ None
   unfolding come
@@ -226,12 +222,12 @@ module _ (v : Tables) where
 
     pub at_level : (test : ℕ → Bool) (l : ℕ) → l ≤ 3 → test l ≡ true → list_any test levels ≡ true
     at_level test l a h = elim (cases_eq l 0) [
-      | inl e ↦ any_of test levels 0 0 refl (ap test (sym e) ∙ h)
+      | inl e ↦ any_passes_from_place test levels 0 0 refl (ap test (sym e) ∙ h)
       | inr n ↦ elim (cases_eq l 1) [
-        | inl e ↦ any_of test levels 1 1 refl (ap test (sym e) ∙ h)
+        | inl e ↦ any_passes_from_place test levels 1 1 refl (ap test (sym e) ∙ h)
         | inr k ↦ elim (cases_eq l 2) [
-          | inl e ↦ any_of test levels 2 2 refl (ap test (sym e) ∙ h)
-          | inr j ↦ let e : 3 ≡ l = omega (arith, a, n, k, j) in any_of test levels 3 3 refl (ap test e ∙ h)
+          | inl e ↦ any_passes_from_place test levels 2 2 refl (ap test (sym e) ∙ h)
+          | inr j ↦ let e : 3 ≡ l = omega (arith, a, n, k, j) in any_passes_from_place test levels 3 3 refl (ap test e ∙ h)
         ]
       ]
     ]

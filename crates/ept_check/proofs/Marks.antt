@@ -2,6 +2,7 @@
 use Rattle.std.proofs.Common.{◌≡◌, ◌≢◌, ℕ, zero, suc, ◌+◌, ◌<◌, ◌==◌, Bool, true, false, cond, List, [], ◌∷◌, length, replicate, Option, Some, None, MatchOption, refl, sym, ap, ◌∙◌, arith, get_or-set_same}
 use Rattle.std.specs.Prelude.{◌&&◌, ◌||◌, is_some, not, slice_index, slice_index_or, slice_set}
 use Rattle.std.specs.List.{count_by}
+use Rattle.std.proofs.Math.Bool.{or-true, and-false}
 use Rattle.std.proofs.lemmas.Bool.{eq-eqb, ne_eqb}
 use Rattle.std.proofs.lemmas.List.Sums.{sum_by-set}
 use Rattle.ept_check.specs.Looked.{IsNow, is_entered, marked}
@@ -9,17 +10,9 @@ use Rattle.ept_check.specs.Tables.{is_among}
 use Rattle.ept_check.specs.declared.looked.Looked.{Looked}
 use Rattle.phys_mem.specs.Frames.{IsFirst, IsRising, NoneBelow}
 
-or_true : (b : Bool) → (b || true) ≡ true
-or_true true = refl
-or_true false = refl
-
 or_no : (b : Bool) → ((b && false) || false) ≡ false
 or_no true = refl
 or_no false = refl
-
-and_false : (b : Bool) → (b && false) ≡ false
-and_false true = refl
-and_false false = refl
 
 none_has : (ns : List ℕ) (t : ℕ) → NoneBelow ns t (length ns) → is_among ns t ≡ false
 none_has [] t h = refl
@@ -28,13 +21,13 @@ none_has (n ∷ ns) t h = let other = ne_eqb n t (h 0 (omega arith)) in rw other
 some_has : (ns : List ℕ) (t i : ℕ) → i < length ns → slice_index ns i ≡ t → is_among ns t ≡ true
 some_has [] t i l h = absurd (omega (arith, l))
 some_has (n ∷ ns) t zero l h = let same = eq-eqb n t h in rw same refl
-some_has (n ∷ ns) t (suc i) l h = let rest = some_has ns t i (omega (arith, l)) h in rw rest (or_true (n == t))
+some_has (n ∷ ns) t (suc i) l h = let rest = some_has ns t i (omega (arith, l)) h in rw rest (or-true (n == t))
 
 mark_set : (ns : List ℕ) (bs : List Bool) (t i : ℕ) → length bs ≡ length ns → i < length ns → slice_index ns i ≡ t → slice_index_or bs i false ≡ true → marked ns bs t ≡ true
 mark_set [] bs t i e l h b = absurd (omega (arith, l))
 mark_set (n ∷ ns) [] t i e l h b = absurd (omega (arith, e))
 mark_set (n ∷ ns) (x ∷ bs) t zero e l h b = let same = eq-eqb n t h in rw (same, b) refl
-mark_set (n ∷ ns) (x ∷ bs) t (suc i) e l h b = let rest = mark_set ns bs t i (omega (arith, e)) (omega (arith, l)) h b in rw rest (or_true ((n == t) && x))
+mark_set (n ∷ ns) (x ∷ bs) t (suc i) e l h b = let rest = mark_set ns bs t i (omega (arith, e)) (omega (arith, l)) h b in rw rest (or-true ((n == t) && x))
 
 rest_rises : (n : ℕ) (ns : List ℕ) → IsRising (n ∷ ns) → IsRising ns
 rest_rises n ns r = λ i j a b. r (suc i) (suc j) (omega (arith, a)) (omega (arith, b))
@@ -64,7 +57,7 @@ mark_others (n ∷ ns) (x ∷ bs) t (suc i) u h l e ne = ap (λ c. ((n == u) && 
 pub none_marked : (ns : List ℕ) (n t : ℕ) → marked ns (replicate n false) t ≡ false
 none_marked [] n t = refl
 none_marked (x ∷ ns) zero t = refl
-none_marked (x ∷ ns) (suc n) t = rw (and_false (x == t)) (none_marked ns n t)
+none_marked (x ∷ ns) (suc n) t = rw (and-false (x == t)) (none_marked ns n t)
 
 -- ---- entering
 

@@ -2,8 +2,10 @@
 use Rattle.std.proofs.Common.{◌≡◌, ℕ, ◌+◌, ◌-◌, ◌*◌, ◌/◌, ◌%◌, ◌<◌, ◌≤◌, ◌⊎◌, Bool, true, false, cond, List, [], ◌∷◌, Option, Some, None, refl, sym, ap, subst, ◌∙◌, inl, inr, arith}
 use Rattle.std.specs.Prelude.{bit_and, not, ◌&&◌, ◌||◌, ◌==◌, nat_le, nat_lt}
 use Rattle.std.specs.List.{All, find, list_any}
+use Rattle.std.proofs.Math.Bool.{and-false}
 use Rattle.std.proofs.lemmas.Bool.{cases_Bool, and_parts, eqb-true, eq-eqb, leb-true, ltb-true, le-leb, lt-ltb, lt-leb, le-ltb}
 use Rattle.std.proofs.lemmas.List.Elements.{All-head, All-tail}
+use Rattle.std.proofs.lemmas.Option.{same_Some}
 use Rattle.ept_check.proofs.Sizes.{addr_on, within}
 use Rattle.ept_check.specs.Entries.{ended, pages}
 use Rattle.ept_check.specs.Faults.{contents, fault, is_at, is_lack, is_leak, kinds, same}
@@ -25,20 +27,9 @@ use Rattle.ept_emit.specs.Rights.{allows}
 
 -- ---- tests
 
-and_no : (a : Bool) → (a && false) ≡ false
-and_no true = refl
-and_no false = refl
-
 or_false : (a b : Bool) → (a || b) ≡ false → (a ≡ false) × (b ≡ false)
 or_false true b h = absurd (cc)
 or_false false b h = (refl, h)
-
-abbrev window_or : Window → Option Window → Window
-window_or x None = x
-window_or x (Some w) = w
-
-some_window : (x w : Window) → Some x ≡ Some w → x ≡ w
-some_window x w h = ap (window_or x) h
 
 abbrev address_or : Walk → ℕ
 address_or (At address) = address
@@ -111,7 +102,7 @@ none_kind : (f : AccessKind → Bool) → ((kind : AccessKind) → f kind ≡ fa
 none_kind f h = let a = h Read in let b = h Write in let c = h Fetch in rw (a, b, c) refl
 
 and_not : (a s : Bool) → s ≡ true → (a && not s) ≡ false
-and_not a true h = and_no a
+and_not a true h = and-false a
 and_not a false h = absurd (cc)
 
 -- and the other way
@@ -148,7 +139,7 @@ pub find_some : (P : Window → Type 0) (test : Window → Bool) (ws : List Wind
 find_some P test [] w h e = absurd (cc)
 find_some P test (x ∷ xs) w h e = elim (cases_Bool (test x)) [
   | inl a ↦
-      let same : x ≡ w = some_window x w (rw a at e) in
+      let same : x ≡ w = same_Some x w (rw a at e) in
       subst (IsFound P test) same (record { is = All-head P x xs h; passes = a })
   | inr b ↦ find_some P test xs w (All-tail P x xs h) (rw b at e)
 ]

@@ -2,9 +2,9 @@
 use Rattle.std.proofs.Common.{◌≡◌, ℕ, suc, ◌+◌, ◌*◌, ◌/◌, ◌%◌, ◌^◌, ◌<◌, ◌≤◌, Bool, true, false, List, [], ◌∷◌, Option, Some, None, IfSome, length, refl, sym, ap, subst, ◌∙◌, inl, inr, arith}
 use Rattle.std.specs.Prelude.{not, slice_index, slice_index_or}
 use Rattle.std.specs.List.{All, list_any}
-use Rattle.std.proofs.lemmas.Bool.{cases_Bool, cases_lt, and_parts, and_from, eqb-true, true≢false}
+use Rattle.std.proofs.lemmas.Bool.{cases_Bool, cases_lt, and_parts, and_from, eqb-true, true≢false, not-false}
 use Rattle.std.proofs.lemmas.Option.{slice_get-get_or, get_or_from_slice_get, slice_get_within}
-use Rattle.ept_check.proofs.Anys.{any_below, none_below, none_of}
+use Rattle.ept_check.proofs.Anys.{none_below, none_of}
 use Rattle.ept_check.proofs.Checks.{contents_only, none_at as none_here, outside_first, twice_first}
 use Rattle.ept_check.proofs.Firsts.{found_at, in_below, none_at, none_from}
 use Rattle.ept_check.proofs.Knowns.{and_false, at_level, in_levels, one_table, path_of, same_table_of}
@@ -21,15 +21,12 @@ use Rattle.ept_check.specs.declared.types.FaultKind.{FaultKind}
 use Rattle.ept_check.specs.declared.types.FaultKind.TheVariants.{Outside, Twice}
 use Rattle.ept_check.specs.declared.types.TableFault.{TableFault}
 use Rattle.machine_layout.specs.Walks.{addresses_from, entry_size}
+use Rattle.muen_num.proofs.NumbersBelow.{any_below}
 use Rattle.muen_num.specs.Access.{kind_bit}
 use Rattle.muen_num.specs.Search.{first_of}
 use Rattle.muen_num.specs.declared.access.AccessKind.{AccessKind}
 
 -- ---- no fault, then sound
-
-is_true : (b : Bool) → not b ≡ false → b ≡ true
-is_true true h = refl
-is_true false h = absurd (cc)
 
 abbrev count : Tables → ℕ
 count v = 2 ^ 36 * length v.roots
@@ -62,7 +59,7 @@ AreTables v ats = All (λ at. v.is_table (at / 4096) ≡ true) ats
 tables_all : (v : Tables) (q : ℕ) → is_outside v q ≡ false → AreTables v (addresses v q)
 unfolding is_outside
 tables_all v q h = λ k d l.
-    is_true (v.is_table (slice_index_or (addresses v q) k d / 4096)) (none_here (λ at. not (v.is_table (at / 4096))) (addresses v q) k (slice_index_or (addresses v q) k d) h (slice_get-get_or (addresses v q) k d l))
+    not-false (v.is_table (slice_index_or (addresses v q) k d / 4096)) (none_here (λ at. not (v.is_table (at / 4096))) (addresses v q) k (slice_index_or (addresses v q) k d) h (slice_get-get_or (addresses v q) k d l))
 
 addresses_are : (v : Tables) (q : ℕ) → addresses v q ≡ addresses_from v.entry (addr_of q) 3 (root_at v q)
 unfolding addresses

@@ -9,7 +9,7 @@ use Rattle.machine_layout.specs.Walks.{entry_size}
 use Rattle.ept_emit.specs.Entries.{window_on}
 use Rattle.ept_emit.specs.Needs.{needs}
 
-count_add : (p : ℕ → Bool) (lo a b : ℕ) → count p lo (a + b) ≡ count p lo a + count p (lo + a) b
+pub count_add : (p : ℕ → Bool) (lo a b : ℕ) → count p lo (a + b) ≡ count p lo a + count p (lo + a) b
 unfolding count
 count_add p lo a zero = let e : a + 0 ≡ a = omega arith in rw e (omega arith)
 count_add p lo a (suc b) =

@@ -1,14 +1,7 @@
 -- Counts over ranges that follow one another.
 use Rattle.std.proofs.Common.{◌≡◌, ℕ, zero, suc, ◌+◌, ◌<◌, ◌≤◌, Bool, true, false, refl, arith}
+use Rattle.ept_emit.proofs.Counts.{count_add}
 use Rattle.ept_emit.specs.Pages.{count}
-
-count_add : (p : ℕ → Bool) (lo a b : ℕ) → count p lo (a + b) ≡ count p lo a + count p (lo + a) b
-unfolding count
-count_add p lo a zero = let e : a + 0 ≡ a = omega arith in rw e (omega arith)
-count_add p lo a (suc b) =
-    let e : a + suc b ≡ suc (a + b) = omega arith in
-    let f : lo + (a + b) ≡ (lo + a) + b = omega arith in
-    rw (e, f) (omega (arith, count_add p lo a b))
 
 pub count_three : (p : ℕ → Bool) (lo a b c n : ℕ) → n ≡ a + (b + c) → count p lo n ≡ count p lo a + (count p (lo + a) b + count p (lo + a + b) c)
 count_three p lo a b c n e = rw e (omega (arith, count_add p lo a (b + c), count_add p (lo + a) b c))

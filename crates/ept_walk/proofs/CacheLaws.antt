@@ -1,11 +1,10 @@
 -- What is kept, through walks, keeping and changes.
 use Rattle.std.proofs.Common.{◌≡◌, ◌≢◌, ◌⊎◌, inl, inr, ℕ, zero, suc, ◌+◌, ◌-◌, ◌*◌, ◌/◌, ◌%◌, ◌^◌, ◌<◌, ◌≤◌, Bool, true, false, cond, eqb, List, length, get_or, set, Option, Some, None, refl, sym, ap, subst, ◌∙◌, arith}
 use Rattle.std.specs.Prelude.{bit_and, is_some, nat_le, ◌&&◌}
-use Rattle.std.specs.Option.{unwrap_or}
 use Rattle.std.specs.List.{All}
 use Rattle.std.proofs.lemmas.Bool.{cases_eq, cases_lt, eq-eqb, ne_eqb, eqb-true, and_parts, and_from, leb-true, le-leb}
 use Rattle.std.proofs.lemmas.Nat.{and_le_r}
-use Rattle.std.proofs.lemmas.Option.{none-some}
+use Rattle.std.proofs.lemmas.Option.{none-some, same_Some}
 use Rattle.std.proofs.lemmas.List.{get_or-set_same, get_or-set_other, length-set}
 use Rattle.muen_num.specs.Access.{kind_bit}
 use Rattle.muen_num.specs.declared.access.AccessKind.{AccessKind}
@@ -21,9 +20,6 @@ use Rattle.ept_walk.specs.declared.trace.End.{End}
 use Rattle.ept_walk.specs.declared.trace.End.TheVariants.{Leads}
 use Rattle.ept_walk.specs.declared.trace.Target.{Target}
 use Rattle.ept_walk.proofs.BlockLaws.{walk_in_page, leaf_end_moved}
-
-inj : (a b : Slot) → Some a ≡ Some b → a ≡ b
-inj a b e = ap (λ o. unwrap_or o a) e
 
 of_four : (p : ℕ → Bool) → p 0 ≡ true → p 1 ≡ true → p 2 ≡ true → p 3 ≡ true → (level : ℕ) → level < 4 → p level ≡ true
 of_four p a b c d zero l = a
@@ -41,7 +37,7 @@ record IsMatch (changed : List ℕ) (eptp page : ℕ) (o : Option Slot) (s : Slo
   pub fresh : is_fresh changed s ≡ true
 
 if_some : (b : Bool) (t s : Slot) → cond b (Some t) None ≡ Some s → (b ≡ true) × (t ≡ s)
-if_some true t s e = (refl, inj t s e)
+if_some true t s e = (refl, same_Some t s e)
 if_some false t s e = absurd (none-some s e)
 
 match_is : (changed : List ℕ) (eptp page : ℕ) (o : Option Slot) (s : Slot) → matching changed eptp page o ≡ Some s → IsMatch changed eptp page o s
@@ -116,7 +112,7 @@ stands_new m eptp page since t tables h even small noted there =
 set_is : (slots : List (Option Slot)) (i j : ℕ) (s t : Slot) → i < length slots → get_or (set slots i (Some s)) j None ≡ Some t → (s ≡ t) ⊎ (get_or slots j None ≡ Some t)
 set_is slots i j s t l e =
     elim (cases_eq j i) [
-      | inl h ↦ inl (inj s t (sym (get_or-set_same slots i (Some s) None l) ∙ (ap (λ k. get_or (set slots i (Some s)) k None) (sym h) ∙ e)))
+      | inl h ↦ inl (same_Some s t (sym (get_or-set_same slots i (Some s) None l) ∙ (ap (λ k. get_or (set slots i (Some s)) k None) (sym h) ∙ e)))
       | inr ne ↦ inr (sym (get_or-set_other slots i j (Some s) None ne) ∙ e)
     ]
 

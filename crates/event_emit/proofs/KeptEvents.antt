@@ -1,6 +1,6 @@
 -- Whom the events and interrupts of a policy reach, where its rules are kept: a subject with a name, under a vector that
 -- isn't kept for exceptions.
-use Rattle.std.proofs.Common.{◌≡◌, ℕ, Bool, true, false, cond, List, [], ◌∷◌, map, Option, Some, None, refl, sym, ap, ◌∙◌}
+use Rattle.std.proofs.Common.{◌≡◌, ℕ, Bool, true, false, List, [], ◌∷◌, map, Option, Some, None, refl, sym, ap, ◌∙◌}
 use Rattle.std.specs.Prelude.{◌==◌, ◌&&◌, ◌||◌, not, filter, is_some, option_and_then, option_map, slice_get}
 use Rattle.std.specs.Option.{option_map_or, option_or}
 use Rattle.std.specs.List.{find, flat_map, list_all}
@@ -12,6 +12,7 @@ use Rattle.event_emit.specs.ByIndex.{has_letters}
 use Rattle.policy_lawful.proofs.EachPasses.{all_filter, all_flat}
 use Rattle.image_pack.specs.Codes.{is_switch as switches, is_vector, vector_code}
 use Rattle.muen_num.proofs.Lists.{each_of, found_among}
+use Rattle.muen_num.proofs.Lookups.{found_passes}
 use Rattle.muen_num.proofs.SearchLaws.{all_pass}
 use Rattle.muen_num.specs.declared.mode.EventMode.{EventMode}
 use Rattle.muen_num.specs.declared.mode.EventMode.TheVariants.{Asap, Async, Own, Switch}
@@ -52,14 +53,6 @@ allowed Async None h k = absurd (cc)
 allowed Own None h k = absurd (cc)
 
 -- ---- the first of a list
-
-found_passes : {X : Type 0} (test : X → Bool) (xs : List X) (x : X) → find test xs ≡ Some x → test x ≡ true
-found_passes test [] x h = absurd (cc)
-found_passes test (y ∷ ys) x h =
-    elim (test y) as (λ b. test y ≡ b → cond b (Some y) (find test ys) ≡ Some x → test x ≡ true) [
-      | true ↦ λ e is. let same : y ≡ x = cc in ap test (sym same) ∙ e
-      | false ↦ λ _ is. found_passes test ys x is
-    ] refl h
 
 first_raised : (mode : EventMode) (ts : List Target) → list_all (reaches mode) ts ≡ true → option_map_or is_raised (option_map (λ t. record { mode = mode; target = t }) (slice_get ts 0)) true ≡ true
 first_raised mode [] h = refl

@@ -38,10 +38,6 @@ first_there xs [] same one = absurd (true_not_one (length xs) same one)
     true_not_one (suc n) e h = omega (arith, e)
 first_there xs (y ∷ ys) same one = refl
 
-pub some-map : {X Y : Type 0} (f : X → Y) (o : Option X) → is_some (option_map f o) ≡ is_some o
-some-map f None = refl
-some-map f (Some x) = refl
-
 -- ---- the first that passes
 
 module _ {X Y E R : Type 0} (by : Y → Bool) (n : X → Y) (item : X → Option E) (test : E → Bool) (from : Y → Option R) (f : E → R) where

@@ -1,12 +1,13 @@
 -- The event that a subject raises in a way, by names and by its entries.
-use Rattle.std.proofs.Common.{◌≡◌, ℕ, ◌<◌, Bool, true, length, map, Option, Some, None, refl, sym, ap, ◌∙◌, arith}
-use Rattle.std.specs.Prelude.{◌==◌, ◌&&◌, is_some, nat_lt, option_and_then, option_map, slice_get}
+use Rattle.std.proofs.Common.{◌≡◌, ℕ, ◌<◌, Bool, true, length, map, Option, Some, None, refl, sym, ap, ◌∙◌}
+use Rattle.std.specs.Prelude.{◌&&◌, is_some, nat_lt, option_and_then, option_map, slice_get}
 use Rattle.std.specs.Option.{option_map_or, option_or}
 use Rattle.std.specs.List.{filter_map, find, list_all}
 use Rattle.std.proofs.lemmas.Bool.{and_from, and_parts, ltb-true}
-use Rattle.std.proofs.lemmas.Bool.Decides.{nat_tests}
 use Rattle.std.proofs.lemmas.List.Folds.{find-append}
 use Rattle.muen_num.proofs.Lists.{passes_at, there}
+use Rattle.muen_num.proofs.Numbers.{equal_turned}
+use Rattle.muen_num.proofs.Options.{is_some-option_map, map_either}
 use Rattle.policy_lawful.specs.MoreRules.{offence_12, offence_6}
 use Rattle.policy_lawful.specs.Resolution.{IsResolved, Resolution, name_at, source_of, subject_named, subject_in_range}
 use Rattle.policy_lawful.specs.declared.resolved.EventSource.{EventSource}
@@ -27,25 +28,22 @@ use Rattle.expand_grants.specs.declared.granted.EventEntry.{EventEntry}
 use Rattle.expand_grants.specs.declared.granted.Way.{Way}
 use Rattle.expand_grants.specs.declared.granted.Way.TheVariants.{Call}
 use Rattle.expand_grants.specs.declared.reached.Reached.{Reached}
-use Rattle.expand_grants.proofs.Elements.{all_at, found_filtered, some-map}
+use Rattle.expand_grants.proofs.Elements.{all_at, found_filtered}
 use Rattle.expand_grants.proofs.ReadersByIndex.{call_raises, channel_by_index, channel_names}
 use Rattle.expand_grants.proofs.TargetsByIndex.{event_by_index, event_names, some_target}
 
 -- ---- ways
 
-turned : (m n : ℕ) → (m == n) ≡ (n == m)
-turned m n = grind (arith, nat_tests)
-
 -- an entry has the way of its source
 pub way_same : (way of : SourceWay) → is_way way (way_of of) ≡ same_way of way
-way_same (SourceCall m) (SourceCall n) = turned m n
+way_same (SourceCall m) (SourceCall n) = equal_turned m n
 way_same (SourceCall m) (SourceTrap n) = refl
 way_same (SourceTrap m) (SourceCall n) = refl
-way_same (SourceTrap m) (SourceTrap n) = turned m n
+way_same (SourceTrap m) (SourceTrap n) = equal_turned m n
 
 -- an entry has the call of its end
 call_same : (way : SourceWay) (n : ℕ) → is_way way (Call n) ≡ is_call (Some n) way
-call_same (SourceCall m) n = turned m n
+call_same (SourceCall m) n = equal_turned m n
 call_same (SourceTrap m) n = refl
 
 -- ---- sources
@@ -60,7 +58,7 @@ module _ (way : SourceWay) where
   entry_way w b same (Some e) (Some x) = same
 
   entry_some : (w : Way) (e : Event) (o : Option Event) (x : Option Reached) → o ≡ Some e → is_some x ≡ true → is_some (option_and_then (λ e. option_map (entry w e.mode) x) o) ≡ true
-  entry_some w e o x is some = ap (λ o. is_some (option_and_then (λ (e : Event). option_map (entry w e.mode) x) o)) is ∙ some-map (entry w e.mode) x ∙ some
+  entry_some w e o x is some = ap (λ o. is_some (option_and_then (λ (e : Event). option_map (entry w e.mode) x) o)) is ∙ is_some-option_map (entry w e.mode) x ∙ some
 
   module _ (r : Resolution) (q : IsResolved r) (s : Subject) (in_range : subject_in_range r s ≡ true) where
     abbrev source_named : EventSource → NamedSource
@@ -160,10 +158,6 @@ channel_ends_met r k s q lawful at in_range =
     and_from (nat_lt e.channel (length r.channels)) (option_map_or (λ n. is_some (call_entry r.channels (all_readers r) e.channel n)) (writer_call e e.role) true) ok
     (call_raises r q e.channel (ltb-true e.channel (length r.channels) ok) lawful k i s e at in_range in_it refl))
 
-both_raised : {X Y : Type 0} (f : X → Y) (a b : Option X) → option_map f (option_or a b) ≡ option_or (option_map f a) (option_map f b)
-both_raised f None b = refl
-both_raised f (Some x) b = refl
-
 -- the entries of a subject tell for each way the event that it raises
 pub events_by_index : (r : Resolution) (k : ℕ) (s : Subject) → IsResolved r → offence_6 (source_of r) ≡ None → offence_12 (source_of r) ≡ None → slice_get r.subjects k ≡ Some s → subject_in_range r s ≡ true
     → (way : SourceWay) → entry_raised r (entries_of r s) way ≡ event_of (source_of r) (subject_named r s) way
@@ -172,7 +166,7 @@ events_by_index r k s q lawful_6 lawful_12 at in_range way =
     let by_source = filter_map (source_entry r.events (all_targets r.subjects)) s.sources in
     let by_channel_end = filter_map (channel_end_entry r.channels (all_readers r)) (channel_ends_of r s) in
     ap (option_map (raised_named r)) (find-append (λ e. is_way way e.way) by_source by_channel_end)
-    ∙ both_raised (raised_named r) (find (λ e. is_way way e.way) by_source) (find (λ e. is_way way e.way) by_channel_end)
+    ∙ map_either (raised_named r) (find (λ e. is_way way e.way) by_source) (find (λ e. is_way way e.way) by_channel_end)
     ∙ ap (λ o. option_or o (option_map (raised_named r) (find (λ e. is_way way e.way) by_channel_end))) (sym (source_found way r q s in_range lawful_12))
     ∙ ap (option_or (option_and_then (λ e. named_event (source_of r) e.event) (find (λ e. same_way e.way way) (subject_named r s).sources)))
     (sym (channel_end_found way r q s in_range (channel_ends_met r k s q lawful_6 at in_range))

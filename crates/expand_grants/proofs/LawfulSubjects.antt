@@ -68,7 +68,3 @@ zip_more R xs read i x ys now y same within is h p grown =
     let at : x ≡ get_or xs i x = is ∙ ap (λ zs. get_or zs i x) same in
     let more : take i xs ++ x ∷ [] ≡ take (i + 1) xs = ap (λ z. take i xs ++ z ∷ []) at ∙ sym (take_more xs i x here) in
     subst (λ zs. AllZip R zs now) more (subst (AllZip R (take i xs ++ x ∷ [])) (sym grown) (zip_push R (take i xs) ys x y h p))
-
--- what stands in a list at an index, where it was read
-pub read_at : {X : Type 0} (xs ys : List X) (k : ℕ) (x : X) → ys ≡ xs → k < length ys → x ≡ get_or ys k x → slice_get xs k ≡ Some x
-read_at xs ys k x same within is = subst (λ zs. slice_get zs k ≡ Some x) same (slice_get_read ys (length ys) k x refl within is)

@@ -7,14 +7,17 @@ use Rattle.std.specs.Str.{bytes_eq}
 use Rattle.std.proofs.lemmas.Bool.{and_parts, ltb-true}
 use Rattle.std.proofs.lemmas.List.{length-map}
 use Rattle.std.proofs.lemmas.List.Folds.{list_all-append, list_all-map}
-use Rattle.muen_num.proofs.Lists.{all_true, each_from, passes_at, there}
+use Rattle.std.proofs.Math.Bool.{and-false, and-true}
+use Rattle.muen_num.proofs.Lists.{all_true, each_from, filter-map, passes_at, there}
+use Rattle.muen_num.proofs.Options.{is_some-option_map}
 use Rattle.muen_num.proofs.SearchLaws.{all_pass}
 use Rattle.muen_num.specs.declared.mode.EventMode.{EventMode}
+use Rattle.muen_num.proofs.Lookups.{same_self}
 use Rattle.policy_lawful.specs.MoreRules.{fits_event, is_connected, is_writer, offence_6, readers_of, writers_of}
 use Rattle.policy_lawful.specs.Offences.{alone}
 use Rattle.policy_lawful.specs.Resolution.{IsResolved, Resolution, name_at, source_of, subject_named, subject_in_range}
 use Rattle.policy_lawful.specs.declared.resolved.Subject.{Subject}
-use Rattle.policy_lawful.proofs.Indexes.{found_at_index, same_name, same_self}
+use Rattle.policy_lawful.proofs.Indexes.{found_at_index, same_name}
 use Rattle.policy_lawful.proofs.SourceElements.{parts_in_range}
 use Rattle.policy_lawful.proofs.UniqueNames.{unique}
 use Rattle.policy_lawful.specs.Events.{ChannelEnd, channel_ends, channel_event, channel_targets, reads_from}
@@ -31,9 +34,9 @@ use Rattle.expand_grants.specs.Raising.{all_readers, call_entry, entry, first_re
 use Rattle.expand_grants.specs.declared.granted.Way.{Way}
 use Rattle.expand_grants.specs.declared.granted.Way.TheVariants.{Call}
 use Rattle.expand_grants.specs.declared.reached.Reached.{Reached}
-use Rattle.expand_grants.proofs.Elements.{first_there, lengths_same, some-map}
+use Rattle.expand_grants.proofs.Elements.{first_there, lengths_same}
 use Rattle.policy_lawful.proofs.EachPasses.{all_filter, all_flat}
-use Rattle.expand_grants.proofs.FirstByIndex.{filter-flat, filter-map, filter_same, filter_twice, filtered_some, first_by_index}
+use Rattle.expand_grants.proofs.FirstByIndex.{filter-flat, filter_same, filter_twice, filtered_some, first_by_index}
 use Rattle.expand_grants.proofs.TargetsByIndex.{reaches}
 
 abbrev pub channel_names : Resolution → List (List ℕ)
@@ -104,16 +107,8 @@ module _ (r : Resolution) (q : IsResolved r) (k : ℕ) (within : k < length r.ch
 
   -- readers are those ends that are reached
   reads_alike : (name : List ℕ) (e : ChannelEnd) (role : Role) → (bytes_eq e.channel name && not (is_writer role)) ≡ reads_from e role name
-  reads_alike name e Writer = no (bytes_eq e.channel name)
-    where
-      no : (b : Bool) → (b && false) ≡ false
-      no true = refl
-      no false = refl
-  reads_alike name e Reader = yes (bytes_eq e.channel name)
-    where
-      yes : (b : Bool) → (b && true) ≡ b
-      yes true = refl
-      yes false = refl
+  reads_alike name e Writer = and-false (bytes_eq e.channel name)
+  reads_alike name e Reader = and-true (bytes_eq e.channel name)
 
   -- as many readers as targets
   many_readers : (name : List ℕ) → length (readers_of (source_of r) name) ≡ length (channel_targets (source_of r) name)
@@ -162,7 +157,7 @@ module _ (r : Resolution) (q : IsResolved r) (k : ℕ) (within : k < length r.ch
   raises e c m Reader call h there = refl
   raises e c m Writer None h there = refl
   raises e c None Writer (Some n) h there = absurd (cc)
-  raises e c (Some mode) Writer (Some n) h there = some-map (entry (Call n) mode) (first_reached (all_readers r) k) ∙ there
+  raises e c (Some mode) Writer (Some n) h there = is_some-option_map (entry (Call n) mode) (first_reached (all_readers r) k) ∙ there
 
   -- what the rule asks of the ends, by the channel's event
   calls_by : (writers readers : List (List ℕ × ChannelEnd)) (m : Option EventMode) → fits_event writers readers m ≡ true → list_all (λ x. option_map_or (λ _. true) m (not (is_some x.1.call))) writers ≡ true
@@ -182,7 +177,7 @@ module _ (r : Resolution) (q : IsResolved r) (k : ℕ) (within : k < length r.ch
   reader_there : (m : Option EventMode) → option_map_or (λ _. length (readers_of (source_of r) (name_at (channel_names r) k)) == 1) m true ≡ true → option_map_or (λ _. is_some (first_reached (all_readers r) k)) m true ≡ true
   reader_there None h = refl
   reader_there (Some mode) h =
-      sym (some-map (reaches r) (first_reached (all_readers r) k)) ∙ ap is_some (sym first_reader)
+      sym (is_some-option_map (reaches r) (first_reached (all_readers r) k)) ∙ ap is_some (sym first_reader)
       ∙ first_there (readers_of (source_of r) (name_at (channel_names r) k)) (channel_targets (source_of r) (name_at (channel_names r) k)) (many_readers (name_at (channel_names r) k)) h
 
   pub call_raises : offence_6 (source_of r) ≡ None → (j i : ℕ) (s : Subject) (e : IndexedEnd) → slice_get r.subjects j ≡ Some s → subject_in_range r s ≡ true → slice_get (channel_ends_of r s) i ≡ Some e → e.channel ≡ k

@@ -5,6 +5,7 @@ use Rattle.std.specs.Str.{bytes_eq}
 use Rattle.std.proofs.lemmas.Bool.{and_parts, ltb-true}
 use Rattle.std.proofs.lemmas.List.{length-map}
 use Rattle.muen_num.proofs.Lists.{passes_at, there}
+use Rattle.muen_num.proofs.Options.{is_some-option_map}
 use Rattle.muen_num.proofs.SearchLaws.{all_pass}
 use Rattle.policy_lawful.specs.MoreRules.{offence_12, sources_of, targets_of}
 use Rattle.policy_lawful.specs.Offences.{alone}
@@ -23,7 +24,7 @@ use Rattle.expand_grants.specs.Grants.{raised_named, target_named}
 use Rattle.expand_grants.specs.Raising.{all_targets, entry, first_reached, subject_targets, target_reached}
 use Rattle.expand_grants.specs.declared.granted.Way.{Way}
 use Rattle.expand_grants.specs.declared.reached.Reached.{Reached}
-use Rattle.expand_grants.proofs.Elements.{first_there, lengths_same, some-map}
+use Rattle.expand_grants.proofs.Elements.{first_there, lengths_same}
 use Rattle.expand_grants.proofs.FirstByIndex.{filtered, first_by_index}
 
 abbrev pub event_names : Resolution → List (List ℕ)
@@ -94,4 +95,4 @@ module _ (r : Resolution) (q : IsResolved r) (k : ℕ) (within : k < length r.ev
       length-map (filter (λ e. bytes_eq e.event name) s.targets) (λ e. s.name) ∙ sym (length-map (filter (λ e. bytes_eq e.event name) s.targets) (λ (e : NamedTarget). record { subject = s.name; vector = e.vector })) in
       let same : length (targets_of p name) ≡ length (event_targets p name) =
       lengths_same (λ (s : NamedSubject). map (λ e. s.name) (filter (λ e. bytes_eq e.event name) s.targets)) (λ s. map (λ e. record { subject = s.name; vector = e.vector }) (filter (λ e. bytes_eq e.event name) s.targets)) by_name p.subjects in
-      sym (some-map (reaches r) (first_reached (all_targets r.subjects) k)) ∙ ap is_some (sym first_target) ∙ first_there (targets_of p name) (event_targets p name) same one
+      sym (is_some-option_map (reaches r) (first_reached (all_targets r.subjects) k)) ∙ ap is_some (sym first_target) ∙ first_there (targets_of p name) (event_targets p name) same one

@@ -1,5 +1,5 @@
 -- The windows of a subject by guest address: no two have the same.
-use Rattle.std.proofs.Common.{◌≡◌, ℕ, zero, suc, ◌+◌, ◌<◌, ◌≤◌, Bool, true, false, List, [], ◌∷◌, length, get_or, map, Some, None, sym, ap, ◌∙◌, arith}
+use Rattle.std.proofs.Common.{◌≡◌, ℕ, zero, suc, ◌+◌, ◌<◌, Bool, true, false, List, [], ◌∷◌, length, get_or, map, Some, None, sym, ap, ◌∙◌, arith}
 use Rattle.std.specs.Prelude.{◌==◌, ◌||◌, nat_le, slice_get}
 use Rattle.std.specs.List.{AllByRecursion, AllPairs, IsDistinct, list_all}
 use Rattle.std.specs.List.Sorted.{IsNonDecreasingBy, IsPermutation}
@@ -11,6 +11,7 @@ use Rattle.std.proofs.lemmas.Map.Keys.{IsDistinct-IsPermutation}
 use Rattle.std.proofs.lemmas.Option.{slice_get-get_or}
 use Rattle.muen_num.proofs.FirstPair.{pairs_at}
 use Rattle.muen_num.proofs.Lists.{passes_at}
+use Rattle.muen_num.proofs.Numbers.{equal_turned, lower}
 use Rattle.muen_num.proofs.SearchLaws.{unless_none}
 use Rattle.policy_lawful.specs.Resolution.{IsResolved, Resolution, source_of, subject_named, subject_in_range}
 use Rattle.policy_lawful.specs.Rules.{are_apart, first_overlap, is_guest, offence_4, offence_5, overlapping, window_extents}
@@ -52,16 +53,10 @@ module _ {X : Type 0} (same : X → X → Bool) where
 
 -- ---- windows that are sorted
 
-flips : (a b : ℕ) → (a == b) ≡ (b == a)
-flips a b = grind (arith, nat_tests)
-
-lower : (a b : ℕ) → a ≤ b → (a == b) ≡ false → (nat_le a b ≡ true) × (nat_le b a ≡ false)
-lower a b l h = (grind (arith, nat_tests, l), grind (arith, nat_tests, l, h))
-
 -- what is sorted by guest addresses that differ is in their order
 pub sorted_is : (xs ys : List View) → IsDistinct same_guest xs → IsPermutation xs ys → IsNonDecreasingBy (λ v. v.guest) ys → ys ≡ in_order is_lower xs
 sorted_is xs ys distinct moved rising =
-    let apart = pairs_of same_guest ys (IsDistinct-IsPermutation same_guest (λ a b. flips a.guest b.guest) xs ys moved distinct) in
+    let apart = pairs_of same_guest ys (IsDistinct-IsPermutation same_guest (λ a b. equal_turned a.guest b.guest) xs ys moved distinct) in
     sym (ordered_is is_lower xs ys moved
     (λ i j d l m. lower (get_or ys i d).guest (get_or ys j d).guest (rising i j d (omega (arith, l)) m) (apart i j d l m)))
 

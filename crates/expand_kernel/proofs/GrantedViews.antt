@@ -3,7 +3,6 @@ use Rattle.std.proofs.Common.{◌≡◌, ℕ, suc, ◌+◌, ◌<◌, ◌≤◌, 
 use Rattle.std.specs.List.{All, AllByRecursion, AllPairs, IsDistinct, list_all}
 use Rattle.std.proofs.lemmas.Bool.{and_parts, leb-true, ltb-true}
 use Rattle.std.proofs.lemmas.List.Elements.{All-from_recursion, All-map}
-use Rattle.std.proofs.lemmas.List.Kept.{AllPairs-cons}
 use Rattle.std.proofs.lemmas.List.Sorted.{All-permutation, IsPermutation-map}
 use Rattle.ept_emit.specs.Pages.{IsMapped, ept_pages}
 use Rattle.expand_grants.specs.Grants.{is_lower}
@@ -15,6 +14,7 @@ use Rattle.expand_kernel.proofs.LowestFirst.{before_in_order, clash}
 use Rattle.expand_kernel.proofs.TablePages.{pages_permuted}
 use Rattle.muen_num.proofs.FirstPair.{pairs_at}
 use Rattle.muen_num.proofs.Lists.{map-map}
+use Rattle.muen_num.proofs.Pairs.{pairs_mapped}
 use Rattle.muen_num.proofs.SearchLaws.{unless_none}
 use Rattle.policy_lawful.specs.Resolution.{IsResolved, Resolution, source_of, subject_named, subject_in_range}
 use Rattle.policy_lawful.specs.Rules.{are_apart, first_overlap, is_guest, overlapping, window_extents}
@@ -25,14 +25,6 @@ use Rattle.policy_lawful.specs.Views.{view_extent, view_window, views_of}
 use Rattle.policy_lawful.specs.declared.view.View.{View}
 use Rattle.policy_lawful.proofs.ExtentsByIndex.{extents_by_index}
 use Rattle.policy_lawful.proofs.WindowsByIndex.{windows_by_index}
-
--- ---- pairs of a list that is mapped
-
-pairs_mapped : {X Y : Type 0} (f : X → Y) (R : Y → Y → Type 0) (xs : List X) → AllPairs (λ a b. R (f a) (f b)) xs → AllPairs R (map f xs)
-pairs_mapped f R [] h = λ i j d p q. absurd (omega arith)
-pairs_mapped f R (x ∷ xs) h =
-    AllPairs-cons R (f x) (map f xs) (All-map (R (f x)) f xs (λ k d l. h 0 (suc k) d (omega arith) (omega arith)))
-    (pairs_mapped f R xs (λ i j d p q. h (suc i) (suc j) d (omega arith) (omega arith)))
 
 -- ---- of views, by what the rules say of their ranges
 

@@ -1,7 +1,8 @@
 -- Ranges that share no number, put in order by where they start: each ends before the later ones start.
-use Rattle.std.proofs.Common.{◌≡◌, ℕ, ◌+◌, ◌<◌, ◌≤◌, Bool, true, false, not, List, [], ◌∷◌, refl, arith}
+use Rattle.std.proofs.Common.{◌≡◌, ℕ, ◌+◌, ◌<◌, ◌≤◌, Bool, true, false, not, List, [], ◌∷◌, refl, ap, arith}
 use Rattle.std.specs.Prelude.{◌||◌, nat_le, if◌then◌else◌}
 use Rattle.std.specs.List.{All, AllByRecursion, AllPairs, IsDistinct}
+use Rattle.std.proofs.Math.Bool.{or_comm}
 use Rattle.std.proofs.lemmas.Bool.{leb-true, leb-false}
 use Rattle.std.proofs.lemmas.List.Elements.{All-from_recursion, recursion_from_All}
 use Rattle.std.proofs.lemmas.List.Kept.{AllPairs-cons}
@@ -62,12 +63,6 @@ module _ {X : Type 0} (start size : X → ℕ) where
   abbrev pub clash : X → X → Bool
   clash a b = not (nat_le (start a + size a) (start b) || nat_le (start b + size b) (start a))
 
-  either_way : (p q : Bool) → not (p || q) ≡ not (q || p)
-  either_way true true = refl
-  either_way true false = refl
-  either_way false true = refl
-  either_way false false = refl
-
   abbrev IsBefore : X → X → Type 0
   IsBefore a b = start a + size a ≤ start b
 
@@ -93,5 +88,5 @@ module _ {X : Type 0} (start size : X → ℕ) where
       let ys = in_order no_higher xs in
       let p = in_order_permutes no_higher xs in
       pairs_before ys (rises_in_order xs)
-      (IsDistinct-IsPermutation clash (λ a b. either_way (nat_le (start a + size a) (start b)) (nat_le (start b + size b) (start a))) xs ys p apart)
+      (IsDistinct-IsPermutation clash (λ a b. ap not (or_comm (nat_le (start a + size a) (start b)) (nat_le (start b + size b) (start a)))) xs ys p apart)
       (recursion_from_All (λ x. 0 < size x) ys (All-permutation (λ x. 0 < size x) xs ys p some))

@@ -1,5 +1,5 @@
 -- Flows by channels, by names and by indexes.
-use Rattle.std.proofs.Common.{◌≡◌, ℕ, ◌<◌, true, false, List, length, map, None, refl, sym, ap, ◌∙◌, arith}
+use Rattle.std.proofs.Common.{◌≡◌, ℕ, ◌<◌, true, false, length, refl, sym, ap, ◌∙◌, arith}
 use Rattle.std.specs.Prelude.{◌==◌, ◌&&◌, nat_lt}
 use Rattle.std.specs.Option.{option_map_or}
 use Rattle.std.specs.List.{filter_map, list_any}
@@ -8,10 +8,9 @@ use Rattle.std.proofs.lemmas.Bool.{ltb-true}
 use Rattle.std.proofs.lemmas.List.{length-map}
 use Rattle.muen_num.proofs.Lists.{list_any-map}
 use Rattle.policy_lawful.specs.Resolution.{IsResolved, Resolution, name_at, source_of, subject_named, subject_in_range}
-use Rattle.policy_lawful.specs.Rules.{repeated}
 use Rattle.policy_lawful.specs.declared.resolved.Subject.{Subject}
 use Rattle.policy_lawful.proofs.Indexes.{same_name}
-use Rattle.policy_lawful.proofs.UniqueNames.{unique}
+use Rattle.policy_lawful.proofs.UniqueNames.{channel_names, channels_unique}
 use Rattle.policy_lawful.specs.Events.{ChannelEnd, channel_ends, reads_from}
 use Rattle.policy_lawful.specs.rights.Role.{Role}
 use Rattle.policy_lawful.specs.rights.Role.TheVariants.{Writer, Reader}
@@ -22,13 +21,6 @@ use Rattle.policy_flows.specs.Flows.{by_channel, is_writer}
 use Rattle.muen_num.proofs.Members.{any_agree, passes_in}
 use Rattle.flow_report.specs.ByIndex.{channel_read, channel_written, has, meet}
 use Rattle.flow_report.proofs.IndexesOfSubjects.{any_filter_map}
-
-abbrev channel_names : Resolution → List (List ℕ)
-channel_names r = map (λ c. c.name) r.channels
-
-channels_unique : (r : Resolution) → IsResolved r → repeated (channel_names r) ≡ None
-unfolding source_of
-channels_unique r q = (unique (source_of r) q.names).channels
 
 module _ (r : Resolution) (q : IsResolved r) where
   same_channel : (j k : ℕ) → nat_lt j (length r.channels) ≡ true → nat_lt k (length r.channels) ≡ true → bytes_eq (name_at (channel_names r) j) (name_at (channel_names r) k) ≡ (j == k)

@@ -1,9 +1,7 @@
 -- The contacts of a policy's subjects, one more at a time.
-use Rattle.std.proofs.Common.{◌≡◌, ℕ, ◌+◌, ◌<◌, List, [], ◌∷◌, ◌++◌, length, map, get_or, take, sym, ap, ◌∙◌, subst, refl, Some, arith}
-use Rattle.std.specs.Prelude.{slice_get}
+use Rattle.std.proofs.Common.{◌≡◌, ℕ, ◌+◌, ◌<◌, List, [], ◌∷◌, ◌++◌, length, map, get_or, take, sym, ap, ◌∙◌, subst, arith}
 use Rattle.std.specs.List.{enumerate_from}
 use Rattle.std.proofs.lemmas.List.{length-take-le, map-append, take_more}
-use Rattle.std.proofs.lemmas.Option.{slice_get_read}
 use Rattle.muen_num.proofs.Lists.{enumerate_push}
 
 pub numbered_more : {S X : Type 0} (f : ℕ × S → X) (ss : List S) (i : ℕ) (s : S) → i < length ss → s ≡ get_or ss i s
@@ -21,7 +19,3 @@ pub numbered_read : {S X : Type 0} (f : ℕ × S → X) (ss read : List S) (i : 
     → map f (enumerate_from 0 (take (i + 1) ss)) ≡ map f (enumerate_from 0 (take i ss)) ++ f (i, s) ∷ []
 numbered_read f ss read i s same within is =
     numbered_more f ss i s (subst (λ zs. i < length zs) same within) (subst (λ zs. s ≡ get_or zs i s) same is)
-
--- what stands in a list at an index, where it was read
-pub read_at : {S : Type 0} (ss read : List S) (i : ℕ) (s : S) → read ≡ ss → i < length read → s ≡ get_or read i s → slice_get ss i ≡ Some s
-read_at ss read i s same within is = subst (λ zs. slice_get zs i ≡ Some s) same (slice_get_read read (length read) i s refl within is)

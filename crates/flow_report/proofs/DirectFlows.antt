@@ -5,12 +5,12 @@ use Rattle.policy_lawful.specs.Resolution.{IsResolved, Resolution, source_of, su
 use Rattle.policy_lawful.specs.declared.resolved.Subject.{Subject}
 use Rattle.policy_lawful.proofs.UniqueNames.{unique}
 use Rattle.policy_flows.specs.Flows.{by_channel, by_event, by_memory, flows_to}
-use Rattle.muen_num.proofs.Members.{In, map_in}
+use Rattle.muen_num.proofs.Members.{In, at_in, map_in}
 use Rattle.flow_report.specs.ByIndex.{contacts_of, flows_between}
 use Rattle.flow_report.proofs.ChannelFlows.{channel_same}
 use Rattle.flow_report.proofs.EventFlows.{sources_same}
 use Rattle.policy_flows.proofs.EventWaysFlow.{by_sources, event_parts, sources_count}
-use Rattle.policy_flows.proofs.UniqueSubjects.{HasUniqueNames, at_in, unique_names}
+use Rattle.policy_flows.proofs.UniqueSubjects.{HasUniqueNames, unique_names}
 use Rattle.flow_report.proofs.MemoryFlows.{memory_same}
 use Rattle.flow_report.proofs.MonitorFlows.{change_same, plan_same, sight_same}
 use Rattle.flow_report.proofs.IndexesOfSubjects.{At, is_in_range}

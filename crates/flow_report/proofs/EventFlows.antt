@@ -11,13 +11,12 @@ use Rattle.std.proofs.lemmas.Option.{slice_get_past}
 use Rattle.muen_num.specs.declared.mode.EventMode.{EventMode}
 use Rattle.muen_num.proofs.Lists.{find-map, found_among, list_any-map, there}
 use Rattle.policy_lawful.specs.Resolution.{IsResolved, Resolution, name_at, source_of, subject_named, subject_in_range}
-use Rattle.policy_lawful.specs.Rules.{repeated}
 use Rattle.policy_lawful.specs.declared.resolved.EventSource.{EventSource as ResolvedSource}
 use Rattle.policy_lawful.specs.declared.resolved.EventTarget.{EventTarget as ResolvedTarget}
 use Rattle.policy_lawful.specs.declared.resolved.Subject.{Subject}
 use Rattle.policy_lawful.proofs.Indexes.{found_at_index, same_name}
 use Rattle.policy_lawful.proofs.SourceElements.{parts_in_range}
-use Rattle.policy_lawful.proofs.UniqueNames.{unique}
+use Rattle.policy_lawful.proofs.UniqueNames.{event_names, events_unique}
 use Rattle.policy_lawful.specs.Events.{Target, event_targets, named_event, same_way}
 use Rattle.policy_lawful.specs.source.Event.{Event}
 use Rattle.policy_lawful.specs.source.EventSource.{EventSource}
@@ -32,18 +31,11 @@ use Rattle.flow_report.specs.ByIndex.{first_target, has, reached_by}
 use Rattle.policy_flows.proofs.EventWaysFlow.{by_sources}
 use Rattle.flow_report.proofs.IndexesOfSubjects.{At, any_filter_map, same_subject}
 
-abbrev event_names : Resolution → List (List ℕ)
-event_names r = map (λ x. x.name) r.events
-
 abbrev source_named : Resolution → ResolvedSource → EventSource
 source_named r e = record { event = name_at (event_names r) e.event; way = e.way }
 
 abbrev target_named : Resolution → ResolvedTarget → EventTarget
 target_named r e = record { event = name_at (event_names r) e.event; vector = e.vector }
-
-events_unique : (r : Resolution) → IsResolved r → repeated (event_names r) ≡ None
-unfolding source_of
-events_unique r q = (unique (source_of r) q.names).events
 
 same_event : (r : Resolution) → IsResolved r → (j k : ℕ) → nat_lt j (length r.events) ≡ true → nat_lt k (length r.events) ≡ true → bytes_eq (name_at (event_names r) j) (name_at (event_names r) k) ≡ (j == k)
 same_event r q j k a b =

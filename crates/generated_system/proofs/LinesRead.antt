@@ -3,7 +3,7 @@ use Rattle.std.proofs.Common.{◌≡◌, ℕ, ◌+◌, Bool, true, false, not, c
 use Rattle.std.specs.Prelude.{◌&&◌, ◌||◌, ◌==◌, nat_le, nat_lt, if◌then◌else◌}
 use Rattle.std.specs.Char.{is_ascii_digit}
 use Rattle.std.specs.List.{flat_map, list_all, list_any, onto_first}
-use Rattle.std.proofs.lemmas.Bool.{and_from, and_parts}
+use Rattle.std.proofs.lemmas.Bool.{and_from, and_parts, eq-eqb}
 use Rattle.std.proofs.lemmas.Bool.Decides.{nat_tests}
 use Rattle.std.proofs.lemmas.List.Folds.{list_all-append}
 use Rattle.record_text.proofs.Cuts.{lines_then}
@@ -12,6 +12,7 @@ use Rattle.record_text.specs.declared.fault.RecordFault.TheVariants.{NotAscii}
 use Rattle.record_text.specs.Parts.{lines_of, parts_of}
 use Rattle.record_text.specs.Words.{words_of}
 use Rattle.generated_system.specs.RecordText.{line_of, with_line_feed}
+use Rattle.muen_num.proofs.Lists.{each_from}
 
 -- ---- parts
 
@@ -19,11 +20,8 @@ use Rattle.generated_system.specs.RecordText.{line_of, with_line_feed}
 abbrev is_clear : ℕ → List ℕ → Bool
 is_clear byte text = list_all (λ c. not (c == byte)) text
 
-same : (byte : ℕ) → (byte == byte) ≡ true
-same byte = grind (arith, nat_tests)
-
 part_then : (byte : ℕ) (text rest : List ℕ) → is_clear byte text ≡ true → parts_of byte (text ++ byte ∷ rest) ≡ text ∷ parts_of byte rest
-part_then byte [] rest h = ap (λ b. cond b ([] ∷ parts_of byte rest) (onto_first byte (parts_of byte rest))) (same byte)
+part_then byte [] rest h = ap (λ b. cond b ([] ∷ parts_of byte rest) (onto_first byte (parts_of byte rest))) (eq-eqb byte byte refl)
 part_then byte (c ∷ text) rest h =
     elim (c == byte) as (λ b. (not b && is_clear byte text) ≡ true → cond b ([] ∷ parts_of byte (text ++ byte ∷ rest)) (onto_first c (parts_of byte (text ++ byte ∷ rest))) ≡ (c ∷ text) ∷ parts_of byte rest) [
       | true ↦ λ e. absurd (cc)
@@ -53,12 +51,6 @@ is_word word = list_all is_visible word
 abbrev pub is_plain : List ℕ → Bool
 is_plain line = list_all is_printed line
 
-all_more : (p q : ℕ → Bool) → ((c : ℕ) → p c ≡ true → q c ≡ true) → (cs : List ℕ) → list_all p cs ≡ true → list_all q cs ≡ true
-all_more p q more [] h = refl
-all_more p q more (c ∷ cs) h =
-    let parts = and_parts (p c) (list_all p cs) h in
-    and_from (q c) (list_all q cs) (more c parts.0) (all_more p q more cs parts.1)
-
 digit_visible : (c : ℕ) → is_ascii_digit c ≡ true → is_visible c ≡ true
 digit_visible c h = grind (arith, nat_tests)
 
@@ -75,7 +67,7 @@ printed_low : (c : ℕ) → is_printed c ≡ true → nat_lt 127 c ≡ false
 printed_low c h = grind (arith, nat_tests)
 
 pub digits_word : (ds : List ℕ) → list_all is_ascii_digit ds ≡ true → is_word ds ≡ true
-digits_word ds h = all_more is_ascii_digit is_visible digit_visible ds h
+digits_word ds h = each_from is_ascii_digit is_visible digit_visible ds h
 
 -- ---- a line
 
@@ -83,10 +75,10 @@ pub words_back : (kind : List ℕ) (words : List (List ℕ)) → list_all is_wor
 unfolding words_of
 words_back kind [] h =
     let parts = and_parts (is_word kind) true h in
-    ap (parts_of 32) (append-nil kind) ∙ part_alone 32 kind (all_more is_visible (λ c. not (c == 32)) visible_clear kind parts.0)
+    ap (parts_of 32) (append-nil kind) ∙ part_alone 32 kind (each_from is_visible (λ c. not (c == 32)) visible_clear kind parts.0)
 words_back kind (word ∷ words) h =
     let parts = and_parts (is_word kind) (list_all is_word (word ∷ words)) h in
-    part_then 32 kind (line_of word words) (all_more is_visible (λ c. not (c == 32)) visible_clear kind parts.0)
+    part_then 32 kind (line_of word words) (each_from is_visible (λ c. not (c == 32)) visible_clear kind parts.0)
     ∙ ap (λ ws. kind ∷ ws) (words_back word words parts.1)
 
 further_plain : (words : List (List ℕ)) → list_all is_word words ≡ true → is_plain (flat_map (λ word. 32 ∷ word) words) ≡ true
@@ -94,13 +86,13 @@ further_plain [] h = refl
 further_plain (word ∷ words) h =
     let parts = and_parts (is_word word) (list_all is_word words) h in
     list_all-append is_printed word (flat_map (λ word. 32 ∷ word) words)
-    ∙ and_from (is_plain word) (is_plain (flat_map (λ word. 32 ∷ word) words)) (all_more is_visible is_printed visible_printed word parts.0) (further_plain words parts.1)
+    ∙ and_from (is_plain word) (is_plain (flat_map (λ word. 32 ∷ word) words)) (each_from is_visible is_printed visible_printed word parts.0) (further_plain words parts.1)
 
 pub line_plain : (kind : List ℕ) (words : List (List ℕ)) → list_all is_word (kind ∷ words) ≡ true → is_plain (line_of kind words) ≡ true
 line_plain kind words h =
     let parts = and_parts (is_word kind) (list_all is_word words) h in
     list_all-append is_printed kind (flat_map (λ word. 32 ∷ word) words)
-    ∙ and_from (is_plain kind) (is_plain (flat_map (λ word. 32 ∷ word) words)) (all_more is_visible is_printed visible_printed kind parts.0) (further_plain words parts.1)
+    ∙ and_from (is_plain kind) (is_plain (flat_map (λ word. 32 ∷ word) words)) (each_from is_visible is_printed visible_printed kind parts.0) (further_plain words parts.1)
 
 -- ---- a text
 
@@ -111,7 +103,7 @@ lines_back (line ∷ lines) h =
     let parts = and_parts (is_plain line) (list_all is_plain lines) h in
     let behind : List ℕ = flat_map with_line_feed lines in
     lines_then (with_line_feed line ++ behind) line behind
-    (ap (parts_of 10) (append_assoc line (10 ∷ []) behind) ∙ part_then 10 line behind (all_more is_printed (λ c. not (c == 10)) printed_clear line parts.0))
+    (ap (parts_of 10) (append_assoc line (10 ∷ []) behind) ∙ part_then 10 line behind (each_from is_printed (λ c. not (c == 10)) printed_clear line parts.0))
     ∙ ap (λ ls. line ∷ ls) (lines_back lines parts.1)
 
 none_high : (line : List ℕ) → is_plain line ≡ true → list_any (λ c. nat_lt 127 c) line ≡ false

@@ -1,8 +1,8 @@
 -- Worlds that are the same but for names step alike.
-use Rattle.std.proofs.Common.{◌≡◌, ℕ, ◌%◌, ◌<◌, ◌==◌, true, false, Bool, Option, Some, None, refl, ap, ◌∙◌, arith}
+use Rattle.std.proofs.Common.{◌≡◌, ℕ, ◌%◌, ◌<◌, ◌==◌, true, false, Bool, Option, Some, None, refl, ap, ◌∙◌}
 use Rattle.std.specs.Prelude.{if◌then◌else◌, nat_le}
 use Rattle.std.specs.Int.{w64, to_le_bytes}
-use Rattle.std.proofs.lemmas.Bool.Decides.{nat_tests}
+use Rattle.std.proofs.lemmas.Bool.{eqb-true, leb-false}
 use Rattle.muen_num.specs.AccessSize.{bytes_of as count}
 use Rattle.muen_num.specs.Access.{kind_bit}
 use Rattle.muen_num.specs.declared.access.AccessKind.{AccessKind}
@@ -41,23 +41,17 @@ module _ {X Y : Type 0} (f : X → ℕ → Y × ℕ) (a : World X) (b : World Y)
   by_reads n true false kind addr c h = h refl refl
   by_reads n false high kind addr c h = tt
 
-  low : (addr : ℕ) → nat_le GUEST_END addr ≡ false → addr < GUEST_END
-  low addr h = grind (arith, nat_tests, h)
-
   reach_alike : (kind : AccessKind) (n addr : ℕ) → reach_of b.look kind n addr ≡ renamed_reach f (reach_of a.look kind n addr)
   reach_alike kind n addr =
-      by_alike (addr % n == 0) (nat_le GUEST_END addr) kind addr (a.look kind addr) (b.look kind addr) (λ _ h. r.look kind addr (low addr h))
+      by_alike (addr % n == 0) (nat_le GUEST_END addr) kind addr (a.look kind addr) (b.look kind addr) (λ _ h. r.look kind addr (leb-false GUEST_END addr h))
 
   reads_of : (kind : AccessKind) (size : AccessSize) (addr : ℕ) → addr < GUEST_END → addr % count size ≡ 0 → (c : Reach X) → a.look kind addr ≡ c → Reads (count size) c
   reads_of kind size addr l h (Reached target offset) e = r.word kind addr size target offset l h e
   reads_of kind size addr l h (Refused reason qualification guest) e = tt
 
-  aligned : (addr n : ℕ) → (addr % n == 0) ≡ true → addr % n ≡ 0
-  aligned addr n h = grind (arith, nat_tests, h)
-
   reach_reads : (kind : AccessKind) (size : AccessSize) (addr : ℕ) → Reads (count size) (reach_of a.look kind (count size) addr)
   reach_reads kind size addr =
-      by_reads (count size) (addr % count size == 0) (nat_le GUEST_END addr) kind addr (a.look kind addr) (λ g h. reads_of kind size addr (low addr h) (aligned addr (count size) g) (a.look kind addr) refl)
+      by_reads (count size) (addr % count size == 0) (nat_le GUEST_END addr) kind addr (a.look kind addr) (λ g h. reads_of kind size addr (leb-false GUEST_END addr h) (eqb-true (addr % count size) 0 g) (a.look kind addr) refl)
 
   loaded_alike : (s after : SubjectState) (reg n : ℕ) (c : Reach X) → Reads n c → loaded b.bytes s after reg n (renamed_reach f c) ≡ renamed f (loaded a.bytes s after reg n c)
   loaded_alike s after reg n (Reached target offset) e = rw e refl

@@ -6,6 +6,7 @@ use Rattle.std.specs.Int.Bits.{and_lt}
 use Rattle.std.proofs.lemmas.Bool.Decides.{nat_tests}
 use Rattle.std.proofs.lemmas.List.Elements.{All-set}
 use Rattle.std.proofs.lemmas.Nat.{or_lt, xor_lt}
+use Rattle.std.proofs.lemmas.Bool.{eqb-true, leb-false}
 use Rattle.std.proofs.Math.Nat.{div-le_self}
 use mir.Val.{sel}
 use Rattle.muen_num.specs.Access.{kind_bit}
@@ -272,19 +273,13 @@ module _ {X : Type 0} (w : World X) where
   by_looked size true false addr c h = h refl refl
   by_looked size false high addr c h = tt
 
-  low : (addr : ℕ) → nat_le GUEST_END addr ≡ false → addr < GUEST_END
-  low addr h = grind (arith, nat_tests, h)
-
-  multiple : (addr n : ℕ) → (addr % n == 0) ≡ true → addr % n ≡ 0
-  multiple addr n h = grind (arith, nat_tests, h)
-
   looked_of : (size : AccessSize) (addr : ℕ) (c : Reach X) → addr < GUEST_END → addr % count size ≡ 0 → w.look Write addr ≡ c → Looked size addr c
   looked_of size addr (Reached target offset) l a e = (l, a, e)
   looked_of size addr (Refused reason qualification guest) l a e = tt
 
   looked : (size : AccessSize) (addr : ℕ) → Looked size addr (reach_of w.look Write (count size) addr)
   looked size addr =
-      by_looked size (addr % count size == 0) (nat_le GUEST_END addr) addr (w.look Write addr) (λ a l. looked_of size addr (w.look Write addr) (low addr l) (multiple addr (count size) a) refl)
+      by_looked size (addr % count size == 0) (nat_le GUEST_END addr) addr (w.look Write addr) (λ a l. looked_of size addr (w.look Write addr) (leb-false GUEST_END addr l) (eqb-true (addr % count size) 0 a) refl)
 
   is_stored : (s after : SubjectState) (addr : ℕ) (size : AccessSize) (value : ℕ) (c : Reach X) → Looked size addr c → (FitsState s → FitsState after) → IsAnswer s (stored_to s after addr size value c)
   is_stored s after addr size value (Reached target offset) l h = record {

@@ -21,6 +21,7 @@ use Rattle.image_soundness.specs.Sound.{HasArea}
 use Rattle.machine_layout.specs.Exits.{area_index, area_value, entry_size}
 use Rattle.machine_layout.specs.Memory.{le_number}
 use Rattle.muen_num.proofs.Lists.{map-map}
+use Rattle.muen_num.proofs.NumbersBelow.{same_below}
 use Rattle.muen_num.specs.Range.{numbers_below}
 use Rattle.policy_lawful.specs.resources.MsrGrant.{MsrGrant}
 use Rattle.policy_lawful.specs.source.Msrs.{Msrs}
@@ -78,15 +79,8 @@ pub same_value : (bytes : List ℕ) (n size : ℕ) → 16 * n + 16 ≤ size → 
 unfolding area_value
 same_value bytes n size l = ap le_number (within_page bytes (entry_size * n + 8) 8 size (omega (arith, l)))
 
-map_below : (f g : ℕ → ℕ) (n : ℕ) → ((k : ℕ) → k < n → f k ≡ g k) → map f (numbers_below n) ≡ map g (numbers_below n)
-map_below f g zero h = refl
-map_below f g (suc n) h =
-    map-append f (numbers_below n) (n ∷ [])
-    ∙ ap₂ (λ xs y. xs ++ y ∷ []) (map_below f g n (λ k l. h k (omega (arith, l)))) (h n (omega arith))
-    ∙ sym (map-append g (numbers_below n) (n ∷ []))
-
 pub same_indices : (bytes : List ℕ) (count size : ℕ) → 16 * count ≤ size → map (area_index (take size bytes)) (numbers_below count) ≡ map (area_index bytes) (numbers_below count)
-same_indices bytes count size l = map_below (area_index (take size bytes)) (area_index bytes) count (λ k low. same_index bytes k size (omega (arith, l, low)))
+same_indices bytes count size l = same_below (area_index (take size bytes)) (area_index bytes) count (λ k low. same_index bytes k size (omega (arith, l, low)))
 
 -- ---- permutations
 

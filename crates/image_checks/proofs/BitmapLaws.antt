@@ -1,23 +1,23 @@
 -- Bitmaps that agree with granted ranges are those that the policy asks for, and the other way round.
-use Rattle.std.proofs.Common.{◌≡◌, ℕ, zero, suc, ◌+◌, ◌-◌, ◌<◌, ◌≤◌, ◌==◌, Bool, true, false, not, List, [], ◌∷◌, map, filter, refl, sym, ap, ap₂, ◌∙◌, subst, arith, inl, inr}
-use Rattle.std.specs.Prelude.{◌&&◌, ◌||◌, nat_le, nat_lt, if◌then◌else◌}
-use Rattle.std.specs.List.{flat_map, list_all, list_any}
-use Rattle.std.proofs.lemmas.Bool.{and_parts, cases_lt, eqb-true, eq-eqb, false_from_ne_true, le-leb, leb-true, lt-leb, or_cases}
+use Rattle.std.proofs.Common.{◌≡◌, ℕ, ◌+◌, ◌-◌, ◌<◌, ◌≤◌, ◌==◌, Bool, true, false, not, List, map, filter, refl, sym, ap, ◌∙◌, subst, arith, inl, inr}
+use Rattle.std.specs.Prelude.{◌&&◌, ◌||◌, nat_le, nat_lt}
+use Rattle.std.specs.List.{list_all, list_any}
+use Rattle.std.proofs.lemmas.Bool.{and_parts, cases_lt, eqb-true, eq-eqb, false_from_ne_true, leb-true, lt-leb, or_cases}
 use Rattle.std.proofs.lemmas.Bool.Decides.{nat_tests}
-use Rattle.std.proofs.lemmas.List.Folds.{list_all-append, list_any-append}
 use Rattle.std.proofs.lemmas.Map.Views.{any-filter_same}
-use Rattle.expand_kernel.specs.Resources.{Msr, are_granted, has_port, is_granted, msr_grant, msrs_in, msrs_of, port_ranges_of, ports_of}
+use Rattle.std.proofs.Math.Bool.{and-true, or-false}
+use Rattle.expand_kernel.specs.Resources.{are_granted, has_port, is_granted, msr_grant, msrs_of, port_ranges_of, ports_of}
 use Rattle.image_checks.specs.Agree.{BitmapsAgree, MsrAgrees, MsrsAgree, PortsAgree}
 use Rattle.image_checks.specs.declared.bitmaps.TheConstants.{RANGE_SIZE}
 use Rattle.image_pack.specs.declared.parts.Image.{Image}
 use Rattle.image_pack.specs.declared.parts.SubjectPart.{SubjectPart}
 use Rattle.image_soundness.specs.Memory.{page_at}
 use Rattle.image_soundness.specs.Sound.{HasBitmaps}
-use Rattle.machine_layout.proofs.ExitLaws.{any_below}
 use Rattle.machine_layout.specs.Exits.{msr_exits, port_exits, port_is_set}
 use Rattle.msrbm_emit.specs.Msrs.{allows, has_msr, is_granted as is_msr_granted}
 use Rattle.muen_num.proofs.Lists.{list_any-map}
-use Rattle.muen_num.proofs.Members.{In, any_some, append_some, passes_in}
+use Rattle.muen_num.proofs.Members.{any_some, passes_in}
+use Rattle.muen_num.proofs.NumbersBelow.{all_or_one, any_below}
 use Rattle.muen_num.specs.Range.{numbers_below}
 use Rattle.muen_num.specs.declared.limits.TheConstants.{HIGH_MSR_FIRST, HIGH_MSR_LAST, LAST_PORT, LOW_MSR_LAST}
 use Rattle.policy_lawful.specs.MoreRules.{is_msr_range}
@@ -26,23 +26,16 @@ use Rattle.policy_lawful.specs.resources.PortRange.{PortRange}
 use Rattle.policy_lawful.specs.source.Msrs.{Msrs}
 use Rattle.policy_lawful.specs.source.Source.{Source}
 use Rattle.policy_lawful.specs.source.Subject.{Subject}
+use Rattle.proof_build.proofs.Bitmaps.{msr_granted}
 
 -- ---- ports
-
-one_of : (b : Bool) → (b || false) ≡ b
-one_of true = refl
-one_of false = refl
-
-and_true : (b : Bool) → (b && true) ≡ b
-and_true true = refl
-and_true false = refl
 
 -- a port is among those that are granted where one of the ranges has it
 among : (f : ℕ → Bool) (n x : ℕ) → x < n → list_any (λ y. y == x) (filter f (numbers_below n)) ≡ f x
 among f n x l =
     any-filter_same (λ y. y == x) f (f x) (λ y h. ap f (eqb-true y x h)) (numbers_below n)
     ∙ ap (λ b. f x && b) (any_below (λ y. y == x) n x l (eq-eqb x x refl))
-    ∙ and_true (f x)
+    ∙ and-true (f x)
 
 port_among : (p : Source) (s : Subject) (ranges : List PortRange) (port : ℕ) → ranges ≡ port_ranges_of p s → port < LAST_PORT + 1 → list_any (λ n. n == port) (ports_of p s) ≡ list_any (λ r. has_port r port) ranges
 unfolding ports_of
@@ -58,24 +51,12 @@ fits_one last port l = grind (arith, nat_tests)
 exits_one : (test : ℕ → Bool) (last port : ℕ) → port ≤ last → (nat_lt (last + 1) (port + 1) || list_any (λ k. test (port + k)) (numbers_below 1)) ≡ test port
 exits_one test last port l =
     let here : port + 0 ≡ port = omega arith in
-    ap (λ b. b || (test (port + 0) || false)) (not_past last port l) ∙ one_of (test (port + 0)) ∙ ap test here
+    ap (λ b. b || (test (port + 0) || false)) (not_past last port l) ∙ or-false (test (port + 0)) ∙ ap test here
 
 granted_one : (test : ℕ → Bool) (last port : ℕ) → port ≤ last → (nat_le (port + 1) (last + 1) && list_all (λ k. test (port + k)) (numbers_below 1)) ≡ test port
 granted_one test last port l =
     let here : port + 0 ≡ port = omega arith in
-    ap (λ b. b && (test (port + 0) && true)) (fits_one last port l) ∙ and_true (test (port + 0)) ∙ ap test here
-
-no_more : (a b c d : Bool) → a ≡ not c → b ≡ not d → (a || (b || false)) ≡ not (c && (d && true))
-no_more a b true true p q = rw (p, q) refl
-no_more a b true false p q = rw (p, q) refl
-no_more a b false d p q = rw p refl
-
-all_or_one : (f g : ℕ → Bool) (n : ℕ) → ((k : ℕ) → k < n → f k ≡ not (g k)) → list_any f (numbers_below n) ≡ not (list_all g (numbers_below n))
-all_or_one f g zero h = refl
-all_or_one f g (suc n) h =
-    list_any-append f (numbers_below n) (n ∷ [])
-    ∙ no_more (list_any f (numbers_below n)) (f n) (list_all g (numbers_below n)) (g n) (all_or_one f g n (λ k l. h k (omega (arith, l)))) (h n (omega arith))
-    ∙ ap not (sym (list_all-append g (numbers_below n) (n ∷ [])))
+    ap (λ b. b && (test (port + 0) && true)) (fits_one last port l) ∙ and-true (test (port + 0)) ∙ ap test here
 
 -- accesses of any size, by their ports
 exits_all : (f g : ℕ → Bool) (last port size : ℕ) → ((k : ℕ) → k ≤ last → f k ≡ not (g k)) → (nat_lt (last + 1) (port + size) || list_any (λ k. f (port + k)) (numbers_below size)) ≡ not (nat_le (port + size) (last + 1) && list_all (λ k. g (port + k)) (numbers_below size))
@@ -104,59 +85,10 @@ module _ (p : Source) (s : Subject) (a b : List ℕ) (ranges : List PortRange) (
 
 -- ---- MSRs
 
-number_low : (n x : ℕ) → In x (numbers_below n) → x < n
-number_low zero x i = absurd i
-number_low (suc n) x i =
-    elim (append_some (numbers_below n) (n ∷ []) x i) [
-      | inl before ↦ let low = number_low n x before in omega (arith, low)
-      | inr (inl e) ↦ omega (arith, e)
-      | inr (inr none) ↦ absurd none
-    ]
-
-same_truth : (a b : Bool) → (a ≡ true → b ≡ true) → (b ≡ true → a ≡ true) → a ≡ b
-same_truth true b to from = sym (to refl)
-same_truth false true to from = from refl
-same_truth false false to from = refl
-
-both : (a b : Bool) → a ≡ true → b ≡ true → (a && b) ≡ true
-both a b p q = rw (p, q) refl
-
--- of the numbers from `start` up to `end` one is the index where it lies among them
-one_to_end : (start end index : ℕ) (ok : Bool) → list_any (λ k. (start + k == index) && ok) (numbers_below (end + 1 - start)) ≡ ((nat_le start index && nat_le index end) && ok)
-one_to_end start end index ok =
-    let n : ℕ = end + 1 - start in
-    same_truth (list_any (λ k. (start + k == index) && ok) (numbers_below n)) ((nat_le start index && nat_le index end) && ok)
-    (λ h.
-    let some = any_some (λ k. (start + k == index) && ok) (numbers_below n) h in
-    let parts = and_parts (start + some.one == index) ok some.passes in
-    let at : start + some.one ≡ index = eqb-true (start + some.one) index parts.0 in
-    let low : some.one < end + 1 - start = number_low n some.one some.within in
-    both (nat_le start index && nat_le index end) ok (both (nat_le start index) (nat_le index end) (le-leb start index (omega (arith, at))) (le-leb index end (omega (arith, at, low)))) parts.1)
-    (λ h.
-    let parts = and_parts (nat_le start index && nat_le index end) ok h in
-    let ends = and_parts (nat_le start index) (nat_le index end) parts.0 in
-    let low : start ≤ index = leb-true start index ends.0 in
-    let high : index ≤ end = leb-true index end ends.1 in
-    let at : start + (index - start) ≡ index = omega (arith, low) in
-    any_below (λ k. (start + k == index) && ok) n (index - start) (omega (arith, low, high)) (both (start + (index - start) == index) ok (eq-eqb (start + (index - start)) index at) parts.1))
-
-of_range : (x : Msrs) (index : ℕ) (write : Bool) → list_any (λ (m : Msr). (m.index == index) && (if write then m.write else m.read)) (msrs_in x) ≡ (has_msr (msr_grant x) index && allows (msr_grant x) write)
-of_range x index write =
-    let ok : Bool = if write then x.rights.write else x.rights.read in
-    list_any-map (λ (m : Msr). (m.index == index) && (if write then m.write else m.read)) (λ k. record { index = x.start + k; read = x.rights.read; write = x.rights.write }) (numbers_below (x.end + 1 - x.start))
-    ∙ one_to_end x.start x.end index ok
-
-of_ranges : (ranges : List Msrs) (index : ℕ) (write : Bool) → list_any (λ (m : Msr). (m.index == index) && (if write then m.write else m.read)) (flat_map msrs_in ranges) ≡ is_msr_granted (map msr_grant ranges) index write
-unfolding is_msr_granted
-of_ranges [] index write = refl
-of_ranges (x ∷ xs) index write =
-    list_any-append (λ (m : Msr). (m.index == index) && (if write then m.write else m.read)) (msrs_in x) (flat_map msrs_in xs)
-    ∙ ap₂ (λ a b. a || b) (of_range x index write) (of_ranges xs index write)
-
 -- an MSR is granted where one of the ranges has and allows it
 pub msr_among : (s : Subject) (msrs : List MsrGrant) (index : ℕ) (write : Bool) → msrs ≡ map msr_grant s.msrs → is_granted (msrs_of s) index write ≡ is_msr_granted msrs index write
 unfolding msrs_of
-msr_among s msrs index write is = of_ranges s.msrs index write ∙ ap (λ g. is_msr_granted g index write) (sym is)
+msr_among s msrs index write is = msr_granted s.msrs index write ∙ ap (λ g. is_msr_granted g index write) (sym is)
 
 -- an MSR that a range has lies where the range does
 within : (start end low first last index : ℕ) → (nat_le start end && (nat_le end low || (nat_le first start && nat_le end last))) ≡ true → (nat_le start index && nat_le index end) ≡ true → low < index → (first ≤ index → index ≤ last → ⊥) → ⊥

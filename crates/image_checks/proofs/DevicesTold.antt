@@ -4,9 +4,9 @@ use Rattle.std.specs.Prelude.{option_and_then, option_map}
 use Rattle.std.specs.List.{AllZip, filter_map, sum_by}
 use Rattle.std.proofs.lemmas.Option.{same_Some}
 use Rattle.event_emit.specs.Tables.{AreDevices, IsDevice, IsIrq, span_ends}
-use Rattle.image_checks.proofs.Equal.{decides_same}
 use Rattle.image_checks.proofs.Places.{agrees_there, same_unmapped}
 use Rattle.image_checks.proofs.SubjectsTold.{one_target, same_reached}
+use Rattle.image_checks.proofs.Decided.{decided}
 use Rattle.image_checks.specs.Agreement.{AreMade, DeviceAgrees, IsWindowOf}
 use Rattle.image_checks.specs.Firsts.{Decides}
 use Rattle.image_checks.specs.PlanFault.{AgreesAt}
@@ -181,7 +181,7 @@ device_told r resolved i made are k low there d m q at_d at_m at_q b t =
     let is = made_at r 0 r.devices made are k low d m in
     let here : IsDevice r is.0 d m = subst (λ x. IsDevice r is.0 x m) (sym at_d) (subst (λ y. IsDevice r is.0 (get_or r.devices k d) y) (sym at_m) is.1) in
     let Holds : Device → DevicePart → Type 0 = IsDeviceOf (source_of r) i in
-    decides_same (DeviceAgrees i d m q) (AgreesAt Holds r.devices i.devices k) b
+    decided (DeviceAgrees i d m q) (AgreesAt Holds r.devices i.devices k) b
     (λ h. agrees_there Holds r.devices i.devices k d q low there
     (subst (λ x. Holds x (get_or i.devices k q)) at_d (subst (Holds d) at_q (device_is r resolved i is.0 d m q here h))))
     (λ h. device_agrees r resolved i is.0 d m q here (subst (λ x. Holds x q) (sym at_d) (subst (Holds (get_or r.devices k d)) (sym at_q) (h d q))))

@@ -29,11 +29,6 @@ pub decided : (b : Bool) (P : Type 0) → Tells b P → Decides P b
 decided true P d = d.0 refl
 decided false P d = λ h. let e = d.1 h in absurd (cc (e))
 
--- what decides something decides what is the same
-pub decides_same : (P Q : Type 0) (b : Bool) → (P → Q) → (Q → P) → Decides P b → Decides Q b
-decides_same P Q true f g d = f d
-decides_same P Q false f g d = λ q. d (g q)
-
 -- the items of what may be missing
 pub option_tells : {X : Type 0} (E : X → X → Bool) → ((a b : X) → Tells (E a b) (a ≡ b)) → (a b : Option X) → Tells (option_eq E a b) (a ≡ b)
 option_tells E each None None = (λ _. refl, λ _. refl)

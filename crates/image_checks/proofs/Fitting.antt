@@ -4,6 +4,7 @@ use Rattle.std.specs.Prelude.{replicate}
 use Rattle.std.specs.Str.{bytes_eq}
 use Rattle.std.proofs.lemmas.Bool.{and_from, and_parts, eq-eqb, eqb-true}
 use Rattle.std.proofs.lemmas.Slice.Eq.{bytes_eq-Decides}
+use Rattle.std.proofs.lemmas.Option.{same_Some}
 use Rattle.image_checks.proofs.Wanted.{AreBytesOf, IsWanted, part_of, tag_of}
 use Rattle.image_checks.specs.Contents.{fits, has_bytes, same_kind, same_part}
 use Rattle.image_checks.specs.declared.contents.ExpectedSpan.{ExpectedSpan}
@@ -17,7 +18,7 @@ use Rattle.muen_num.specs.declared.limits.TheConstants.{PAGE}
 use Rattle.muen_num.specs.declared.tag.Tag.{Tag}
 use Rattle.muen_num.specs.declared.tag.TagPart.{TagPart}
 use Rattle.muen_num.specs.declared.tag.TagPart.TheVariants.{Whole, Named, State, Ept, Iobm, Msrbm, Msrs}
-use Rattle.policy_lawful.proofs.Indexes.{same_self}
+use Rattle.muen_num.proofs.Lookups.{same_self}
 use Rattle.policy_lawful.specs.Contents.{Held, initial_bytes}
 use Rattle.policy_lawful.specs.Resolution.{Resolution, source_of}
 use Rattle.policy_lawful.specs.Thing.{Thing}
@@ -109,13 +110,6 @@ have_bytes e None s held initial of kind h = refl
 have_bytes e (Some bytes) s held initial of kind h =
     bytes_from bytes held (of.1 ∙ sym h ∙ held_of s held (sym (ap is_device kind) ∙ of.0))
 
-abbrev number_or : Option ℕ → ℕ
-number_or None = 0
-number_or (Some n) = n
-
-some_number : (a b : ℕ) → Some a ≡ Some b → a ≡ b
-some_number a b h = ap (λ o. number_or o) h
-
 -- ---- the whole
 
 module _ (r : Resolution) (files : Held) (x : Thing) (e : ExpectedSpan) (b : Option (List ℕ)) (w : IsWanted r files x e b) (s : SpanPart) (held : List ℕ) where
@@ -139,7 +133,7 @@ module _ (r : Resolution) (files : Held) (x : Thing) (e : ExpectedSpan) (b : Opt
   fits_from h =
       let tag : tag_of e ≡ s.tag = w.tag ∙ sym h.tag in
       let kind : e.kind ≡ s.kind = w.kind ∙ sym h.kind in
-      let size : e.size ≡ PAGE * s.pages = some_number e.size (PAGE * s.pages) (sym w.size ∙ h.size) in
+      let size : e.size ≡ PAGE * s.pages = same_Some e.size (PAGE * s.pages) (sym w.size ∙ h.size) in
       and_from _ _
       (and_from _ _
       (and_from _ _ (and_from _ _ (bytes_from e.owner s.tag.owner (ap (λ t. t.owner) tag)) (part_from e.part s.tag.part (ap (λ t. t.part) tag))) (same_from e.kind s.kind kind))

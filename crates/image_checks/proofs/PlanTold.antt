@@ -3,14 +3,15 @@ use Rattle.std.proofs.Common.{◌≡◌, ◌∙◌, ℕ, Bool, Option, Some, Non
 use Rattle.std.specs.Prelude.{option_map}
 use Rattle.std.proofs.lemmas.Option.{same_Some}
 use Rattle.image_pack.specs.plan.Plan.{Plan}
-use Rattle.image_checks.proofs.Equal.{decides_same}
 use Rattle.image_checks.proofs.OnePlan.{one_plan}
+use Rattle.image_checks.proofs.Decided.{decided}
 use Rattle.image_checks.specs.Firsts.{Decides}
 use Rattle.image_checks.specs.PlanFault.{HasChoice, HasPlan}
 use Rattle.image_pack.specs.declared.parts.Image.{Image}
 use Rattle.image_soundness.specs.Named.{tag_at}
 use Rattle.muen_num.specs.declared.tag.Tag.{Tag}
 use Rattle.plan_emit.specs.PlanOf.{IsPlanOf}
+use Rattle.plan_emit.proofs.ValidPlan.{processor_same}
 use Rattle.policy_lawful.proofs.UniqueNames.{unique}
 use Rattle.policy_lawful.specs.Resolution.{IsResolved, Resolution, source_of}
 use Rattle.policy_lawful.specs.Thing.{region, thing_tag}
@@ -19,7 +20,7 @@ use Rattle.policy_lawful.specs.source.Tau0.{Tau0}
 -- the plan that is made, and one that is given
 pub plan_told : (r : Resolution) → IsResolved r → (made given : Plan) → IsPlanOf (source_of r) made → (b : Bool) → Decides (made ≡ given) b → Decides (IsPlanOf (source_of r) given) b
 plan_told r resolved made given is b d =
-    decides_same (made ≡ given) (IsPlanOf (source_of r) given) b (λ e. subst (IsPlanOf (source_of r)) e is)
+    decided (made ≡ given) (IsPlanOf (source_of r) given) b (λ e. subst (IsPlanOf (source_of r)) e is)
     (λ h. one_plan (source_of r) (unique (source_of r) resolved.names).subjects made given is h) d
 
 -- ---- the region of the scheduler
@@ -49,18 +50,14 @@ module _ (r : Resolution) (i : Image) where
   some_choice n t a b test d =
       let left = ap (option_map (tag_at i)) a in
       let right = ap (option_map chosen_tag) (tau0_named ∙ b) in
-      decides_same (tag_at i n ≡ chosen_tag t) (HasChoice (source_of r) i) test (λ e. left ∙ ap Some e ∙ sym right)
+      decided (tag_at i n ≡ chosen_tag t) (HasChoice (source_of r) i) test (λ e. left ∙ ap Some e ∙ sym right)
       (λ h. same_Some (tag_at i n) (chosen_tag t) (sym left ∙ h ∙ right)) d
 
   -- ---- the whole
 
-  cpus_named : (source_of r).processor.logical_cpus ≡ r.processor.logical_cpus
-  unfolding source_of
-  cpus_named = refl
-
   pub other_cpus : (i.header.cpus ≡ r.processor.logical_cpus → ⊥) → HasPlan (source_of r) i → ⊥
-  other_cpus apart h = apart (h.cpus ∙ cpus_named)
+  other_cpus apart h = apart (h.cpus ∙ processor_same r)
 
   pub plan_whole : IsPlanOf (source_of r) i.plan → i.header.cpus ≡ r.processor.logical_cpus → (b : Bool) → Decides (HasChoice (source_of r) i) b → Decides (HasPlan (source_of r) i) b
   plan_whole plan cpus b d =
-      decides_same (HasChoice (source_of r) i) (HasPlan (source_of r) i) b (λ tau0. record { cpus = cpus ∙ sym cpus_named; plan = plan; tau0 = tau0 }) (λ h. h.tau0) d
+      decided (HasChoice (source_of r) i) (HasPlan (source_of r) i) b (λ tau0. record { cpus = cpus ∙ sym (processor_same r); plan = plan; tau0 = tau0 }) (λ h. h.tau0) d

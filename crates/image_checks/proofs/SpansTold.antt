@@ -5,13 +5,10 @@ use Rattle.std.specs.List.{find, zip}
 use Rattle.std.specs.Bool.{Decides as Tells}
 use Rattle.std.proofs.lemmas.Bool.Decides.{Decides-eqb}
 use Rattle.std.proofs.lemmas.Option.{same_Some}
-use Rattle.std.proofs.lemmas.Slice.Zip.{AllZip-long}
-use Rattle.image_checks.proofs.Equal.{decided, decides_same}
+use Rattle.image_checks.proofs.Equal.{decided}
+use Rattle.image_checks.proofs.Decided.{decided as decides_same}
 use Rattle.image_checks.specs.Agreement.{size_at}
 use Rattle.image_checks.specs.Firsts.{Decides}
-use Rattle.image_pack.proofs.PartsKeep.{parts_keep}
-use Rattle.image_pack.specs.ImageConditions.{IsContent}
-use Rattle.image_pack.specs.Parts.{IsParts}
 use Rattle.image_pack.specs.declared.parts.Image.{Image}
 use Rattle.image_pack.specs.declared.parts.SpanPart.{SpanPart}
 use Rattle.image_soundness.specs.Memory.{span_at}
@@ -19,10 +16,6 @@ use Rattle.image_soundness.specs.Named.{tag_at}
 use Rattle.muen_num.proofs.Lists.{option_map-option_map}
 use Rattle.muen_num.specs.declared.tag.Tag.{Tag}
 use Rattle.muen_num.specs.declared.limits.TheConstants.{PAGE}
-
--- each span has its bytes
-pub contents_many : (i : Image) → IsParts i → length i.contents ≡ length i.spans
-contents_many i h = AllZip-long IsContent i.spans i.contents (parts_keep i h).contents
 
 -- the first pair whose first passes has the first that passes
 first_found : {X Y : Type 0} (test : X → Bool) (xs : List X) (ys : List Y) → length ys ≡ length xs → option_map (λ (e : X × Y). e.0) (find (λ e. test e.0) (zip xs ys)) ≡ find test xs

@@ -3,8 +3,7 @@ use Rattle.std.proofs.Common.{◌≡◌, ℕ, ◌<◌, min, List, length, get_or
 use Rattle.std.specs.Prelude.{slice_get, option_map, MatchOption}
 use Rattle.std.specs.Option.{IsSomeAnd}
 use Rattle.std.specs.List.{zip}
-use Rattle.std.proofs.lemmas.List.{length-map}
-use Rattle.std.proofs.lemmas.Option.{get_or_from_slice_get, slice_get-get_or, slice_get-map, slice_get_within}
+use Rattle.std.proofs.lemmas.Option.{get_or_from_slice_get, slice_get-map, slice_get_within}
 use Rattle.std.proofs.lemmas.Slice.Zip.{AllZip-left, AllZip-long, get_or-zip, length-zip}
 use Rattle.expand_kernel.specs.Grants.{AreGrants, AreGrantsOf}
 use Rattle.expand_kernel.specs.granted.Grants.{Grants}
@@ -15,22 +14,14 @@ use Rattle.muen_num.proofs.Lists.{there}
 use Rattle.policy_lawful.specs.Resolution.{Resolution, source_of, subject_named}
 use Rattle.policy_lawful.specs.declared.resolved.Subject.{Subject as ResolvedSubject}
 use Rattle.policy_lawful.specs.source.Subject.{Subject}
-
--- what is read at an index stands there
-pub read_at : {X : Type 0} (read xs : List X) (k : ℕ) (x : X) → read ≡ xs → k < length read → x ≡ get_or read k x → slice_get xs k ≡ Some x
-read_at read xs k x same l is = subst (λ ys. slice_get ys k ≡ Some x) same (slice_get-get_or read k x l ∙ ap Some (sym is))
-
--- how many subjects
-pub subjects_many : (r : Resolution) → length (source_of r).subjects ≡ length r.subjects
-unfolding source_of
-subjects_many r = length-map r.subjects (subject_named r)
+use Rattle.policy_lawful.proofs.SourceElements.{many_subjects}
 
 pub grants_many : (r : Resolution) (gs : List Grants) → AreGrants r gs → length gs ≡ length r.subjects
 grants_many r gs h = AllZip-long (AreGrantsOf r) r.subjects gs h
 
 -- how many both have
 pub pairs_many : (r : Resolution) (qs : List SubjectPart) → length (zip (source_of r).subjects qs) ≡ min (length r.subjects) (length qs)
-pairs_many r qs = length-zip (source_of r).subjects qs ∙ ap (λ n. min n (length qs)) (subjects_many r)
+pairs_many r qs = length-zip (source_of r).subjects qs ∙ ap (λ n. min n (length qs)) (many_subjects r)
 
 pub subject_at : (r : Resolution) (k : ℕ) (s : ResolvedSubject) → slice_get r.subjects k ≡ Some s → slice_get (source_of r).subjects k ≡ Some (subject_named r s)
 unfolding source_of

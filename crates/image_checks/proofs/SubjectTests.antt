@@ -7,14 +7,14 @@ use Rattle.expand_kernel.specs.Grants.{AreGrants}
 use Rattle.expand_kernel.specs.granted.Grants.{Grants}
 use Rattle.image_checks.proofs.AreaLaws.{area_back, area_kept}
 use Rattle.image_checks.proofs.BitmapLaws.{bitmaps_back, bitmaps_kept}
-use Rattle.image_checks.proofs.SubjectAt.{granted_to, pair_decided, read_at, subject_at}
+use Rattle.image_checks.proofs.SubjectAt.{granted_to, pair_decided, subject_at}
 use Rattle.image_checks.specs.Agree.{AreaAgrees, BitmapsAgree}
 use Rattle.image_checks.specs.Firsts.{Decides}
 use Rattle.image_pack.specs.declared.parts.Image.{Image}
 use Rattle.image_pack.specs.declared.parts.SubjectPart.{SubjectPart}
 use Rattle.image_soundness.specs.Memory.{bytes_at, page_at}
 use Rattle.image_soundness.specs.Sound.{HasArea, HasBitmaps, IsFresh}
-use Rattle.muen_num.proofs.Lists.{passes_at}
+use Rattle.muen_num.proofs.Lists.{passes_at, read_at}
 use Rattle.policy_lawful.proofs.KeptMsrs.{has_ranges, msrs_kept}
 use Rattle.policy_lawful.specs.MoreRules.{is_msr_range, msrs_apart, offence_11}
 use Rattle.policy_lawful.specs.Resolution.{Resolution, source_of, subject_named}
@@ -25,12 +25,12 @@ use Rattle.state_page.specs.States.{started}
 
 -- what is read at an index of the image's subjects
 part_at : (i j : Image) (qs : List SubjectPart) (k : ℕ) (q : SubjectPart) → j ≡ i → qs ≡ j.subjects → k < length qs → q ≡ get_or qs k q → slice_get i.subjects k ≡ Some q
-part_at i j qs k q same are l is = read_at qs i.subjects k q (are ∙ ap (λ (x : Image). x.subjects) same) l is
+part_at i j qs k q same are l is = read_at i.subjects qs k q (are ∙ ap (λ (x : Image). x.subjects) same) l is
 
 pub state_answer : (r : Resolution) (i j : Image) (ss : List ResolvedSubject) (qs : List SubjectPart) (k : ℕ) (s : ResolvedSubject) (q : SubjectPart) (b : Bool) → j ≡ i → ss ≡ r.subjects → qs ≡ j.subjects → k < length ss → k < length qs → s ≡ get_or ss k s → q ≡ get_or qs k q
     → Decides (page_at j q.state 0 ≡ page_bytes (started s.entry)) b → (d : Subject × SubjectPart) → Decides (IsFresh i (get_or (zip (source_of r).subjects i.subjects) k d).0 (get_or (zip (source_of r).subjects i.subjects) k d).1) b
 state_answer r i j ss qs k s q b same ss_are qs_are l m s_is q_is answer =
-    pair_decided r i.subjects k s q (λ e. IsFresh i e.0 e.1) (page_at i q.state 0 ≡ page_bytes (started s.entry)) b (read_at ss r.subjects k s ss_are l s_is) (part_at i j qs k q same qs_are m q_is) (λ h. h) (λ h. h)
+    pair_decided r i.subjects k s q (λ e. IsFresh i e.0 e.1) (page_at i q.state 0 ≡ page_bytes (started s.entry)) b (read_at r.subjects ss k s ss_are l s_is) (part_at i j qs k q same qs_are m q_is) (λ h. h) (λ h. h)
     (subst (λ x. Decides (page_at x q.state 0 ≡ page_bytes (started s.entry)) b) same answer)
 
 pub area_answer : (r : Resolution) (i j : Image) (gs : List Grants) (qs : List SubjectPart) (k : ℕ) (g : Grants) (q : SubjectPart) (b : Bool) → AreGrants r gs → j ≡ i → qs ≡ j.subjects → k < length gs → k < length qs → g ≡ get_or gs k g → q ≡ get_or qs k q

@@ -1,20 +1,19 @@
 -- A subject agrees with what the policy has at its index just where it is that of the policy.
-use Rattle.std.proofs.Common.{◌≡◌, ◌∙◌, refl, sym, ap, ap₂, subst, get_or, arith, ℕ, suc, ◌+◌, ◌<◌, Bool, true, false, cond, not, ◌||◌, List, [], ◌∷◌, length, map, Option, Some, None}
+use Rattle.std.proofs.Common.{◌≡◌, ◌∙◌, refl, sym, ap, ap₂, subst, get_or, arith, ℕ, ◌+◌, ◌<◌, Bool, true, List, [], ◌∷◌, length, map, Option, Some, None}
 use Rattle.std.specs.Prelude.{◌==◌, nat_lt, option_map, position, slice_get, slice_index_or}
-use Rattle.std.specs.List.{All, AllZip, count_by, enumerate_from, zip, list_all, list_any, position_or_len, sum_by}
+use Rattle.std.specs.List.{All, AllZip, count_by, enumerate_from, zip, list_any, position_or_len}
 use Rattle.std.specs.Str.{bytes_eq}
-use Rattle.std.proofs.lemmas.Bool.{and_parts, eqb-true, lt-ltb, ltb-true}
+use Rattle.std.proofs.lemmas.Bool.{eqb-true, ltb-true}
 use Rattle.std.proofs.lemmas.List.{get_or-map, get_or_default, length-map}
 use Rattle.std.proofs.lemmas.List.Elements.{All-cons, All-head, All-nil, All-tail}
-use Rattle.std.proofs.lemmas.List.Sums.{sum_by-cons}
 use Rattle.std.proofs.lemmas.Slice.Zip.{get_or-zip}
 use Rattle.std.proofs.lemmas.Option.{get_or_from_slice_get, same_Some, slice_get-map, slice_get_within}
 use Rattle.event_emit.specs.Tables.{AreTables, IsEntry, IsIrqTarget, IsTable, irq_named, part_raised}
 use Rattle.event_emit.specs.declared.event_tables.EventTables.{EventTables}
 use Rattle.expand_kernel.specs.Grants.{target_named}
 use Rattle.expand_kernel.proofs.Counted.{uncounted}
-use Rattle.image_checks.proofs.Equal.{decides_same}
 use Rattle.image_checks.proofs.Places.{at_place, holds_there, many_pairs, same_places}
+use Rattle.image_checks.proofs.Decided.{decided}
 use Rattle.image_checks.specs.Agreement.{IsFull, SubjectAgrees, subjects_of_both}
 use Rattle.image_checks.specs.Firsts.{Decides, HoldsAt}
 use Rattle.image_soundness.specs.Sound.{IsSubjectOf}
@@ -26,13 +25,15 @@ use Rattle.image_pack.specs.declared.parts.EventPart.{EventPart}
 use Rattle.image_pack.specs.declared.parts.Image.{Image}
 use Rattle.image_pack.specs.declared.parts.SubjectPart.{SubjectPart}
 use Rattle.muen_num.specs.declared.devices.IrqTarget.{IrqTarget}
-use Rattle.muen_num.proofs.Lists.{list_any-map, passes_at, position-map, there}
+use Rattle.muen_num.proofs.Lists.{any_same, list_any-map, passes_at, position-map, there}
+use Rattle.muen_num.proofs.Lookups.{index_same, position_there, some_passes}
 use Rattle.muen_num.specs.declared.limits.TheConstants.{MOST_CALLS}
 use Rattle.policy_lawful.proofs.Indexes.{position_is, same_name}
 use Rattle.policy_lawful.proofs.KeptMembers.{members_kept}
 use Rattle.policy_lawful.proofs.KeptRules.{rules_of}
 use Rattle.policy_lawful.proofs.SourceElements.{many_subjects, parts_in_range}
 use Rattle.policy_lawful.proofs.UniqueNames.{subject_names, subjects_unique}
+use Rattle.policy_lawful.proofs.WindowsByIndex.{name_of_subject}
 use Rattle.policy_lawful.specs.Events.{event_of}
 use Rattle.policy_lawful.specs.Frames.{group_of}
 use Rattle.policy_lawful.specs.Lawful.{IsLawful}
@@ -44,38 +45,6 @@ use Rattle.policy_lawful.specs.source.Group.{Group}
 use Rattle.policy_lawful.specs.source.SourceWay.{SourceWay}
 use Rattle.policy_lawful.specs.source.Subject.{Subject as SourceSubject}
 use Rattle.policy_lawful.specs.source.SourceWay.TheVariants.{Call, Trap}
-
--- ---- the first that passes
-
--- of two tests that agree on each element
-any_same : {X : Type 0} (p q ok : X → Bool) → ((x : X) → ok x ≡ true → p x ≡ q x) → (xs : List X) → list_all ok xs ≡ true → list_any p xs ≡ list_any q xs
-any_same p q ok same [] all = refl
-any_same p q ok same (x ∷ xs) all =
-    let parts = and_parts (ok x) (list_all ok xs) all in
-    ap (λ b. b || list_any p xs) (same x parts.0) ∙ ap (λ b. q x || b) (any_same p q ok same xs parts.1)
-
-index_same : {X : Type 0} (p q ok : X → Bool) → ((x : X) → ok x ≡ true → p x ≡ q x) → (xs : List X) → list_all ok xs ≡ true → position_or_len p xs ≡ position_or_len q xs
-index_same p q ok same [] all = refl
-index_same p q ok same (x ∷ xs) all =
-    let parts = and_parts (ok x) (list_all ok xs) all in
-    ap (λ b. cond (not b) (1 + position_or_len p xs) 0) (same x parts.0)
-    ∙ ap (λ n. cond (not (q x)) (1 + n) 0) (index_same p q ok same xs parts.1)
-
-position_there : {X : Type 0} (test : X → Bool) (xs : List X) → position_or_len test xs < length xs → position test xs ≡ Some (position_or_len test xs)
-position_there test xs l = ap (λ b. cond b (Some (position_or_len test xs)) None) (lt-ltb (position_or_len test xs) (length xs) l)
-
--- where what is summed is 0 but where the test passes
-some_passes : {X : Type 0} (test : X → Bool) (f : X → ℕ) → ((x : X) → test x ≡ false → f x ≡ 0) → (xs : List X) → 0 < sum_by f xs → position_or_len test xs < length xs
-some_passes test f none [] l = absurd (omega (arith, l))
-some_passes test f none (x ∷ xs) l =
-    let sum : sum_by f (x ∷ xs) ≡ f x + sum_by f xs = sum_by-cons f x xs in
-    elim (test x) as (λ b. test x ≡ b → cond (not b) (1 + position_or_len test xs) 0 < suc (length xs)) [
-      | true ↦ λ _. omega arith
-      | false ↦ λ e.
-          let zero : f x ≡ 0 = none x e in
-          let later : position_or_len test xs < length xs = some_passes test f none xs (omega (arith, l, sum, zero)) in
-          omega (arith, later)
-    ] refl
 
 -- ---- groups
 
@@ -89,10 +58,6 @@ lists_alike r k unique within g placed =
     ∙ any_same (λ i. bytes_eq (name_at names i) (name_at names k)) (λ i. i == k) (λ i. nat_lt i (length r.subjects))
     (λ i ok. let l : i < length r.subjects = ltb-true i (length r.subjects) ok in same_name names i k unique (omega (arith, l, many)) (omega (arith, within, many)))
     g.subjects placed
-
-name_of : (r : Resolution) (k : ℕ) (s : Subject) → slice_get r.subjects k ≡ Some s → name_at (subject_names r) k ≡ s.name
-name_of r k s at =
-    get_or-map (λ x. x.name) r.subjects k s [] (slice_get_within r.subjects k s at) ∙ ap (λ x. x.name) (get_or_from_slice_get r.subjects k s s at)
 
 -- the number of the first group that has the subject at an index
 abbrev pub group_with : Resolution → ℕ → Option ℕ
@@ -116,7 +81,7 @@ module _ (r : Resolution) (resolved : IsResolved r) where
       some_passes test (λ g. count_by (λ n. bytes_eq n s.name) g.subjects) (λ g. uncounted (λ n. bytes_eq n s.name) g.subjects) groups (omega (arith, once)) in
       let many : length groups ≡ length r.scheduling.groups = length-map r.scheduling.groups (group_named r) in
       let alike : (g : ResolvedGroup) → group_in_range r g ≡ true → test (group_named r g) ≡ has g = λ g ok.
-      ap (λ name. list_any (λ n. bytes_eq n name) (group_named r g).subjects) (sym (name_of r k s at)) ∙ lists_alike r k unique within g ok in
+      ap (λ name. list_any (λ n. bytes_eq n name) (group_named r g).subjects) (sym (name_of_subject r k s at)) ∙ lists_alike r k unique within g ok in
       let same : position_or_len test groups ≡ position_or_len has r.scheduling.groups =
       position-map test (group_named r) r.scheduling.groups
       ∙ index_same (λ g. test (group_named r g)) has (group_in_range r) alike r.scheduling.groups (parts_in_range r resolved.in_range).groups in
@@ -259,7 +224,7 @@ subject_told r resolved lawful tables parts are many full k low s t q at_s at_t 
     get_or-map (subject_named r) r.subjects k s (subject_named r s) l ∙ ap (subject_named r) (sym at_s) in
     let pair : get_or pairs k (subject_named r s, q) ≡ (subject_named r s, q) =
     get_or-zip (map (subject_named r) r.subjects) parts k (subject_named r s, q) (omega (arith, n, l)) low ∙ ap₂ (λ x y. (x, y)) left (sym at_q) in
-    decides_same (SubjectAgrees s (group_with r k) t q) (HoldsAt Holds pairs k) b
+    decided (SubjectAgrees s (group_with r k) t q) (HoldsAt Holds pairs k) b
     (λ h. holds_there Holds pairs k (subject_named r s, q) (omega (arith, in_pairs, low)) (subst Holds (sym pair) (subject_is r resolved lawful k s t q at here h)))
     (λ h. subject_agrees r resolved lawful k s t q at here all (subst Holds pair (h (subject_named r s, q))))
     d

@@ -1,8 +1,7 @@
 -- Which thing is the first without its span.
-use Rattle.std.proofs.Common.{◌≡◌, ℕ, zero, suc, ◌<◌, ◌≤◌, true, false, All, List, [], ◌∷◌, length, Option, Some, None, refl, sym, ap, subst, ◌∙◌, arith}
+use Rattle.std.proofs.Common.{◌≡◌, ℕ, zero, suc, ◌<◌, ◌≤◌, true, false, All, List, [], length, Option, Some, None, refl, sym, ap, subst, ◌∙◌, arith}
 use Rattle.std.specs.Prelude.{option_map, slice_get, slice_index_or}
 use Rattle.std.specs.Option.{option_map_or}
-use Rattle.std.specs.List.{AllZip}
 use Rattle.std.proofs.lemmas.Bool.{true≢false}
 use Rattle.std.proofs.lemmas.List.{length-map}
 use Rattle.std.proofs.lemmas.Option.{get_or_from_slice_get, none-some, slice_get-get_or, slice_get-map, slice_get_past, slice_get_within}
@@ -18,6 +17,8 @@ use Rattle.image_pack.specs.declared.parts.SpanPart.{SpanPart}
 use Rattle.image_soundness.specs.Memory.{Span}
 use Rattle.image_soundness.specs.Sound.{AreContents, IsSpanOf, thing_spans}
 use Rattle.muen_num.proofs.Lists.{there}
+use Rattle.muen_num.proofs.Options.{one_value}
+use Rattle.muen_num.proofs.Pairs.{zip_from}
 use Rattle.policy_lawful.specs.Contents.{Held}
 use Rattle.policy_lawful.specs.Resolution.{IsResolved, Resolution, source_of}
 use Rattle.policy_lawful.specs.Thing.{thing_tag, things_of}
@@ -25,19 +26,6 @@ use Rattle.policy_lawful.specs.Thing.{thing_tag, things_of}
 -- an element that is read
 pub got : {X : Type 0} (xs : List X) (k : ℕ) (x : X) → k < length xs → x ≡ slice_index_or xs k x → slice_get xs k ≡ Some x
 got xs k x l h = slice_get-get_or xs k x l ∙ ap (λ y. Some y) (sym h)
-
-abbrev or_this : {X : Type 0} → X → Option X → X
-or_this d None = d
-or_this d (Some x) = x
-
-pub one_of : {X : Type 0} (o : Option X) (x y : X) → o ≡ Some x → o ≡ Some y → x ≡ y
-one_of o x y a b = ap (or_this x) (sym a ∙ b)
-
-zip_from : {X Y : Type 0} (R : X → Y → Type 0) (xs : List X) (ys : List Y) → length xs ≡ length ys → ((k : ℕ) (x : X) (y : Y) → slice_get xs k ≡ Some x → slice_get ys k ≡ Some y → R x y) → AllZip R xs ys
-zip_from R [] [] e h = tt
-zip_from R [] (y ∷ ys) e h = absurd (omega (arith, e))
-zip_from R (x ∷ xs) [] e h = absurd (omega (arith, e))
-zip_from R (x ∷ xs) (y ∷ ys) e h = (h zero x y refl refl, zip_from R xs ys (omega (arith, e)) (λ k u v a b. h (suc k) u v a b))
 
 -- a span at an index of those that aren't the kernel's
 record IsSpanAt (i : Image) (k : ℕ) (e : Span) : Type 0 where
@@ -51,7 +39,7 @@ module _ (r : Resolution) (q : IsResolved r) (i : Image) (parts : IsParts i) (lo
   span_found k None e at h = absurd (cc)
   span_found k (Some index) e at h =
       let within : index < length i.spans = subst (λ n. n < length i.spans) (get_or_from_slice_get (thing_indexes i.spans) k index 0 at) (low k 0 (slice_get_within (thing_indexes i.spans) k index at)) in
-      let is = one_of (Some (span_of i.spans i.contents index)) (span_of i.spans i.contents index) e refl h in
+      let is = one_value (Some (span_of i.spans i.contents index)) (span_of i.spans i.contents index) e refl h in
       record {
         index = index;
         at = at;
@@ -147,8 +135,8 @@ module _ (r : Resolution) (q : IsResolved r) (i : Image) (parts : IsParts i) (lo
         zip_from (IsSpanOf (source_of r) files) (things_of (source_of r)) (thing_spans i) (omega (arith, many, few, as_many_spans, as_many_wanted r q)) (λ k x e a b.
         let within = slice_get_within (things_of (source_of r)) k x a in
         let h = has_span k (each k (omega (arith, within, as_many_wanted r q))) in
-        subst (λ y. IsSpanOf (source_of r) files y e) (one_of (slice_get (things_of (source_of r)) k) h.thing x h.is a)
-        (subst (λ y. IsSpanOf (source_of r) files h.thing y) (one_of (slice_get (thing_spans i) k) h.span e h.at b) h.of))
+        subst (λ y. IsSpanOf (source_of r) files y e) (one_value (slice_get (things_of (source_of r)) k) h.thing x h.is a)
+        (subst (λ y. IsSpanOf (source_of r) files h.thing y) (one_value (slice_get (thing_spans i) k) h.span e h.at b) h.of))
 
 -- ---- over what the code has
 
@@ -187,10 +175,10 @@ module _ (r : Resolution) (i : Image) (es : List ExpectedSpan) (found : List ℕ
 
     pub not_here : fits e (slice_get things k) s held ≡ false → FitsAt es things i k → ⊥
     not_here h f =
-        let same_e = one_of (slice_get es k) f.wanted e f.expects at_e in
-        let same_i = one_of (slice_get (thing_indexes i.spans) k) f.index index f.at at_found in
-        let same_s = one_of (slice_get i.spans index) f.span s (ap (slice_get i.spans) (sym same_i) ∙ f.is) at_span in
-        let same_h = one_of (slice_get i.contents index) f.held held (ap (slice_get i.contents) (sym same_i) ∙ f.holds) holds in
+        let same_e = one_value (slice_get es k) f.wanted e f.expects at_e in
+        let same_i = one_value (slice_get (thing_indexes i.spans) k) f.index index f.at at_found in
+        let same_s = one_value (slice_get i.spans index) f.span s (ap (slice_get i.spans) (sym same_i) ∙ f.is) at_span in
+        let same_h = one_value (slice_get i.contents index) f.held held (ap (slice_get i.contents) (sym same_i) ∙ f.holds) holds in
         true≢false (sym f.fit ∙ (λ j. fits (same_e j) (slice_get things k) (same_s j) (same_h j)) ∙ h)
 
   -- ---- over files with which the things have these bytes

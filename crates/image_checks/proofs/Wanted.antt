@@ -1,10 +1,10 @@
 -- What a policy says of the span of each thing, by number.
-use Rattle.std.proofs.Common.{◌≡◌, ℕ, zero, suc, ◌+◌, ◌-◌, ◌≤◌, false, List, [], ◌∷◌, ◌++◌, length, map, Option, Some, None, refl, sym, ap, subst, ◌∙◌, inl, inr, arith, length-append}
+use Rattle.std.proofs.Common.{◌≡◌, ℕ, ◌+◌, ◌-◌, ◌≤◌, false, List, ◌++◌, length, map, Option, Some, None, refl, sym, ap, subst, ◌∙◌, inl, inr, arith, length-append}
 use Rattle.std.specs.Prelude.{option_map, replicate, slice_get}
 use Rattle.std.specs.List.{AllZip, flat_map}
 use Rattle.std.proofs.lemmas.Bool.{cases_lt}
 use Rattle.std.proofs.lemmas.List.{length-map, map-append}
-use Rattle.std.proofs.lemmas.Option.{slice_get-map, slice_get_past}
+use Rattle.std.proofs.lemmas.Option.{same_Some, slice_get-map, slice_get_past}
 use Rattle.std.proofs.lemmas.Slice.Zip.{AllZip-long}
 use Rattle.image_checks.specs.Contents.{brought_spans, channel_span, device_spans, expected_of, memory_span_of, own_span, provided_span}
 use Rattle.image_checks.specs.declared.contents.ExpectedSpan.{ExpectedSpan}
@@ -12,7 +12,8 @@ use Rattle.proof_build.specs.Made.{thing_bytes}
 use Rattle.image_pack.specs.Codes.{is_device}
 use Rattle.image_pack.specs.declared.parts.SpanKind.TheVariants.{Device as DeviceSpan}
 use Rattle.image_soundness.specs.Sound.{kind_of}
-use Rattle.muen_num.proofs.Lists.{get_left, get_right, map-map}
+use Rattle.muen_num.proofs.Lists.{get_left, get_right, map-flat_map, map-map}
+use Rattle.muen_num.proofs.Pairs.{both_at}
 use Rattle.muen_num.specs.declared.tag.Tag.{Tag}
 use Rattle.muen_num.specs.declared.tag.TagPart.{TagPart}
 use Rattle.muen_num.specs.declared.tag.TagPart.TheVariants.{Named, Whole}
@@ -21,7 +22,7 @@ use Rattle.policy_lawful.specs.Contents.{Held, initial_bytes}
 use Rattle.policy_lawful.specs.Resolution.{IsResolved, Resolution, source_of}
 use Rattle.policy_lawful.specs.Thing.{Thing, channel, declared_size, provided, region, thing_tag, things_of}
 use Rattle.policy_lawful.specs.source.DeviceMemory.{DeviceMemory}
-use Rattle.proof_build.proofs.PiecesOfLists.{flat_map_at, map_pieces, zip_append, zip_map_both, zip_pieces}
+use Rattle.proof_build.proofs.PiecesOfLists.{flat_map_at, zip_append, zip_map_both, zip_pieces}
 use Rattle.proof_build.proofs.ThingBytes.{memory_bytes_are, memory_sizes_are, region_bytes_are, region_sizes_are}
 use Rattle.proof_build.proofs.ThingsInOrder.{memory_thing, memory_things, provided_things, region_things, things_are}
 use Rattle.proof_build.specs.Spans.{memories_of}
@@ -47,23 +48,10 @@ pub record IsWanted (r : Resolution) (files : Held) (x : Thing) (e : ExpectedSpa
 
 -- ---- lists at an index
 
-abbrev some_or : {X : Type 0} → X → Option X → X
-some_or d None = d
-some_or d (Some x) = x
-
-some_is : {X : Type 0} (x y : X) → Some x ≡ Some y → x ≡ y
-some_is x y h = ap (λ o. some_or x o) h
-
 -- of two maps that are equal
 same_at : {X Y Z : Type 0} (f : X → Z) (g : Y → Z) (xs : List X) (ys : List Y) → map f xs ≡ map g ys → (k : ℕ) (x : X) (y : Y) → slice_get xs k ≡ Some x → slice_get ys k ≡ Some y → f x ≡ g y
 same_at f g xs ys h k x y a b =
-    some_is (f x) (g y) (sym (slice_get-map f xs k ∙ ap (option_map f) a) ∙ ap (λ zs. slice_get zs k) h ∙ slice_get-map g ys k ∙ ap (option_map g) b)
-
-zip_at : {X Y : Type 0} (R : X → Y → Type 0) (xs : List X) (ys : List Y) → AllZip R xs ys → (k : ℕ) (x : X) (y : Y) → slice_get xs k ≡ Some x → slice_get ys k ≡ Some y → R x y
-zip_at R [] ys h k x y a b = absurd (cc)
-zip_at R (u ∷ xs) [] h k x y a b = absurd h
-zip_at R (u ∷ xs) (v ∷ ys) h zero x y a b = subst (λ w. R w y) (some_is u x a) (subst (λ w. R u w) (some_is v y b) h.0)
-zip_at R (u ∷ xs) (v ∷ ys) h (suc k) x y a b = zip_at R xs ys h.1 k x y a b
+    same_Some (f x) (g y) (sym (slice_get-map f xs k ∙ ap (option_map f) a) ∙ ap (λ zs. slice_get zs k) h ∙ slice_get-map g ys k ∙ ap (option_map g) b)
 
 -- ---- those of regions, and those of devices
 
@@ -87,7 +75,7 @@ module _ (r : Resolution) (q : IsResolved r) where
   unfolding expected_of
   expected_is =
       ap (λ es. regions_expected r ++ es)
-      (flat_same ∙ sym (map_pieces (λ (y : List ℕ × DeviceMemory). memory_span_of y.0 y.1) (λ d. map (λ m. (d.name, m)) d.memory) r.devices))
+      (flat_same ∙ sym (map-flat_map (λ (y : List ℕ × DeviceMemory). memory_span_of y.0 y.1) (λ d. map (λ m. (d.name, m)) d.memory) r.devices))
 
   named : AllZip IsNamed (region_things r) (regions_expected r)
   named =
@@ -104,7 +92,7 @@ module _ (r : Resolution) (q : IsResolved r) where
 
   sizes_brought : map size_of (flat_map (brought_spans r.components) r.subjects) ≡ flat_map (λ s. map (λ x. Some x.size) (provided_at r.components s.component)) r.subjects
   sizes_brought =
-      map_pieces size_of (brought_spans r.components) r.subjects
+      map-flat_map size_of (brought_spans r.components) r.subjects
       ∙ flat_map_at (λ s. map size_of (brought_spans r.components s)) (λ s. map (λ x. Some x.size) (provided_at r.components s.component)) r.subjects (λ k s at. map-map size_of (provided_span s.name) (provided_at r.components s.component))
 
   sizes_are : map size_of (regions_expected r) ≡ map (λ m. Some m.size) r.memory ++ map (λ c. Some c.size) r.channels ++ flat_map (λ s. map (λ x. Some x.size) (provided_at r.components s.component)) r.subjects
@@ -133,7 +121,7 @@ module _ (r : Resolution) (q : IsResolved r) where
 
     region_wanted : (k : ℕ) (x : Thing) (e : ExpectedSpan) → slice_get (region_things r) k ≡ Some x → slice_get (regions_expected r) k ≡ Some e → IsWanted r files x e (slice_get (thing_bytes files r) k)
     region_wanted k x e a b =
-        let is = zip_at IsNamed (region_things r) (regions_expected r) named k x e a b in
+        let is = both_at IsNamed (region_things r) (regions_expected r) k x e named a b in
         let held : slice_get (thing_bytes files r) k ≡ Some (initial x) = ap (λ zs. slice_get zs k) (region_bytes_are files r q) ∙ slice_get-map initial (region_things r) k ∙ ap (option_map initial) a in
         record {
           tag = is.tag;
@@ -160,7 +148,7 @@ module _ (r : Resolution) (q : IsResolved r) where
 
     memory_at : (k j : ℕ) (o : Option (List ℕ × DeviceMemory)) (x : Thing) (e : ExpectedSpan) → length (region_things r) ≤ k → slice_get (memories_of r.devices) j ≡ o → option_map memory_thing o ≡ Some x → option_map (λ (y : List ℕ × DeviceMemory). memory_span_of y.0 y.1) o ≡ Some e → IsWanted r files x e (slice_get (thing_bytes files r) k)
     memory_at k j None x e l at a b = absurd (cc)
-    memory_at k j (Some y) x e l at a b = memory_wanted k j y x e l at (some_is (memory_thing y) x a) (some_is (memory_span_of y.0 y.1) e b)
+    memory_at k j (Some y) x e l at a b = memory_wanted k j y x e l at (same_Some (memory_thing y) x a) (same_Some (memory_span_of y.0 y.1) e b)
 
     pub wanted_at : (k : ℕ) (x : Thing) (e : ExpectedSpan) → slice_get (things_of (source_of r)) k ≡ Some x → slice_get (expected_of r) k ≡ Some e → IsWanted r files x e (slice_get (thing_bytes files r) k)
     wanted_at k x e a b =

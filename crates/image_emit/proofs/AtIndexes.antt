@@ -1,10 +1,10 @@
--- What stands at an index of lists that are numbered and paired, and look-ups of numbers in turn.
+-- What stands at an index of a list that is numbered, and look-ups of numbers in turn.
 use Rattle.std.proofs.Common.{◌≡◌, ◌∙◌, refl, sym, ap, arith, ℕ, zero, suc, ◌+◌, ◌≤◌, List, [], ◌∷◌, ◌++◌, length, map, take, Option, Some}
 use Rattle.std.specs.Prelude.{slice_get}
-use Rattle.std.specs.List.{cons_option, enumerate_from, filter_map, zip}
+use Rattle.std.specs.List.{cons_option, enumerate_from, filter_map}
 use Rattle.std.proofs.Math.Seq.{take-length, take-suc}
 use Rattle.std.proofs.lemmas.List.{map-append}
-use Rattle.std.proofs.lemmas.Option.{get_or_from_slice_get, same_Some}
+use Rattle.std.proofs.lemmas.Option.{get_or_from_slice_get}
 use Rattle.muen_num.proofs.Lists.{there}
 use Rattle.muen_num.specs.Range.{numbers_below}
 
@@ -19,15 +19,6 @@ mapped_there f from (x ∷ xs) (suc j) y at =
     let n : from + suc j ≡ from + 1 + j = omega arith in
     let later = mapped_there f (from + 1) xs j y at in
     (later.0, later.1, ap (λ k. f (k, later.0)) n ∙ later.2)
-
--- and of two lists side by side
-pub zipped_there : {X Y : Type 0} (xs : List X) (ys : List Y) (j : ℕ) (z : X × Y) → slice_get (zip xs ys) j ≡ Some z → (slice_get xs j ≡ Some z.0) × (slice_get ys j ≡ Some z.1)
-zipped_there [] ys j z at = absurd (cc)
-zipped_there (x ∷ xs) [] j z at = absurd (cc)
-zipped_there {X} {Y} (x ∷ xs) (y ∷ ys) zero z at =
-    let same : (x, y) ≡ z = same_Some {A = X × Y} (x, y) z at in
-    (ap (λ (w : X × Y). Some w.0) same, ap (λ (w : X × Y). Some w.1) same)
-zipped_there (x ∷ xs) (y ∷ ys) (suc j) z at = zipped_there xs ys j z at
 
 -- ---- look-ups of numbers in turn
 

@@ -3,13 +3,14 @@ use Rattle.std.proofs.Common.{◌≡◌, ℕ, suc, ◌+◌, List, [], ◌∷◌,
 use Rattle.std.specs.Prelude.{slice_get}
 use Rattle.std.specs.List.{AllZip, enumerate_from, zip}
 use Rattle.std.proofs.lemmas.Slice.Zip.{AllZip-long}
+use Rattle.muen_num.proofs.Lists.{numbered_at}
+use Rattle.muen_num.proofs.Pairs.{both_at, other_at, zipped_at, zipped_both}
 use Rattle.event_emit.specs.Tables.{AreTables}
 use Rattle.event_emit.specs.declared.event_tables.EventTables.{EventTables}
 use Rattle.expand_kernel.specs.Grants.{AreGrantsOf}
 use Rattle.expand_kernel.specs.granted.Grants.{Grants}
 use Rattle.image_emit.specs.Made.{IsMade, Made, image_of, policy_of, subject_part, subject_parts}
-use Rattle.image_emit.proofs.AtIndexes.{mapped_there, zipped_there}
-use Rattle.image_emit.proofs.SpansAt.{at_number, zip_at}
+use Rattle.image_emit.proofs.AtIndexes.{mapped_there}
 use Rattle.image_soundness.proofs.SubjectsOfBoth.{for_each}
 use Rattle.image_soundness.specs.Sound.{ForEachSubject}
 use Rattle.image_pack.specs.declared.parts.SubjectPart.{SubjectPart}
@@ -18,7 +19,6 @@ use Rattle.policy_lawful.specs.declared.resolved.Subject.{Subject}
 use Rattle.policy_lawful.specs.source.Subject.{Subject as NamedSubject}
 use Rattle.subject_emit.specs.Pages.{ArePages}
 use Rattle.subject_emit.specs.declared.subject_pages.SubjectPages.{SubjectPages}
-use Rattle.subject_emit.proofs.Pieces.{both_at, other_at}
 
 -- ---- lists by index
 
@@ -55,7 +55,7 @@ at_index_there m h k s g t a b c =
     let ss = (policy_of m).subjects in
     let gs = m.placed.expanded.grants in
     let first : 0 + k ≡ k = omega arith in
-    let q = other_at (λ (e : ℕ × (Subject × Grants)) q. ArePages m.placed e.0 e.1.0 e.1.1 q) (enumerate_from 0 (zip ss gs)) m.pages k (0 + k, (s, g)) h.pages (at_number 0 (zip ss gs) k (s, g) (zip_at ss gs k s g a b)) in (
+    let q = other_at (λ (e : ℕ × (Subject × Grants)) q. ArePages m.placed e.0 e.1.0 e.1.1 q) (enumerate_from 0 (zip ss gs)) m.pages k (0 + k, (s, g)) h.pages (numbered_at 0 (zip ss gs) k (s, g) (zipped_at ss gs k s g a b)) in (
       q.0,
       record {
         subject = a;
@@ -100,8 +100,8 @@ subject_at m h k part at =
     let ss = (policy_of m).subjects in
     let gs = m.placed.expanded.grants in
     let all = mapped_there (subject_part m.placed) 0 (zip ss (zip gs m.events)) k part at in
-    let both = zipped_there ss (zip gs m.events) k all.0 all.1 in
-    let last = zipped_there gs m.events k all.0.1 both.1 in
+    let both = zipped_both ss (zip gs m.events) k all.0 all.1 in
+    let last = zipped_both gs m.events k all.0.1 both.1 in
     let found = at_index_there m h k all.0.0 all.0.1.0 all.0.1.1 both.0 last.0 last.1 in
     let first : 0 + k ≡ k = omega arith in
     record {

@@ -24,6 +24,8 @@ use Rattle.image_pack.specs.declared.parts.SpanPart.{SpanPart}
 use Rattle.image_pack.specs.declared.parts.WindowPart.{WindowPart}
 use Rattle.muen_num.proofs.NumbersBelow.{length_numbers, number_at}
 use Rattle.muen_num.proofs.Lists.{get_left, get_right, passes_at}
+use Rattle.muen_num.proofs.Options.{from_some}
+use Rattle.muen_num.proofs.Pairs.{zip_from}
 use Rattle.muen_num.specs.Naming.{is_name}
 use Rattle.muen_num.specs.Range.{numbers_below}
 use Rattle.muen_num.specs.declared.limits.TheConstants.{LAST_PORT, MOST_PER_DEVICE}
@@ -36,16 +38,8 @@ use Rattle.policy_lawful.specs.source.Irq.{Irq}
 use Rattle.policy_lawful.specs.source.Ports.{Ports}
 use Rattle.span_emit.specs.Spans.{device_span, memories_of}
 use Rattle.span_emit.specs.SpansOf.{spans_of}
-use Rattle.subject_emit.proofs.Pieces.{from_some}
 
 -- ---- lists
-
--- what holds of what stands at each index of two lists holds of the lists
-zip_from : {X Y : Type 0} (R : X → Y → Type 0) (xs : List X) (ys : List Y) → length xs ≡ length ys → ((k : ℕ) (x : X) (y : Y) → slice_get xs k ≡ Some x → slice_get ys k ≡ Some y → R x y) → AllZip R xs ys
-zip_from R [] [] l h = tt
-zip_from R [] (y ∷ ys) l h = absurd (omega (arith, l))
-zip_from R (x ∷ xs) [] l h = absurd (omega (arith, l))
-zip_from R (x ∷ xs) (y ∷ ys) l h = (h 0 x y refl refl, zip_from R xs ys (omega (arith, l)) (λ k a b p q. h (suc k) a b p q))
 
 -- and of one
 all_from_indexes : {X : Type 0} (P : X → Type 0) (xs : List X) → ((k : ℕ) (x : X) → slice_get xs k ≡ Some x → P x) → All P xs

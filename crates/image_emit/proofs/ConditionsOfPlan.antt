@@ -9,7 +9,7 @@ use Rattle.std.proofs.lemmas.List.Sorted.{Contains-permutation, length_permutati
 use Rattle.std.proofs.lemmas.List.Sums.{AllPass-from_list_all}
 use Rattle.std.proofs.lemmas.Option.{get_or_from_slice_get, slice_get_within}
 use Rattle.image_emit.proofs.PlanChoice.{first_index, is_memory, own_at}
-use Rattle.image_emit.proofs.PlanSubjects.{names_in_image, position_there}
+use Rattle.image_emit.proofs.PlanSubjects.{names_in_image}
 use Rattle.image_emit.proofs.SpansAt.{region_at}
 use Rattle.image_emit.specs.Made.{IsMade, Made, image_of, policy_of}
 use Rattle.image_pack.specs.Codes.{is_own}
@@ -22,6 +22,7 @@ use Rattle.image_pack.specs.plan.Plan.{Plan}
 use Rattle.event_emit.specs.Tables.{AreDevices}
 use Rattle.image_pack.specs.declared.parts.DevicePart.{DevicePart}
 use Rattle.muen_num.proofs.Lists.{there}
+use Rattle.muen_num.proofs.Lookups.{position_there}
 use Rattle.muen_num.specs.declared.limits.TheConstants.{MOST_CPUS, MOST_MAJOR_FRAMES, MOST_SUBJECTS}
 use Rattle.policy_lawful.proofs.KeptCpus.{cpus_kept}
 use Rattle.policy_lawful.proofs.KeptLimits.{limits_kept}
@@ -56,7 +57,7 @@ groups_many m h =
     let p = source_of (policy_of m) in
     sym (length-map m.plan.groups (λ g. g.cpu)) ∙ ap length h.plan.groups ∙ length-map p.scheduling.groups (λ g. g.cpu)
 
-devices_long : (r : Resolution) (first : ℕ) (ds : List Device) (qs : List DevicePart) → AreDevices r first ds qs → length qs ≡ length ds
+pub devices_long : (r : Resolution) (first : ℕ) (ds : List Device) (qs : List DevicePart) → AreDevices r first ds qs → length qs ≡ length ds
 unfolding AreDevices
 devices_long r first [] [] h = refl
 devices_long r first [] (q ∷ qs) h = absurd h

@@ -1,9 +1,8 @@
 -- The subjects of the image that is made keep the conditions of an image.
-use Rattle.std.proofs.Common.{◌≡◌, ◌∙◌, refl, sym, ap, subst, arith, ℕ, suc, ◌+◌, ◌*◌, ◌/◌, ◌%◌, ◌<◌, ◌≤◌, ◌^◌, Bool, true, List, [], ◌∷◌, length, Option, Some}
+use Rattle.std.proofs.Common.{◌≡◌, ◌∙◌, refl, sym, ap, subst, arith, ℕ, ◌+◌, ◌*◌, ◌/◌, ◌%◌, ◌<◌, ◌≤◌, ◌^◌, Bool, true, List, length, Option, Some}
 use Rattle.std.specs.Prelude.{◌==◌, ◌&&◌, nat_le, nat_lt, slice_get, slice_index}
 use Rattle.std.specs.List.{All, enumerate_from, list_all, zip}
 use Rattle.std.proofs.lemmas.Bool.{and_from, eq-eqb, lt-ltb, ltb-true}
-use Rattle.std.proofs.lemmas.List.Elements.{All-cons, All-nil}
 use Rattle.ept_emit.specs.Pages.{ept_pages}
 use Rattle.ept_emit.specs.Emitted.{eptp_of}
 use Rattle.ept_emit.specs.declared.window.GuestRange.{GuestRange}
@@ -14,19 +13,20 @@ use Rattle.expand_kernel.specs.ByIndex.{view_ranges}
 use Rattle.expand_kernel.specs.Regions.{anywhere, kernel_regions}
 use Rattle.expand_kernel.specs.declared.region.Region.{Region}
 use Rattle.expand_kernel.specs.declared.region.RegionKind.TheVariants.{Kernel}
-use Rattle.image_emit.proofs.AtIndexes.{mapped_there, zipped_there}
+use Rattle.image_emit.proofs.AtIndexes.{mapped_there}
 use Rattle.image_emit.proofs.ConditionsOfPlan.{subjects_many}
 use Rattle.image_emit.proofs.EventsKept.{table_kept}
 use Rattle.image_emit.proofs.GroupsKept.{first_here, group_there}
 use Rattle.image_emit.proofs.SpansOfKernel.{placed_of}
-use Rattle.image_emit.proofs.SpansAt.{at_number, region_at, some_span, zip_at}
+use Rattle.image_emit.proofs.SpansAt.{region_at, some_span}
 use Rattle.image_emit.specs.Made.{IsMade, Made, image_of, policy_of, subject_part, subject_parts}
 use Rattle.image_pack.specs.Codes.{part_code}
 use Rattle.image_pack.specs.Image.{is_eptp, is_kernel_span}
 use Rattle.image_pack.specs.ImageConditions.{AreEvents, IsSubject}
 use Rattle.image_pack.specs.declared.parts.EventPart.{EventPart}
 use Rattle.image_pack.specs.declared.parts.SubjectPart.{SubjectPart}
-use Rattle.muen_num.proofs.Lists.{passes_at}
+use Rattle.muen_num.proofs.Lists.{passes_at, each_numbered, numbered_at}
+use Rattle.muen_num.proofs.Pairs.{both_at, other_at, zipped_at, zipped_both}
 use Rattle.muen_num.specs.Naming.{is_name}
 use Rattle.muen_num.specs.declared.limits.TheConstants.{MOST_MSRS, PAGE, PHYSICAL_END}
 use Rattle.muen_num.specs.declared.tag.TagPart.TheVariants.{Iobm, Msrbm, Msrs, State}
@@ -39,21 +39,10 @@ use Rattle.policy_lawful.specs.source.SourceWay.TheVariants.{Call, Trap}
 use Rattle.span_emit.specs.Spans.{region_span}
 use Rattle.std.proofs.lemmas.List.Folds.{list_all-map}
 use Rattle.subject_emit.proofs.Numbered.{kernel_at_index}
-use Rattle.subject_emit.proofs.Pieces.{both_at, other_at}
 use Rattle.subject_emit.proofs.AddressesFit.{tables_there}
 use Rattle.subject_emit.specs.Mapped.{kernel_first}
 use Rattle.subject_emit.specs.Pages.{ArePages, tables_at}
 use Rattle.subject_emit.specs.declared.subject_pages.SubjectPages.{SubjectPages}
-
--- ---- lists
-
--- what holds at each index holds of each with its number
-pub all_with_numbers : {X : Type 0} (P : ℕ × X → Type 0) (from : ℕ) (xs : List X) → ((j : ℕ) (x : X) → slice_get xs j ≡ Some x → P (from + j, x)) → All P (enumerate_from from xs)
-all_with_numbers P from [] h = All-nil P
-all_with_numbers P from (x ∷ xs) h =
-    let here : from + 0 ≡ from = omega arith in
-    All-cons P (from, x) (enumerate_from (from + 1) xs) (subst (λ n. P (n, x)) here (h 0 x refl))
-    (all_with_numbers P (from + 1) xs (λ j y at. let n : from + suc j ≡ from + 1 + j = omega arith in subst (λ k. P (k, y)) n (h (suc j) y at)))
 
 -- ---- numbers
 
@@ -106,7 +95,7 @@ module _ (m : Made) (h : IsMade m) where
         let e : ℕ × (Subject × Grants) = (k, (s, g)) in
         let n : 0 + k ≡ k = omega arith in
         let here : slice_get (enumerate_from 0 both) k ≡ Some e =
-        at_number 0 both k (s, g) (zip_at (policy_of m).subjects m.placed.expanded.grants k s g at granted) ∙ ap (λ i. Some (i, (s, g))) n in
+        numbered_at 0 both k (s, g) (zipped_at (policy_of m).subjects m.placed.expanded.grants k s g at granted) ∙ ap (λ i. Some (i, (s, g))) n in
         let pages = other_at (λ (e : ℕ × (Subject × Grants)) (q : SubjectPages). ArePages m.placed e.0 e.1.0 e.1.1 q) (enumerate_from 0 both) m.pages k e h.pages here in
         pages.2.few
 
@@ -146,11 +135,11 @@ module _ (m : Made) (h : IsMade m) where
   subjects_kept =
       let r = policy_of m in
       let parts = zip r.subjects (zip m.placed.expanded.grants m.events) in
-      all_with_numbers (IsSubject (image_of m)) 0 (subject_parts m)
+      each_numbered (IsSubject (image_of m)) 0 (subject_parts m)
       (λ j q at.
       let there = mapped_there (subject_part m.placed) 0 parts j q at in
-      let both = zipped_there r.subjects (zip m.placed.expanded.grants m.events) j there.0 there.1 in
-      let last = zipped_there m.placed.expanded.grants m.events j there.0.1 both.1 in
+      let both = zipped_both r.subjects (zip m.placed.expanded.grants m.events) j there.0 there.1 in
+      let last = zipped_both m.placed.expanded.grants m.events j there.0.1 both.1 in
       let n : j ≡ 0 + j = omega arith in
       subst (λ (q : SubjectPart). IsSubject (image_of m) (0 + j, q)) there.2
       (subst (λ i. IsSubject (image_of m) (i, subject_part m.placed (i, there.0))) n (is_subject j there.0.0 there.0.1.0 there.0.1.1 both.0 last.0 last.1)))

@@ -1,43 +1,32 @@
 -- How many bytes each span has in the image.
-use Rattle.std.proofs.Common.{◌≡◌, ℕ, ◌*◌, ◌/◌, ◌%◌, ◌⊎◌, inl, inr, All, List, [], ◌∷◌, length, map, get_or, Some, false, refl, sym, ap, ◌∙◌, subst, arith}
+use Rattle.std.proofs.Common.{◌≡◌, ℕ, ◌*◌, ◌/◌, ◌%◌, ◌⊎◌, inl, inr, All, List, [], ◌∷◌, length, map, get_or, Some, sym, ap, ◌∙◌, subst, arith}
 use Rattle.std.specs.Prelude.{if◌then◌else◌, slice_get, unwrap_or}
 use Rattle.std.specs.List.{AllZip}
 use Rattle.std.proofs.lemmas.List.Elements.{All-head, All-tail}
 use Rattle.std.proofs.lemmas.List.Sorted.{All-permutation}
-use Rattle.std.proofs.lemmas.Option.{get_or_from_slice_get, slice_get-get_or, slice_get_past, slice_get_within, unwrap_or-slice_get}
+use Rattle.std.proofs.lemmas.Option.{slice_get-get_or, slice_get_past, unwrap_or-slice_get}
 use Rattle.image_pack.specs.Form.{IsBytes}
-use Rattle.expand_kernel.specs.declared.region.RegionKind.{RegionKind}
-use Rattle.expand_kernel.specs.declared.region.RegionKind.TheVariants.{Own, Channel, Provided, Kernel}
 use Rattle.image_emit.specs.Made.{IsMade, Made, content_at, policy_of, region_bytes}
 use Rattle.image_emit.proofs.RegionSizes.{bytes_many, bytes_sized}
 use Rattle.image_emit.proofs.NumberedSpans.{IsMemoryAt, IsRegionAt, span_is}
 use Rattle.image_pack.specs.Codes.{is_device}
 use Rattle.image_pack.specs.ImageConditions.{FillsSpan, IsContent}
 use Rattle.image_pack.specs.declared.parts.SpanPart.{SpanPart}
+use Rattle.muen_num.proofs.Lists.{all_at}
 use Rattle.muen_num.specs.declared.limits.TheConstants.{PAGE}
 use Rattle.policy_lawful.specs.Resolution.{source_of}
 use Rattle.policy_lawful.proofs.KeptRules.{rules_of}
-use Rattle.span_emit.specs.Spans.{span_kind}
 use Rattle.span_emit.specs.SpansOf.{spans_of}
 use Rattle.span_emit.proofs.KeptRegions.{IsWhole, regions_whole}
+use Rattle.span_emit.proofs.RegionSpans.{no_device}
 
 -- ---- regions are whole pages
 
 pub whole_regions : (m : Made) → IsMade m → All IsWhole m.placed.expanded.regions
 whole_regions m h = subst (All IsWhole) (sym h.expansion.regions) (regions_whole (source_of (policy_of m)) (rules_of h.lawful).rule_4)
 
-pub all_at : {X : Type 0} (P : X → Type 0) (xs : List X) (n : ℕ) (x : X) → All P xs → slice_get xs n ≡ Some x → P x
-all_at P xs n x all at = subst P (get_or_from_slice_get xs n x x at) (all n x (slice_get_within xs n x at))
-
 pub whole_size : (size : ℕ) → size % PAGE ≡ 0 → PAGE * (size / PAGE) ≡ size
 whole_size size h = omega (arith, h)
-
--- no region is a device's memory
-pub region_kind : (kind : RegionKind) → is_device (span_kind kind) ≡ false
-region_kind Own = refl
-region_kind Channel = refl
-region_kind Provided = refl
-region_kind Kernel = refl
 
 -- what holds of each and its image, and what holds of each image, holds of a list beside its images
 beside : {X Y : Type 0} (R : X → Y → Type 0) (Q : Y → Type 0) (f : X → Y) (xs : List X) → All (λ x. R x (f x)) xs → All Q (map f xs) → AllZip (λ x y. R x y × Q y) xs (map f xs)
@@ -53,7 +42,7 @@ module _ (m : Made) (h : IsMade m) where
       subst (λ s. FillsSpan s (content_at m s)) (sym a.is)
       (bytes_sized m h n a.region a.there
       ∙ sym size
-      ∙ ap (λ b. if b then 0 else PAGE * (a.region.size / PAGE)) (sym (region_kind a.region.kind)))
+      ∙ ap (λ b. if b then 0 else PAGE * (a.region.size / PAGE)) (sym (no_device a.region.kind)))
 
   of_memory : (n : ℕ) (s : SpanPart) → IsMemoryAt m n s → FillsSpan s (content_at m s)
   of_memory n s a =

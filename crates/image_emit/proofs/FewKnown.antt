@@ -3,7 +3,6 @@ use Rattle.std.proofs.Common.{◌≡◌, ◌∙◌, refl, sym, ap, arith, ℕ, s
 use Rattle.std.specs.Prelude.{slice_get}
 use Rattle.std.specs.List.{AllZip, list_all, sum_by}
 use Rattle.std.proofs.lemmas.Bool.{ltb-true, lt-ltb}
-use Rattle.std.proofs.lemmas.List.{length-map}
 use Rattle.std.proofs.lemmas.List.Folds.{list_all-map}
 use Rattle.std.proofs.lemmas.Slice.Zip.{AllZip-long}
 use Rattle.expand_kernel.specs.Grants.{AreGrantsOf}
@@ -11,8 +10,10 @@ use Rattle.expand_kernel.specs.granted.Grants.{Grants}
 use Rattle.image_emit.specs.Fitting.{AreFew}
 use Rattle.msrbm_emit.specs.Area.{count_of}
 use Rattle.muen_num.proofs.Lists.{each_from, there}
+use Rattle.muen_num.proofs.Pairs.{other_at}
 use Rattle.policy_lawful.proofs.KeptPlan.{PlanKept, plan_kept}
 use Rattle.policy_lawful.proofs.KeptRules.{rules_of}
+use Rattle.policy_lawful.proofs.SourceElements.{many_groups, many_subjects}
 use Rattle.policy_lawful.specs.Rules.{offence_20}
 use Rattle.policy_lawful.specs.Resolution.{Resolution, source_of, subject_named}
 use Rattle.policy_lawful.specs.declared.resolved.Subject.{Subject}
@@ -21,7 +22,6 @@ use Rattle.span_emit.proofs.KeptSums.{sums_kept, windows_length}
 use Rattle.span_emit.specs.Spans.{memories_of}
 use Rattle.subject_emit.proofs.KeptMsrs.{msrs_few}
 use Rattle.subject_emit.proofs.Numbered.{has_addresses}
-use Rattle.subject_emit.proofs.Pieces.{other_at}
 use Rattle.subject_emit.proofs.AddressesFit.{tables_there}
 use Rattle.subject_emit.specs.Pages.{tables_at}
 
@@ -40,14 +40,6 @@ cpus_small r k =
     each_from (λ s. nat_lt s.cpu r.processor.logical_cpus) (λ s. nat_lt s.cpu 8)
     (λ s low. let below = ltb-true s.cpu r.processor.logical_cpus low in let most = k.cpus.most in lt-ltb s.cpu 8 (omega (arith, below, most)))
     r.subjects (sym (list_all-map (λ s. nat_lt s.cpu r.processor.logical_cpus) (subject_named r) r.subjects) ∙ k.cpus.subjects)
-
-groups_many : (r : Resolution) → length (source_of r).scheduling.groups ≡ length r.scheduling.groups
-unfolding source_of
-groups_many r = length-map r.scheduling.groups _
-
-subjects_many : (r : Resolution) → length (source_of r).subjects ≡ length r.subjects
-unfolding source_of
-subjects_many r = length-map r.subjects (subject_named r)
 
 -- the tables of the subject at an index lie at a page, and end at a physical address that there is
 tables_placed : (x : Placement) → IsPlaced x → (n : ℕ) → n < length x.expanded.lawful.subjects → (tables_at x n % 4096 ≡ 0) × (tables_at x n ≤ 2 ^ 40)
@@ -69,8 +61,8 @@ are_few x k =
     let regions = ap length k.expansion.regions in
     let grants : length x.expanded.grants ≡ length r.subjects = AllZip-long (AreGrantsOf r) r.subjects x.expanded.grants k.expansion.grants in
     let as_many : length x.addresses ≡ length x.expanded.regions = AllZip-long _ x.expanded.regions x.addresses k.inside in
-    let groups = groups_many r in
-    let subjects = subjects_many r in
+    let groups = many_groups r in
+    let subjects = many_subjects r in
     let few_groups = plan.members.few in
     let most = plan.limits.most_subjects in
     record {

@@ -1,23 +1,25 @@
 -- The group of a subject of the image that is made is on the subject's CPU, and the one whose first member it is.
-use Rattle.std.proofs.Common.{◌≡◌, ◌∙◌, refl, sym, ap, subst, arith, ℕ, zero, suc, ◌+◌, ◌<◌, ◌≤◌, Bool, true, false, cond, not, ◌||◌, inl, inr, List, [], ◌∷◌, length, map, Option, Some, None}
+use Rattle.std.proofs.Common.{◌≡◌, ◌∙◌, refl, sym, ap, subst, arith, ℕ, suc, ◌+◌, ◌<◌, ◌≤◌, Bool, true, false, cond, not, ◌||◌, inl, inr, List, [], ◌∷◌, length, map, Option, Some, None}
 use Rattle.std.specs.Prelude.{◌==◌, nat_lt, option_map, slice_get}
-use Rattle.std.specs.List.{count_by, enumerate_from, list_all, list_any, position_or_len, sum_by}
+use Rattle.std.specs.List.{count_by, enumerate_from, list_all, list_any, position_or_len}
 use Rattle.std.specs.Option.{option_map_or}
 use Rattle.std.specs.Str.{bytes_eq}
 use Rattle.std.proofs.lemmas.Bool.{and_from, and_parts, cases_eq, eq-eqb, eqb-true, ltb-true, ne_eqb, or_cases, or_right}
 use Rattle.std.proofs.lemmas.List.Sums.{passes_at_first, sum_by-cons}
 use Rattle.std.proofs.lemmas.Option.{cond_some, get_or_from_slice_get, same_Some, slice_get-map, slice_get_within}
 use Rattle.std.proofs.lemmas.Slice.Eq.{bytes_eq-Decides}
-use Rattle.image_emit.proofs.PlanSubjects.{in_group, name_of}
+use Rattle.image_emit.proofs.PlanSubjects.{in_group}
 use Rattle.image_emit.specs.Made.{IsMade, Made, group_at, policy_of}
 use Rattle.image_pack.specs.Image.{is_first_here}
 use Rattle.image_pack.specs.Plan.{is_group_on}
 use Rattle.image_pack.specs.plan.GroupPart.{GroupPart}
 use Rattle.muen_num.proofs.Lists.{passes_at, there}
+use Rattle.muen_num.proofs.Lookups.{only_index, same_self}
 use Rattle.policy_lawful.proofs.KeptMembers.{members_kept}
-use Rattle.policy_lawful.proofs.Indexes.{found_at_index, same_self}
+use Rattle.policy_lawful.proofs.Indexes.{found_at_index}
 use Rattle.policy_lawful.proofs.KeptRules.{rules_of}
 use Rattle.policy_lawful.proofs.UniqueNames.{names_of_subjects, subject_names, unique}
+use Rattle.policy_lawful.proofs.WindowsByIndex.{name_of_subject}
 use Rattle.policy_lawful.specs.Resolution.{name_at, source_of, subject_named}
 use Rattle.policy_lawful.specs.Rules.{is_group, is_on, subject_cpu, times_listed}
 use Rattle.policy_lawful.specs.declared.resolved.Subject.{Subject}
@@ -27,34 +29,6 @@ use Rattle.policy_lawful.specs.source.Source.{Source}
 use Rattle.policy_lawful.specs.source.Subject.{Subject as SourceSubject}
 
 -- ---- lists
-
--- where what is summed is at least 1 wherever the test passes, and at most 1 in all, only one element passes
-only_index : {X : Type 0} (test : X → Bool) (f : X → ℕ) → ((x : X) → test x ≡ true → 1 ≤ f x) → (xs : List X) (j : ℕ) (x : X) → sum_by f xs ≤ 1 → slice_get xs j ≡ Some x → test x ≡ true → position_or_len test xs ≡ j
-only_index test f counts [] j x few at passes = absurd (cc)
-only_index test f counts (y ∷ ys) zero x few at passes =
-    let same : y ≡ x = cc in
-    ap (λ b. cond (not b) (1 + position_or_len test ys) 0) (ap test same ∙ passes)
-only_index {X} test f counts (y ∷ ys) (suc j) x few at passes =
-    let sum : sum_by f (y ∷ ys) ≡ f y + sum_by f ys = sum_by-cons f y ys in
-    let fewer : sum_by f ys ≤ 1 = omega (arith, sum, few) in
-    let later : position_or_len test ys ≡ j = only_index test f counts ys j x fewer at passes in
-    let some : 1 ≤ sum_by f ys = at_least test f counts ys j x at passes in
-    elim (test y) as (λ b. test y ≡ b → cond (not b) (1 + position_or_len test ys) 0 ≡ suc j) [
-      | true ↦ λ e. let here : 1 ≤ f y = counts y e in absurd (omega (arith, here, some, sum, few))
-      | false ↦ λ _. omega (arith, later)
-    ] refl
-  where
-    at_least : {X : Type 0} (test : X → Bool) (f : X → ℕ) → ((x : X) → test x ≡ true → 1 ≤ f x) → (xs : List X) (j : ℕ) (x : X) → slice_get xs j ≡ Some x → test x ≡ true → 1 ≤ sum_by f xs
-    at_least test f counts [] j x at passes = absurd (cc)
-    at_least test f counts (y ∷ ys) zero x at passes =
-        let same : y ≡ x = cc in
-        let here : 1 ≤ f y = counts y (ap test same ∙ passes) in
-        let sum : sum_by f (y ∷ ys) ≡ f y + sum_by f ys = sum_by-cons f y ys in
-        omega (arith, here, sum)
-    at_least test f counts (y ∷ ys) (suc j) x at passes =
-        let later : 1 ≤ sum_by f ys = at_least test f counts ys j x at passes in
-        let sum : sum_by f (y ∷ ys) ≡ f y + sum_by f ys = sum_by-cons f y ys in
-        omega (arith, later, sum)
 
 -- where some element passes, at least one is counted
 counted : {X : Type 0} (test : X → Bool) (xs : List X) → list_any test xs ≡ true → 1 ≤ count_by test xs
@@ -140,7 +114,7 @@ module _ (m : Made) (h : IsMade m) (k : ℕ) (s : Subject) (at : slice_get (poli
       let r = policy_of m in
       let names = map (λ (x : SourceSubject). x.name) p.subjects in
       let same : names ≡ subject_names r = names_of_subjects r in
-      let name : name_at names k ≡ s.name = ap (λ ns. name_at ns k) same ∙ name_of r k s at in
+      let name : name_at names k ≡ s.name = ap (λ ns. name_at ns k) same ∙ name_of_subject r k s at in
       ap (subject_cpu p) (sym name)
       ∙ ap (option_map (λ (x : SourceSubject). x.cpu))
       (found_at_index (λ (x : SourceSubject). x.name) p.subjects k (unique p h.resolved.names).subjects (slice_get_within p.subjects k (subject_named r s) source_at) ∙ source_at)
@@ -186,7 +160,7 @@ module _ (m : Made) (h : IsMade m) (k : ℕ) (s : Subject) (at : slice_get (poli
       let p = source_of (policy_of m) in
       let names = map (λ (x : SourceSubject). x.name) p.subjects in
       let same : names ≡ subject_names (policy_of m) = names_of_subjects (policy_of m) in
-      let name : name_at names k ≡ s.name = ap (λ ns. name_at ns k) same ∙ name_of (policy_of m) k s at in
+      let name : name_at names k ≡ s.name = ap (λ ns. name_at ns k) same ∙ name_of_subject (policy_of m) k s at in
       let both : option_map (λ (g : Group). first_member g.subjects) (slice_get groups j) ≡ Some (name_at names q.first) =
       sym (same_at (λ (q : GroupPart). name_at names q.first) (λ (g : Group). first_member g.subjects) m.plan.groups groups h.plan.firsts j)
       ∙ ap (option_map (λ (q : GroupPart). name_at names q.first)) there in

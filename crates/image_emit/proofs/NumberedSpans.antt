@@ -6,10 +6,11 @@ use Rattle.std.proofs.lemmas.Bool.{cases_lt}
 use Rattle.std.proofs.lemmas.Option.{get_or_from_slice_get}
 use Rattle.expand_kernel.specs.declared.region.Region.{Region}
 use Rattle.image_emit.specs.Made.{IsMade, Made, policy_of}
-use Rattle.image_emit.proofs.AtIndexes.{mapped_there, zipped_there}
+use Rattle.image_emit.proofs.AtIndexes.{mapped_there}
 use Rattle.image_emit.proofs.ByNumber.{region_spans_length}
 use Rattle.image_pack.specs.declared.parts.SpanPart.{SpanPart}
 use Rattle.muen_num.proofs.Lists.{get_left, get_right}
+use Rattle.muen_num.proofs.Pairs.{zipped_both}
 use Rattle.policy_lawful.specs.source.DeviceMemory.{DeviceMemory}
 use Rattle.span_emit.specs.Spans.{device_span, device_spans, memories_of, region_span, region_spans}
 use Rattle.span_emit.specs.SpansOf.{spans_of}
@@ -39,7 +40,7 @@ span_is m h n s at =
     elim (cases_lt n (length front)) [
       | inl low ↦
           let found = mapped_there region_span 0 (zip regions addresses) n s (sym (get_left front back n low) ∙ at) in
-          let both = zipped_there regions addresses n found.0 found.1 in
+          let both = zipped_both regions addresses n found.0 found.1 in
           let number : 0 + n ≡ n = omega arith in
           let address : slice_index addresses n ≡ found.0.1 = get_or_from_slice_get addresses n found.0.1 0 both.1 in
           inl (record {

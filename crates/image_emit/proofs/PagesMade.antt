@@ -5,10 +5,11 @@ use Rattle.std.specs.List.{AllZip, enumerate_from}
 use Rattle.std.proofs.lemmas.Option.{get_or_from_slice_get, slice_get-get_or, slice_get_within}
 use Rattle.std.proofs.lemmas.List.{take_all}
 use Rattle.std.proofs.lemmas.List.FromFn.{length-enumerate_from}
+use Rattle.muen_num.proofs.Lists.{numbered_at}
+use Rattle.muen_num.proofs.Pairs.{zipped_at}
 use Rattle.image_emit.proofs.ByNumber.{zip_length}
 use Rattle.expand_kernel.proofs.LawfulSubjects.{zip_more}
 use Rattle.expand_kernel.specs.granted.Grants.{Grants}
-use Rattle.image_emit.proofs.SpansAt.{at_number, zip_at}
 use Rattle.policy_lawful.specs.declared.resolved.Subject.{Subject}
 use Rattle.region_alloc.specs.Placed.{Placement}
 use Rattle.subject_emit.specs.Pages.{ArePages}
@@ -24,7 +25,7 @@ pub one_more : (x : Placement) (n : ℕ) (s : Subject) (g : Grants) (q : Subject
 one_more x n s g q all more at given h here pushed =
     let es : List (ℕ × (Subject × Grants)) = enumerate_from 0 (zip x.expanded.lawful.subjects x.expanded.grants) in
     let zero : 0 + n ≡ n = omega arith in
-    let is : slice_get es n ≡ Some (n, (s, g)) = at_number 0 (zip x.expanded.lawful.subjects x.expanded.grants) n (s, g) (zip_at x.expanded.lawful.subjects x.expanded.grants n s g at given) ∙ ap (λ k. Some (k, (s, g))) zero in
+    let is : slice_get es n ≡ Some (n, (s, g)) = numbered_at 0 (zip x.expanded.lawful.subjects x.expanded.grants) n (s, g) (zipped_at x.expanded.lawful.subjects x.expanded.grants n s g at given) ∙ ap (λ k. Some (k, (s, g))) zero in
     zip_more (λ (e : ℕ × (Subject × Grants)) (p : SubjectPages). ArePages x e.0 e.1.0 e.1.1 p) es es n (n, (s, g)) all more q refl (slice_get_within es n (n, (s, g)) is)
     (sym (get_or_from_slice_get es n (n, (s, g)) (n, (s, g)) is)) h here pushed
 

@@ -3,7 +3,7 @@ use Rattle.std.proofs.Common.{◌≡◌, ◌∙◌, refl, sym, ap, ap₂, subst,
 use Rattle.std.specs.List.{enumerate_from}
 use Rattle.std.proofs.lemmas.Bool.{leb-true, ltb-true}
 use Rattle.std.proofs.lemmas.List.Sums.{AllPass-from_list_all}
-use Rattle.image_pack.proofs.Loops.{drop_more}
+use Rattle.muen_num.proofs.Lists.{drop_more}
 use Rattle.event_emit.specs.declared.event_tables.EventTables.{EventTables}
 use Rattle.expand_kernel.specs.granted.Grants.{Grants}
 use Rattle.image_emit.specs.Fitting.{AreFew}
@@ -17,9 +17,6 @@ use Rattle.region_alloc.specs.Placed.{Placement}
 pub none_made : (x : Placement) (events : List EventTables) → IsParting x events events []
 none_made x events = record { whole = refl; many = omega arith }
 
-drop_next : {A : Type 0} (xs : List A) (n : ℕ) (x : A) → n < length xs → x ≡ get_or xs n x → drop n xs ≡ x ∷ drop (n + 1) xs
-drop_next xs n x l is = drop_more xs n x l is
-
 -- one more subject is made
 pub one_made : (x : Placement) (events left : List EventTables) (parts more : List SubjectPart) (t : EventTables) (s : Subject) (g : Grants)
     → length parts < length x.expanded.lawful.subjects → length parts < length x.expanded.grants → s ≡ get_or x.expanded.lawful.subjects (length parts) s → g ≡ get_or x.expanded.grants (length parts) g
@@ -27,8 +24,8 @@ pub one_made : (x : Placement) (events left : List EventTables) (parts more : Li
 one_made x events left parts more t s g ls lg is ig pushed h =
     let n = length parts in
     let next : length more ≡ n + 1 = ap length pushed ∙ length-append parts (subject_part x (n, (s, (g, t))) ∷ []) in
-    let ss : drop n x.expanded.lawful.subjects ≡ s ∷ drop (n + 1) x.expanded.lawful.subjects = drop_next x.expanded.lawful.subjects n s ls is in
-    let gs : drop n x.expanded.grants ≡ g ∷ drop (n + 1) x.expanded.grants = drop_next x.expanded.grants n g lg ig in
+    let ss : drop n x.expanded.lawful.subjects ≡ s ∷ drop (n + 1) x.expanded.lawful.subjects = drop_more x.expanded.lawful.subjects n s ls is in
+    let gs : drop n x.expanded.grants ≡ g ∷ drop (n + 1) x.expanded.grants = drop_more x.expanded.grants n g lg ig in
     let from : parts_from x n (t ∷ left) ≡ subject_part x (n, (s, (g, t))) ∷ parts_from x (n + 1) left =
     ap₂ (λ (us : List Subject) (vs : List Grants). map (subject_part x) (enumerate_from n (zip us (zip vs (t ∷ left))))) ss gs in
     record {

@@ -8,11 +8,11 @@ use Rattle.std.proofs.lemmas.Option.{get_or_from_slice_get, slice_get-map, slice
 use Rattle.std.proofs.lemmas.Slice.Eq.{bytes_eq-Decides}
 use Rattle.expand_kernel.specs.Regions.{kernel_regions_of, regions_of}
 use Rattle.image_emit.proofs.ByNumber.{span_numbered}
-use Rattle.image_emit.proofs.PlanSubjects.{position_there}
 use Rattle.image_emit.proofs.SpansAt.{region_at}
 use Rattle.image_emit.specs.Made.{IsMade, Made, image_of, policy_of}
 use Rattle.image_soundness.specs.Named.{tag_at}
-use Rattle.muen_num.proofs.Lists.{get_left, there}
+use Rattle.muen_num.proofs.Lists.{any_first, get_left, there}
+use Rattle.muen_num.proofs.Lookups.{position_there}
 use Rattle.muen_num.proofs.SearchLaws.{none_both, unless_none}
 use Rattle.muen_num.specs.Search.{first_in}
 use Rattle.policy_lawful.specs.Offences.{two}
@@ -34,15 +34,6 @@ first_index test (x ∷ xs) h =
     elim (test x) as (λ b. (b || list_any test xs) ≡ true → cond (not b) (1 + position_or_len test xs) 0 < suc (length xs)) [
       | true ↦ λ _. omega arith
       | false ↦ λ k. let later : position_or_len test xs < length xs = first_index test xs k in omega (arith, later)
-    ] h
-
--- some element passes the first of two tests, where some passes both
-any_first : {X : Type 0} (p q : X → Bool) (xs : List X) → list_any (λ x. p x && q x) xs ≡ true → list_any p xs ≡ true
-any_first p q [] h = absurd (cc)
-any_first p q (x ∷ xs) h =
-    elim (p x) as (λ b. ((b && q x) || list_any (λ y. p y && q y) xs) ≡ true → (b || list_any p xs) ≡ true) [
-      | true ↦ λ _. refl
-      | false ↦ λ k. any_first p q xs k
     ] h
 
 -- rule 16: the region is one of memory

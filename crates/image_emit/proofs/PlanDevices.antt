@@ -8,7 +8,6 @@ use Rattle.event_emit.specs.Tables.{AreDevices, IsDevice, IsIrq}
 use Rattle.image_emit.proofs.AtIndexes.{looked_up, none_missing}
 use Rattle.image_emit.proofs.ByNumber.{region_spans_length, span_numbered}
 use Rattle.image_emit.proofs.PlanSubjects.{same_reached}
-use Rattle.image_emit.proofs.SpansAt.{at_number}
 use Rattle.image_emit.specs.Made.{IsMade, Made, content_at, image_of, policy_of}
 use Rattle.image_soundness.specs.Memory.{span_at}
 use Rattle.image_soundness.specs.Named.{bench_device, tag_at, window_memory}
@@ -19,7 +18,7 @@ use Rattle.image_pack.specs.declared.parts.DevicePart.{DevicePart}
 use Rattle.image_pack.specs.declared.parts.Image.{Image}
 use Rattle.image_pack.specs.declared.parts.IrqPart.{IrqPart}
 use Rattle.image_pack.specs.declared.parts.WindowPart.{WindowPart}
-use Rattle.muen_num.proofs.Lists.{get_left, get_right, map-map}
+use Rattle.muen_num.proofs.Lists.{get_left, get_right, map-map, numbered_at}
 use Rattle.muen_num.specs.Range.{numbers_below}
 use Rattle.muen_num.specs.declared.limits.TheConstants.{PAGE}
 use Rattle.policy_lawful.specs.Resolution.{Resolution, source_of}
@@ -50,7 +49,7 @@ HasMemories i first xs = (k : ℕ) (x : List ℕ × DeviceMemory) → slice_get 
 abbrev named_memory : SourceDevice → List (List ℕ × DeviceMemory)
 named_memory d = map (λ m. (d.name, m)) d.memory
 
-kept_memories : (m : Made) → IsMade m → All (λ x. IsPhysical x.1) (memories_of (policy_of m).devices)
+pub kept_memories : (m : Made) → IsMade m → All (λ x. IsPhysical x.1) (memories_of (policy_of m).devices)
 unfolding source_of
 kept_memories m h = devices_physical (source_of (policy_of m)) (rules_of h.lawful).rule_4
 
@@ -67,7 +66,7 @@ memory_there m h k x at =
     ap (λ n. slice_get (front ++ back) (n + k)) (sym many)
     ∙ get_right front back k
     ∙ slice_get-map device_span (enumerate_from first (memories_of devices)) k
-    ∙ ap (option_map device_span) (at_number first (memories_of devices) k x at)
+    ∙ ap (option_map device_span) (numbered_at first (memories_of devices) k x at)
 
 -- the image has it
 has_memories : (m : Made) → IsMade m → HasMemories (image_of m) (length m.placed.expanded.regions) (memories_of (policy_of m).devices)

@@ -1,60 +1,38 @@
 -- The bytes of the regions of an image, by number, are as many as the regions' sizes say.
-use Rattle.std.proofs.Common.{◌≡◌, ℕ, zero, suc, ◌+◌, ◌-◌, ◌*◌, ◌≤◌, List, [], ◌∷◌, ◌++◌, length, map, get_or, take, refl, sym, ap, ap₂, ◌∙◌, arith, length-append, Some}
+use Rattle.std.proofs.Common.{◌≡◌, ℕ, zero, suc, ◌+◌, ◌-◌, ◌*◌, List, [], ◌∷◌, ◌++◌, length, map, get_or, take, refl, sym, ap, ◌∙◌, arith, length-append, Some}
 use Rattle.std.proofs.Math.Seq.{take-append_seam}
-use Rattle.std.specs.Prelude.{option_map, replicate, slice_get}
+use Rattle.std.specs.Prelude.{option_map, slice_get}
 use Rattle.std.specs.List.{AllZip, enumerate_from, flat_map, zip}
-use Rattle.std.proofs.lemmas.List.{length-map, length-replicate, map-append, take_all}
-use Rattle.std.proofs.lemmas.List.Sums.{sum_by-cons}
+use Rattle.std.proofs.lemmas.List.{length-map, map-append, take_all}
 use Rattle.std.proofs.lemmas.Option.{get_or_from_slice_get, slice_get-map}
 use Rattle.ept_emit.specs.Pages.{ept_pages}
 use Rattle.expand_kernel.specs.granted.Grants.{Grants}
-use Rattle.expand_kernel.specs.ByIndex.{brought_at, channel_region, kernel_for, kernel_for_each, own_region, provided_region, view_ranges}
+use Rattle.expand_kernel.specs.ByIndex.{brought_at, channel_region, kernel_for, kernel_for_each, own_region, view_ranges}
 use Rattle.policy_lawful.specs.ByIndex.{provided_at}
 use Rattle.expand_kernel.specs.declared.region.Region.{Region}
 use Rattle.expand_kernel.proofs.Numbering.{regions_by_index}
+use Rattle.image_emit.proofs.SpansOfKernel.{padded_length}
 use Rattle.image_emit.specs.Made.{IsMade, Made, kernel_bytes, policy_of, region_bytes}
 use Rattle.image_soundness.specs.Exits.{area_bytes}
-use Rattle.msrbm_emit.specs.Area.{area_of, count_of, entries_of, entry_of, size_of}
-use Rattle.msrbm_emit.proofs.AreaLaws.{length-area}
-use Rattle.muen_num.specs.Range.{numbers_below}
+use Rattle.msrbm_emit.specs.Area.{area_of}
+use Rattle.machine_layout.proofs.AreaLaws.{length-area}
+use Rattle.msrbm_emit.proofs.AreaLaws.{length-area_of}
 use Rattle.muen_num.specs.declared.limits.TheConstants.{PAGE}
-use Rattle.image_soundness.specs.PageFields.{padded}
 use Rattle.policy_lawful.specs.declared.resolved.Subject.{Subject}
-use Rattle.policy_lawful.specs.resources.MsrGrant.{MsrGrant}
-use Rattle.policy_lawful.specs.source.Component.{Component}
 use Rattle.region_alloc.specs.Placed.{Placement}
 use Rattle.image_soundness.specs.StatePage.{page_bytes}
 use Rattle.subject_emit.specs.Mapped.{kernel_first}
 use Rattle.subject_emit.specs.Pages.{ArePages}
 use Rattle.subject_emit.specs.declared.subject_pages.SubjectPages.{SubjectPages}
+use Rattle.subject_emit.proofs.Numbered.{as_many}
 use Rattle.subject_emit.proofs.SamePages.{pages_same}
 use Rattle.image_soundness.specs.States.{started}
 
 -- ---- pages of the kernel
 
-length-padded : (size : ℕ) (front : List ℕ) → length front ≤ size → length (padded size front) ≡ size
-unfolding padded
-length-padded size front few =
-    length-append front (replicate (size - length front) 0)
-    ∙ ap (λ n. length front + n) (length-replicate (size - length front) 0)
-    ∙ omega (arith, few)
-
-length-page : (entry : ℕ) → length (page_bytes (started entry)) ≡ PAGE
+pub length-page : (entry : ℕ) → length (page_bytes (started entry)) ≡ PAGE
 unfolding page_bytes started
-length-page entry = length-padded PAGE _ (omega arith)
-
-length-numbers_below : (n : ℕ) → length (numbers_below n) ≡ n
-length-numbers_below zero = refl
-length-numbers_below (suc n) = length-append (numbers_below n) (n ∷ []) ∙ omega (arith, length-numbers_below n)
-
-length-entries_of : (m : MsrGrant) → length (entries_of m) ≡ size_of m
-unfolding entries_of
-length-entries_of m = length-map (numbers_below (size_of m)) (λ k. entry_of (m.start + k)) ∙ length-numbers_below (size_of m)
-
-length-area_of : (msrs : List MsrGrant) → length (area_of msrs) ≡ count_of msrs
-unfolding area_of count_of
-length-area_of [] = refl
-length-area_of (m ∷ msrs) = length-append (entries_of m) (area_of msrs) ∙ (ap₂ (λ a b. a + b) (length-entries_of m) (length-area_of msrs) ∙ sym (sum_by-cons size_of m msrs))
+length-page entry = padded_length PAGE _ (omega arith)
 
 -- the kernel's pages for each subject have the sizes of its regions
 kernel_sizes : (x : Placement) (n : ℕ) (es : List (Subject × Grants)) (qs : List SubjectPages) → AllZip (λ (e : ℕ × (Subject × Grants)) q. ArePages x e.0 e.1.0 e.1.1 q) (enumerate_from n es) qs
@@ -67,22 +45,11 @@ kernel_sizes x n (e ∷ es) (q ∷ qs) h =
     let state : length q.state ≡ PAGE = ap length p.state ∙ length-page e.0.entry in
     let tables : length q.tables ≡ ept_pages (view_ranges e.1.views) * PAGE = p.tables.len ∙ ap (λ k. PAGE * k) (pages_same x n e.1) ∙ omega arith in
     let entries = area_of e.1.msrs in
-    let area : length q.area ≡ PAGE = ap length p.area ∙ length-padded PAGE (area_bytes entries) (omega (arith, length-area entries, length-area_of e.1.msrs, p.few)) in
+    let area : length q.area ≡ PAGE = ap length p.area ∙ padded_length PAGE (area_bytes entries) (omega (arith, length-area entries, length-area_of e.1.msrs, p.few)) in
     let rest = kernel_sizes x (n + 1) es qs h.1 in
     λ i. state i ∷ tables i ∷ p.ports_len i ∷ p.msrs_len i ∷ area i ∷ rest i
 
 -- ---- the regions that aren't the kernel's
-
-as_many : (cs : List Component) (ss : List Subject) → length (flat_map (brought_at cs) ss) ≡ length (flat_map (λ s. provided_at cs s.component) ss)
-unfolding brought_at
-as_many cs [] = refl
-as_many cs (s ∷ ss) =
-    let own = provided_at cs s.component in
-    let here = length-map own (provided_region s.name) in
-    let rest = as_many cs ss in
-    length-append (map (provided_region s.name) own) (flat_map (brought_at cs) ss)
-    ∙ (λ i. here i + rest i)
-    ∙ sym (length-append own (flat_map (λ s. provided_at cs s.component) ss))
 
 -- by number: memory, channels, what components bring along
 abbrev pub first_regions : Made → List Region

@@ -3,9 +3,8 @@ use Rattle.std.proofs.Common.{◌≡◌, ℕ, ◌+◌, ◌<◌, ◌^◌, Bool, t
 use Rattle.std.specs.Prelude.{◌&&◌, ◌||◌, not, if◌then◌else◌}
 use Rattle.std.specs.List.{AllZip, list_any, position_or_len}
 use Rattle.std.specs.Str.{bytes_eq}
-use Rattle.std.proofs.lemmas.Bool.{leb-true}
+use Rattle.std.proofs.lemmas.Bool.{and_parts, leb-true}
 use Rattle.std.proofs.lemmas.Slice.Zip.{AllZip-long}
-use Rattle.image_pack.proofs.Forms.{both_true}
 use Rattle.image_pack.specs.declared.parts.DevicePart.{DevicePart}
 use Rattle.image_pack.specs.declared.parts.Image.{Image}
 use Rattle.image_pack.specs.declared.parts.IrqPart.{IrqPart}
@@ -22,6 +21,7 @@ use Rattle.record_text.specs.declared.devices.Devices.{Devices}
 use Rattle.record_text.specs.declared.devices.RecordIrq.{RecordIrq}
 use Rattle.record_text.specs.declared.devices.RecordMemory.{RecordMemory}
 use Rattle.muen_num.specs.declared.devices.PortSpan.{PortSpan}
+use Rattle.muen_num.proofs.Lists.{find-map, map_same}
 use Rattle.record_text.specs.declared.fault.RecordFault.{RecordFault}
 use Rattle.record_text.specs.declared.record.Input.{Input}
 use Rattle.record_text.specs.declared.record.Input.TheVariants.{Port, Mem, Irq, Idle, Dma}
@@ -71,21 +71,9 @@ map_paired R f g same [] (y ∷ ys) h = absurd h
 map_paired R f g same (x ∷ xs) [] h = absurd h
 map_paired R f g same (x ∷ xs) (y ∷ ys) h = ap₂ (λ z zs. z ∷ zs) (same x y h.0) (map_paired R f g same xs ys h.1)
 
-find-map : {X Y : Type 0} (f : X → Y) (p : Y → Bool) (xs : List X) → find p (map f xs) ≡ option_map f (find (λ x. p (f x)) xs)
-find-map f p [] = refl
-find-map f p (x ∷ xs) =
-    elim (p (f x)) as (λ b. cond b (Some (f x)) (find p (map f xs)) ≡ option_map f (cond b (Some x) (find (λ x. p (f x)) xs))) [
-      | true ↦ refl
-      | false ↦ find-map f p xs
-    ]
-
 map-map : {X Y Z : Type 0} (f : X → Y) (g : Y → Z) (xs : List X) → map g (map f xs) ≡ map (λ x. g (f x)) xs
 map-map f g [] = refl
 map-map f g (x ∷ xs) = ap (λ zs. g (f x) ∷ zs) (map-map f g xs)
-
-map_same : {X Y : Type 0} (f g : X → Y) → ((x : X) → f x ≡ g x) → (xs : List X) → map f xs ≡ map g xs
-map_same f g same [] = refl
-map_same f g same (x ∷ xs) = ap₂ (λ z zs. z ∷ zs) (same x) (map_same f g same xs)
 
 -- ---- one device
 
@@ -100,7 +88,7 @@ bytes_same offset bytes (Some m) = refl
 memories_same : (spans : List SpanPart) (memory : List ℕ) (offset : ℕ) (bytes : List ℕ) (d : DevicePart) (p : RecordDevice) → IsRecordDevice spans d p → memory_of memory offset bytes p ≡ memory_input_of spans memory offset bytes d
 memories_same spans memory offset bytes d p h =
     bytes_same offset bytes (find (λ m. bytes_eq m.name memory) p.memories)
-    ∙ ap (option_and_then (bytes_into offset bytes)) (sym (find-map named_memory (λ m. bytes_eq m.name memory) p.memories) ∙ ap (find (λ m. bytes_eq m.name memory)) h.memories)
+    ∙ ap (option_and_then (bytes_into offset bytes)) (sym (find-map (λ m. bytes_eq m.name memory) named_memory p.memories) ∙ ap (find (λ m. bytes_eq m.name memory)) h.memories)
 
 raised_same : (target : Option IrqTarget) → record_raised target ≡ raised target
 raised_same None = refl
@@ -113,7 +101,7 @@ found_raised (Some q) = ap (λ r. Some r) (raised_same q.target)
 irqs_same : (spans : List SpanPart) (irq : List ℕ) (d : DevicePart) (p : RecordDevice) → IsRecordDevice spans d p → irq_of irq p ≡ irq_input_of irq d
 irqs_same spans irq d p h =
     ap (λ qs. option_map (λ q. record_raised q.target) (find (λ q. bytes_eq q.name irq) qs)) h.irqs
-    ∙ ap (option_map (λ q. record_raised q.target)) (find-map record_irq (λ q. bytes_eq q.name irq) d.irqs)
+    ∙ ap (option_map (λ q. record_raised q.target)) (find-map (λ q. bytes_eq q.name irq) record_irq d.irqs)
     ∙ found_raised (find (λ q. bytes_eq q.name irq) d.irqs)
 
 abbrev device_made : List ℕ → List (ℕ × ℕ) → List (List ℕ × ℕ) → List (List ℕ) → BenchDevice
@@ -178,7 +166,7 @@ from_any P p (x ∷ xs) gives h =
 
 memory_low : (at count : ℕ) (m : RecordMemory) → (nat_le m.address at && nat_le (at + count) (m.address + m.bytes)) ≡ true → at + count < 2 ^ 64
 memory_low at count m h =
-    let within = leb-true (at + count) (m.address + m.bytes) (both_true (nat_le m.address at) (nat_le (at + count) (m.address + m.bytes)) h).1 in
+    let within = leb-true (at + count) (m.address + m.bytes) (and_parts (nat_le m.address at) (nat_le (at + count) (m.address + m.bytes)) h).1 in
     let fits : m.address + m.bytes < 2 ^ 64 = m.fits in
     omega (arith, within, fits)
 

@@ -1,14 +1,13 @@
 -- The spans of an image ascend without overlap, and so do they with what they have at the start.
 use Rattle.std.proofs.Common.{◌≡◌, ℕ, zero, suc, ◌+◌, ◌*◌, ◌%◌, ◌<◌, ◌≤◌, true, false, if◌then◌else◌, List, [], ◌∷◌, length, get_or, sym, subst, ap, arith}
 use Rattle.std.specs.List.{AllByRecursion}
-use Rattle.std.proofs.lemmas.Bool.{eqb-true, leb-true}
+use Rattle.std.proofs.lemmas.Bool.{and_parts, eqb-true, leb-true}
 use Rattle.std.proofs.lemmas.List.{length-replicate}
 use Rattle.std.proofs.lemmas.List.Elements.{All-from_recursion}
 use Rattle.muen_num.specs.declared.limits.TheConstants.{MOST_DEVICES, PAGE, PHYSICAL_END}
 use Rattle.phys_mem.specs.Spans.{AreApart, AreSpans, IsSpan, end_of}
 use Rattle.phys_mem.specs.declared.spans.MemorySpan.{MemorySpan}
 use Rattle.image_pack.specs.Form.{all_fit, byte, bytes_of, coded, done, each, each_fit, field, gap, items, number, only}
-use Rattle.image_pack.proofs.Forms.{both_true}
 use Rattle.image_pack.specs.Codes.{is_device}
 use Rattle.image_pack.specs.Image.{after, content, counts, header, image, no_spans_before, span}
 use Rattle.image_pack.specs.Parts.{IsParts}
@@ -34,8 +33,8 @@ Rise end (s ∷ ss) = IsBehind end s × Rise (s.address + PAGE * s.pages) ss
 one_behind : (h : Header) (b : SpansBefore) (s : SpanPart) → (span h b).fits s → IsBehind b.end s
 unfolding span field only gap done number byte coded
 one_behind h b s fits =
-    let address = both_true _ _ fits.0.1 in
-    let size = both_true _ _ fits.1.0.1 in
+    let address = and_parts _ _ fits.0.1 in
+    let size = and_parts _ _ fits.1.0.1 in
     record { aligned = eqb-true _ _ address.0; behind = leb-true _ _ address.1; low = leb-true _ _ size.1 }
 
 rising : (h : Header) (b : SpansBefore) (ss : List SpanPart) → all_fit (after h) (λ d. (span h d).fits) b ss → Rise b.end ss

@@ -2,7 +2,7 @@
 use Rattle.std.proofs.Common.{◌≡◌, ℕ, zero, suc, ◌≤◌, Bool, true, false, true≢false, cond, not, ◌&&◌, eqb, leb, List, [], ◌∷◌, length, Option, Some, None, refl, sym, ap, subst, ◌∙◌, arith, inl, inr, ◌⊎◌}
 use Rattle.std.specs.Prelude.{codes, is_some}
 use Rattle.std.specs.Str.{bytes_eq}
-use Rattle.std.proofs.lemmas.Bool.{cases_eq, eq-eqb, ne_eqb, eqb-true, leb-true}
+use Rattle.std.proofs.lemmas.Bool.{cases_eq, eq-eqb, ne_eqb, eqb-true, leb-true, and_parts}
 use Rattle.std.proofs.lemmas.Slice.Eq.{bytes_eq-Decides}
 use Rattle.muen_num.specs.declared.mode.EventMode.{EventMode}
 use Rattle.muen_num.specs.declared.mode.EventMode.TheVariants.{Asap, Async, Own as OwnMode, Switch}
@@ -11,7 +11,6 @@ use Rattle.binary_form.specs.declared.fault.Field.TheVariants as at
 use Rattle.binary_form.specs.Form.{either, fits_either, present, fits_there, absent}
 use Rattle.binary_form.specs.Name.{name}
 use Rattle.binary_form.proofs.Leaves.{IsCode, Laws, coded_laws}
-use Rattle.binary_form.proofs.Forms.{both_true}
 use Rattle.image_pack.specs.Codes.{mark_in, mark_bytes, kind_of, kind_code, kind_in, kind_bytes, part_code, part_name, plain_part, part_of, is_part, mode_of, mode_code, vector_of, vector_code, event_of, if_mode, event_in, event_bytes, target_of, subject_code, irq_vector_code, is_target}
 use Rattle.image_pack.specs.Image.{mark, kind_byte, event, title, tau0_at}
 use Rattle.image_pack.specs.declared.outline.Header.{Header}
@@ -138,7 +137,7 @@ plain_code Own code h ne = whole_part code (eqb-true code 0 h)
 plain_code Channel code h ne = whole_part code (eqb-true code 0 h)
 plain_code Provided code h ne = absurd (other_number code h ne)
 plain_code Device code h ne = absurd (other_number code h ne)
-plain_code Kernel code h ne = let g = both_true (leb 2 code) (leb code 6) h in kernel_part code (leb-true 2 code g.0) (leb-true code 6 g.1)
+plain_code Kernel code h ne = let g = and_parts (leb 2 code) (leb code 6) h in kernel_part code (leb-true 2 code g.0) (leb-true code 6 g.1)
 
 titled : (b : Bool) (o : Option (List ℕ)) → fits_either b (fits_there name o) (o ≡ None) → ((b ≡ true) × (t : List ℕ) × (o ≡ Some t)) ⊎ ((b ≡ false) × (o ≡ None))
 titled true None h = absurd h
@@ -204,7 +203,7 @@ event_back subjects m t v z x e =
     let zz : 0 ≡ z = sym (eqb-true z 0 a.0) in
     elim (one_of_two (eqb m 0) (cond (eqb t 0 && eqb v 0) (some none) None) (if_mode (mode_of m) (event_of subjects t v)) x a.1) [
       | inl h ↦
-          let both = both_true (eqb t 0) (eqb v 0) (passed (eqb t 0 && eqb v 0) none x h.1) in
+          let both = and_parts (eqb t 0) (eqb v 0) (passed (eqb t 0 && eqb v 0) none x h.1) in
           let zm : 0 ≡ m = sym (eqb-true m 0 h.0) in
           let zt : 0 ≡ t = sym (eqb-true t 0 both.0) in
           let zv : 0 ≡ v = sym (eqb-true v 0 both.1) in

@@ -3,7 +3,7 @@ use Rattle.std.proofs.Common.{◌≡◌, refl, sym, subst, zero-add, arith, ◌=
 use Rattle.std.specs.Prelude.{is_some}
 use Rattle.std.specs.List.{All, AllZip, sum_by}
 use Rattle.std.proofs.lemmas.List.{length-replicate}
-use Rattle.std.proofs.lemmas.Bool.{cases_eq, ne_eqb}
+use Rattle.std.proofs.lemmas.Bool.{cases_eq, ne_eqb, or_right}
 use Rattle.muen_num.specs.declared.limits.TheConstants.{MOST_BLOCK_BYTES, MOST_DEVICE_BYTES, PAGE}
 use Rattle.binary_form.specs.Form.{each_fit, each, bytes_of, field, only, gap, done, number, byte, coded, either, present, absent, items}
 use Rattle.image_pack.specs.Codes.{is_own, mark_bytes, mark_in}
@@ -12,7 +12,7 @@ use Rattle.image_pack.specs.ImageConditions.{IsChoice, IsContent, KeepsCondition
 use Rattle.image_pack.specs.SpanConditions.{device_pages_of, pages_of}
 use Rattle.image_pack.specs.declared.parts.Image.{Image}
 use Rattle.image_pack.specs.declared.parts.SpanPart.{SpanPart}
-use Rattle.image_pack.proofs.SpansFit.{GoOn, right, spans_fit}
+use Rattle.image_pack.proofs.SpansFit.{GoOn, spans_fit}
 use Rattle.image_pack.proofs.SubjectsFit.{groups_fit, subjects_fit}
 use Rattle.image_pack.proofs.FramesFit.{majors_fit}
 use Rattle.image_pack.proofs.FramesKeep.{high_end}
@@ -79,7 +79,7 @@ chosen_suits None spans h k d l = refl
 chosen_suits (Some t) spans h k d l =
     let s = get_or spans k d in
     elim (cases_eq s.number t) [
-      | inl e ↦ right (not (s.number == t)) (is_own s.kind) (h.1 k d l e)
+      | inl e ↦ or_right (not (s.number == t)) (is_own s.kind) (h.1 k d l e)
       | inr ne ↦ rw (ne_eqb s.number t ne) refl
     ]
 

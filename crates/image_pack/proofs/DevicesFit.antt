@@ -1,8 +1,8 @@
 -- Devices that keep the conditions of an image fit its form.
-use Rattle.std.proofs.Common.{◌≡◌, ◌∙◌, refl, sym, ap, arith, ℕ, suc, ◌<◌, ◌≤◌, ◌^◌, ◌||◌, not, Bool, true, false, List, [], inl, inr, ◌∷◌, ◌++◌, get_or, length, map, ne_eqb, le-leb, lt-ltb, Option, Some, None}
+use Rattle.std.proofs.Common.{◌≡◌, ◌∙◌, refl, sym, ap, arith, ℕ, suc, ◌<◌, ◌≤◌, ◌^◌, not, true, false, List, [], inl, inr, ◌∷◌, ◌++◌, get_or, length, map, ne_eqb, le-leb, lt-ltb, Option, Some, None}
 use Rattle.std.specs.Str.{bytes_eq}
 use Rattle.std.specs.List.{All, AllZip, list_any}
-use Rattle.std.proofs.lemmas.Bool.{cases_eq}
+use Rattle.std.proofs.lemmas.Bool.{and_from, cases_eq, or_from}
 use Rattle.std.proofs.lemmas.List.Elements.{All-head, All-tail}
 use Rattle.std.proofs.lemmas.List.Folds.{list_any-append}
 use Rattle.binary_form.specs.Form.{all_fit, field, only, gap, done, number, byte, items}
@@ -19,25 +19,21 @@ use Rattle.muen_num.specs.declared.devices.IrqTarget.{IrqTarget}
 use Rattle.muen_num.specs.declared.devices.PortSpan.{PortSpan}
 use Rattle.image_pack.specs.declared.parts.SpanPart.{SpanPart}
 use Rattle.image_pack.specs.declared.parts.WindowPart.{WindowPart}
-use Rattle.image_pack.proofs.SubjectsFit.{both, each_fits}
+use Rattle.image_pack.proofs.SubjectsFit.{each_fits}
 
 -- ---- names that differ
 
 -- none of these names is listed
-abbrev AreNew : List (List ℕ) → List (List ℕ) → Type 0
+abbrev pub AreNew : List (List ℕ) → List (List ℕ) → Type 0
 AreNew names texts = All (λ t. is_listed names t ≡ false) texts
 
-neither : (a b : Bool) → a ≡ false → b ≡ false → (a || b) ≡ false
-neither true b h g = h
-neither false b h g = g
-
 -- those behind a name are new where it is listed too
-still_new : (names : List (List ℕ)) (t : List ℕ) (texts : List (List ℕ)) → AreNew names (t ∷ texts) → AreDistinct (t ∷ texts) → AreNew (names ++ t ∷ []) texts
+pub still_new : (names : List (List ℕ)) (t : List ℕ) (texts : List (List ℕ)) → AreNew names (t ∷ texts) → AreDistinct (t ∷ texts) → AreNew (names ++ t ∷ []) texts
 still_new names t texts new differ k d l =
     list_any-append (λ m. bytes_eq m (get_or texts k d)) names (t ∷ [])
-    ∙ neither (list_any (λ m. bytes_eq m (get_or texts k d)) names) (list_any (λ m. bytes_eq m (get_or texts k d)) (t ∷ [])) (new (suc k) d (omega (arith, l))) (neither (bytes_eq t (get_or texts k d)) false (differ 0 (suc k) d (omega arith) (omega (arith, l))) refl)
+    ∙ or_from (list_any (λ m. bytes_eq m (get_or texts k d)) names) (list_any (λ m. bytes_eq m (get_or texts k d)) (t ∷ [])) (new (suc k) d (omega (arith, l))) (or_from (bytes_eq t (get_or texts k d)) false (differ 0 (suc k) d (omega arith) (omega (arith, l))) refl)
 
-distinct_behind : (t : List ℕ) (texts : List (List ℕ)) → AreDistinct (t ∷ texts) → AreDistinct texts
+pub distinct_behind : (t : List ℕ) (texts : List (List ℕ)) → AreDistinct (t ∷ texts) → AreDistinct texts
 distinct_behind t texts h = λ i j d lt l. h (suc i) (suc j) d (omega (arith, lt)) (omega (arith, l))
 
 -- ---- ranges
@@ -78,7 +74,7 @@ windows_fit o names (w ∷ ws) (t ∷ ts) low zip differ new = (
 
 reached_passes : (subjects : ℕ) (t : Option IrqTarget) → subjects ≤ 32 → IsReached subjects t → is_target subjects (subject_code t) (irq_vector_code t) ≡ true
 reached_passes subjects None few h = refl
-reached_passes subjects (Some t) few h = let low : t.subject < subjects = h.0 in rw (ne_eqb t.subject 255 (λ e. absurd (omega (arith, e, low, few)))) (both _ _ (lt-ltb _ _ h.0) (le-leb 32 t.vector h.1))
+reached_passes subjects (Some t) few h = let low : t.subject < subjects = h.0 in rw (ne_eqb t.subject 255 (λ e. absurd (omega (arith, e, low, few)))) (and_from _ _ (lt-ltb _ _ h.0) (le-leb 32 t.vector h.1))
 
 reached_decodes : (subjects : ℕ) (t : Option IrqTarget) → subjects ≤ 32 → IsReached subjects t → target_of (subject_code t) (irq_vector_code t) ≡ t
 reached_decodes subjects None few h = refl

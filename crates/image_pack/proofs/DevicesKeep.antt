@@ -4,12 +4,11 @@ use Rattle.std.specs.Prelude.{option_to_list}
 use Rattle.std.specs.Option.{option_map_or}
 use Rattle.std.specs.Str.{bytes_eq}
 use Rattle.std.specs.List.{All, AllZip}
-use Rattle.std.proofs.lemmas.Bool.{leb-true, ltb-true, not-true, or_parts}
+use Rattle.std.proofs.lemmas.Bool.{and_parts, leb-true, ltb-true, not-true, or_parts}
 use Rattle.std.proofs.lemmas.List.Elements.{All-cons, All-nil}
 use Rattle.std.proofs.lemmas.List.Kept.{AllPairs-cons}
 use Rattle.std.proofs.lemmas.List.Folds.{list_any-append}
 use Rattle.binary_form.specs.Form.{all_fit, field, only, gap, done, number, byte, items}
-use Rattle.binary_form.proofs.Forms.{both_true}
 use Rattle.binary_form.proofs.NameLaws.{name_kept}
 use Rattle.muen_num.specs.declared.limits.TheConstants.{FIRST_VECTOR, MOST_PER_DEVICE}
 use Rattle.image_pack.specs.Codes.{irq_vector_code, is_target, nobody, subject_code, target_of}
@@ -28,19 +27,19 @@ use Rattle.image_pack.proofs.SubjectsKeep.{each_kept}
 -- ---- names that differ
 
 -- none of these names is listed
-abbrev AreNew : List (List ℕ) → List (List ℕ) → Type 0
+abbrev pub AreNew : List (List ℕ) → List (List ℕ) → Type 0
 AreNew names texts = All (λ t. is_listed names t ≡ false) texts
 
 -- names that differ, and from those listed
-record Differ (names texts : List (List ℕ)) : Type 0 where
-  new : AreNew names texts
-  distinct : AreDistinct texts
+pub record Differ (names texts : List (List ℕ)) : Type 0 where
+  pub new : AreNew names texts
+  pub distinct : AreDistinct texts
 
 no_names : (names : List (List ℕ)) → Differ names []
 no_names names = record { new = λ k d l. absurd (omega (arith, l)); distinct = λ i j d lt l. absurd (omega (arith, l)) }
 
 -- a new name is put before names that are new where it is listed too
-name_before : (names : List (List ℕ)) (t : List ℕ) (texts : List (List ℕ)) → is_listed names t ≡ false → Differ (names ++ t ∷ []) texts → Differ names (t ∷ texts)
+pub name_before : (names : List (List ℕ)) (t : List ℕ) (texts : List (List ℕ)) → is_listed names t ≡ false → Differ (names ++ t ∷ []) texts → Differ names (t ∷ texts)
 name_before names t texts new rest =
     let parts : (k : ℕ) (d : List ℕ) → k < length texts → (is_listed names (get_or texts k d) ≡ false) × (is_listed (t ∷ []) (get_or texts k d) ≡ false) =
     λ k d l. or_parts (is_listed names (get_or texts k d)) (is_listed (t ∷ []) (get_or texts k d)) (sym (list_any-append (λ m. bytes_eq m (get_or texts k d)) names (t ∷ [])) ∙ rest.new k d l) in
@@ -97,7 +96,7 @@ target_kept : (subjects : ℕ) (t : Option IrqTarget) → t ≡ target_of (subje
 target_kept subjects None back small h = tt
 target_kept subjects (Some t) back small h =
     let there : (t.subject == nobody) ≡ false = somebody (t.subject == nobody) (record { subject = t.subject; vector = t.vector }) t (sym back) in
-    let two = both_true (nat_lt t.subject subjects) (nat_le FIRST_VECTOR t.vector) (some_target (t.subject == nobody) (t.vector == 0) (nat_lt t.subject subjects && nat_le FIRST_VECTOR t.vector) there h) in
+    let two = and_parts (nat_lt t.subject subjects) (nat_le FIRST_VECTOR t.vector) (some_target (t.subject == nobody) (t.vector == 0) (nat_lt t.subject subjects && nat_le FIRST_VECTOR t.vector) there h) in
     (ltb-true t.subject subjects two.0, leb-true FIRST_VECTOR t.vector two.1, small)
 
 record OneIrq (h : Header) (names : List (List ℕ)) (q : IrqPart) : Type 0 where

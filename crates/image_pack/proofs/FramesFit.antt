@@ -1,11 +1,11 @@
 -- Major frames that can run fit the form of an image.
 use Rattle.std.proofs.Common.{◌≡◌, ◌≢◌, ◌∙◌, refl, sym, ap, arith, ℕ, zero, suc, ◌+◌, ◌-◌, ◌<◌, ◌≤◌, ◌^◌, ◌&&◌, ◌||◌, not, min, Bool, true, false, List, [], ◌∷◌, length, eq-eqb, nat_le, nat_lt, ◌==◌, le-leb}
 use Rattle.std.specs.List.{enumerate_from, list_all, sum_by}
-use Rattle.std.proofs.lemmas.Bool.{eqb-true, leb-true, ltb-true}
+use Rattle.std.proofs.lemmas.Bool.{and_from, and_parts, eqb-true, leb-true, ltb-true}
 use Rattle.std.proofs.lemmas.List.Sums.{sum_by-cons}
 use Rattle.binary_form.specs.Form.{all_fit, field, only, gap, done, number, byte, items}
-use Rattle.binary_form.proofs.Forms.{both_true}
 use Rattle.muen_num.specs.declared.limits.TheConstants.{MOST_MINOR_FRAMES, MOST_TICKS}
+use Rattle.frame_clock.proofs.SlotLaws.{group_there}
 use Rattle.frame_clock.specs.Plan.{is_cpu, is_group_on, is_major, is_minor}
 use Rattle.frame_clock.specs.declared.plan.Major.{Major}
 use Rattle.frame_clock.specs.declared.plan.Minor.{Minor}
@@ -13,7 +13,7 @@ use Rattle.image_pack.specs.Image.{add_ticks, frames, major, minor, next_cpu, no
 use Rattle.image_pack.specs.declared.outline.Outline.{Outline}
 use Rattle.image_pack.specs.declared.reading.majors.CpuTicks.{CpuTicks}
 use Rattle.image_pack.specs.declared.reading.majors.FramesBefore.{FramesBefore}
-use Rattle.image_pack.proofs.SubjectsFit.{both, group_there, next_number}
+use Rattle.image_pack.proofs.SubjectsFit.{next_number}
 
 record Four (a b c d : Bool) : Type 0 where
   first : a ≡ true
@@ -23,9 +23,9 @@ record Four (a b c d : Bool) : Type 0 where
 
 four : (a b c d : Bool) → (a && b && c && d) ≡ true → Four a b c d
 four a b c d h =
-    let p = both_true (a && b && c) d h in
-    let q = both_true (a && b) c p.0 in
-    let r = both_true a b q.0 in
+    let p = and_parts (a && b && c) d h in
+    let q = and_parts (a && b) c p.0 in
+    let r = and_parts a b q.0 in
     record { first = r.0; second = r.1; third = q.1; fourth = p.1 }
 
 -- ---- minor frames
@@ -61,14 +61,14 @@ last_ticks o t f fs g h =
 one_minor : (o : Outline) (t : FramesBefore) (f : Minor) (fs : List Minor) → length o.groups ≤ 32 → GoOn o t (f ∷ fs) → (minor o t).fits f
 unfolding minor field only gap done byte number
 one_minor o t f fs few g =
-    let here = both_true (is_minor o.groups t.cpu f) (list_all (is_minor o.groups t.cpu) fs) g.each in
-    let two = both_true (nat_lt 0 f.ticks) (is_group_on o.groups t.cpu f.group) here.0 in
+    let here = and_parts (is_minor o.groups t.cpu f) (list_all (is_minor o.groups t.cpu) fs) g.each in
+    let two = and_parts (nat_lt 0 f.ticks) (is_group_on o.groups t.cpu f.group) here.0 in
     let there = group_there o.groups t.cpu f.group two.1 in
     let all = all_of_them o t f fs g in
     let small = g.small in (
       (omega (arith, there, few), two.1),
       (
-        (omega (arith, all, small), both _ _ two.0 (is_last (t.left == 1) t.sum f.ticks t.total (last_ticks o t f fs g))),
+        (omega (arith, all, small), and_from _ _ two.0 (is_last (t.left == 1) t.sum f.ticks t.total (last_ticks o t f fs g))),
         refl,
       ),
     )
@@ -83,7 +83,7 @@ next_minor o t f fs g =
     let sum : min (t.sum + f.ticks) (2 ^ 32 - 1) ≡ t.sum + f.ticks = sum_fits t.sum f.ticks (omega (arith, all, small)) in
     record {
       left = omega (arith, g.left);
-      each = (both_true (is_minor o.groups t.cpu f) (list_all (is_minor o.groups t.cpu) fs) g.each).1;
+      each = (and_parts (is_minor o.groups t.cpu f) (list_all (is_minor o.groups t.cpu) fs) g.each).1;
       total = λ some. omega (arith, sum, all);
       small = g.small;
     }
@@ -102,7 +102,7 @@ one_cpu o c fs few small h =
     let most : length fs ≤ 64 = leb-true (length fs) 64 q.second in
     let some : 0 < length fs = ltb-true 0 (length fs) q.first in
     let sum : sum_by (λ (f : Minor). f.ticks) fs ≡ c.total = eqb-true (sum_by (λ (f : Minor). f.ticks) fs) c.total q.fourth in (
-      (omega (arith, most), both _ _ (le-leb 1 (length fs) some) q.second),
+      (omega (arith, most), and_from _ _ (le-leb 1 (length fs) some) q.second),
       (refl, minors_fit o (no_frames_before c (length fs)) fs few (record { left = refl; each = q.third; total = λ ne. omega (arith, sum); small = small })),
     )
 
@@ -111,7 +111,7 @@ cpus_from : (o : Outline) (total cpu : ℕ) (cs : List (List Minor)) → length 
 unfolding all_fit
 cpus_from o total cpu [] few small room h = tt
 cpus_from o total cpu (fs ∷ cs) few small room h =
-    let two = both_true (is_cpu o.groups total (cpu, fs)) (list_all (is_cpu o.groups total) (enumerate_from (cpu + 1) cs)) h in
+    let two = and_parts (is_cpu o.groups total (cpu, fs)) (list_all (is_cpu o.groups total) (enumerate_from (cpu + 1) cs)) h in
     let next = next_number cpu (omega (arith, room)) in
     let rest = cpus_from o total (cpu + 1) cs few small (omega (arith, room)) two.1 in
     (one_cpu o (record { cpu = cpu; total = total }) fs few small two.0, rw next rest)
@@ -125,7 +125,7 @@ one_major o b m few cpus h =
     let most : m.ticks ≤ 100000 = leb-true m.ticks 100000 q.third in
     let some : 0 < m.ticks = ltb-true 0 m.ticks q.second in
     let many : length m.cpus ≡ o.header.cpus = eqb-true (length m.cpus) o.header.cpus q.first in (
-      (omega (arith, most), both _ _ (le-leb 1 m.ticks some) q.third),
+      (omega (arith, most), and_from _ _ (le-leb 1 m.ticks some) q.third),
       (
         (many, cpus_from o m.ticks 0 m.cpus few (omega (arith, most)) (omega (arith, many, cpus)) q.fourth),
         refl,
@@ -136,7 +136,7 @@ majors_each : (o : Outline) (c : ℕ) (ms : List Major) → length o.groups ≤ 
 unfolding all_fit
 majors_each o c [] few cpus h = tt
 majors_each o c (m ∷ ms) few cpus h =
-    let two = both_true (is_major o.groups o.header.cpus m) (list_all (is_major o.groups o.header.cpus) ms) h in
+    let two = and_parts (is_major o.groups o.header.cpus m) (list_all (is_major o.groups o.header.cpus) ms) h in
     (one_major o c m few cpus two.0, majors_each o c ms few cpus two.1)
 
 pub majors_fit : (o : Outline) (ms : List Major) → length o.groups ≤ 32 → o.header.cpus ≤ 8 → list_all (is_major o.groups o.header.cpus) ms ≡ true → all_fit (nothing_left o.header) (λ b. (major o b).fits) 0 ms

@@ -1,10 +1,10 @@
 -- Major frames that fit the form of an image can run.
-use Rattle.std.proofs.Common.{◌≡◌, ◌∙◌, refl, sym, subst, ap, arith, ℕ, suc, ◌+◌, ◌-◌, ◌<◌, ◌≤◌, ◌^◌, ◌&&◌, ◌||◌, not, min, Bool, true, false, true≢false, List, [], ◌∷◌, length, eq-eqb, le-leb, lt-ltb, nat_le, nat_lt, ◌==◌}
+use Rattle.std.proofs.Common.{◌≡◌, ◌∙◌, refl, subst, ap, arith, ℕ, suc, ◌+◌, ◌-◌, ◌<◌, ◌≤◌, ◌^◌, ◌&&◌, ◌||◌, not, min, Bool, true, List, [], ◌∷◌, length, eq-eqb, le-leb, lt-ltb, nat_le, nat_lt, ◌==◌}
 use Rattle.std.specs.List.{enumerate_from, list_all, sum_by}
-use Rattle.std.proofs.lemmas.Bool.{and_from, eqb-true, leb-true}
+use Rattle.std.proofs.lemmas.Bool.{and_from, and_parts, eqb-true, leb-true}
 use Rattle.std.proofs.lemmas.List.Sums.{sum_by-cons}
 use Rattle.binary_form.specs.Form.{all_fit, field, only, gap, done, number, byte, items}
-use Rattle.binary_form.proofs.Forms.{both_true}
+use Rattle.muen_num.proofs.Booleans.{implied}
 use Rattle.muen_num.specs.declared.limits.TheConstants.{MOST_MINOR_FRAMES, MOST_TICKS}
 use Rattle.frame_clock.specs.Plan.{is_cpu, is_group_on, is_major, is_minor}
 use Rattle.frame_clock.specs.declared.plan.Major.{Major}
@@ -20,16 +20,11 @@ use Rattle.image_pack.proofs.SubjectsFit.{next_number}
 four : (a b c d : Bool) → a ≡ true → b ≡ true → c ≡ true → d ≡ true → (a && b && c && d) ≡ true
 four a b c d p q r s = and_from (a && b && c) d (and_from (a && b) c (and_from a b p q) r) s
 
--- the second of two where the first is excluded
-second : (a b : Bool) → a ≡ true → (not a || b) ≡ true → b ≡ true
-second true b e h = h
-second false b e h = absurd (true≢false (sym e))
-
 pub low_end : (low high n : ℕ) → is_between low high n ≡ true → low ≤ n
-low_end low high n h = leb-true low n (both_true (nat_le low n) (nat_le n high) h).0
+low_end low high n h = leb-true low n (and_parts (nat_le low n) (nat_le n high) h).0
 
 pub high_end : (low high n : ℕ) → is_between low high n ≡ true → n ≤ high
-high_end low high n h = leb-true n high (both_true (nat_le low n) (nat_le n high) h).1
+high_end low high n h = leb-true n high (and_parts (nat_le low n) (nat_le n high) h).1
 
 -- ---- minor frames
 
@@ -45,7 +40,7 @@ record OneFrame (o : Outline) (t : FramesBefore) (f : Minor) : Type 0 where
 one_minor : (o : Outline) (t : FramesBefore) (f : Minor) → (minor o t).fits f → OneFrame o t f
 unfolding minor field only gap done byte number
 one_minor o t f h =
-    let two = both_true (nat_lt 0 f.ticks) (not (t.left == 1) || (t.sum + f.ticks == t.total)) h.1.0.1 in
+    let two = and_parts (nat_lt 0 f.ticks) (not (t.left == 1) || (t.sum + f.ticks == t.total)) h.1.0.1 in
     record { here = and_from (nat_lt 0 f.ticks) (is_group_on o.groups t.cpu f.group) two.0 h.0.1; last = two.1 }
 
 -- a sum that stays below the total is the sum
@@ -56,7 +51,7 @@ with_none : (a b total : ℕ) → a + b ≡ total → a + (b + 0) ≡ total
 with_none a b total h = omega (arith, h)
 
 total_so_far : (o : Outline) (t : FramesBefore) (f : Minor) (fs : List Minor) → t.total ≤ 100000 → t.left ≡ suc (length fs) → OneFrame o t f → Fill o (add_ticks o t f) fs → t.sum + (f.ticks + sum_by (λ f. f.ticks) fs) ≡ t.total
-total_so_far o t f [] few left one g = with_none t.sum f.ticks t.total (eqb-true (t.sum + f.ticks) t.total (second (t.left == 1) (t.sum + f.ticks == t.total) (eq-eqb t.left 1 left) one.last))
+total_so_far o t f [] few left one g = with_none t.sum f.ticks t.total (eqb-true (t.sum + f.ticks) t.total (implied (t.left == 1) (t.sum + f.ticks == t.total) (eq-eqb t.left 1 left) one.last))
 total_so_far o t f (x ∷ xs) few left one g = exact t.sum f.ticks (sum_by (λ (f : Minor). f.ticks) (x ∷ xs)) t.total few (g.total (omega arith))
 
 minors_fill : (o : Outline) (t : FramesBefore) (fs : List Minor) → t.total ≤ 100000 → t.left ≡ length fs → all_fit (add_ticks o) (λ s. (minor o s).fits) t fs → Fill o t fs

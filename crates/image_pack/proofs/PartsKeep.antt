@@ -1,9 +1,10 @@
 -- Parts of an image keep its conditions in plain words.
-use Rattle.std.proofs.Common.{◌≡◌, sym, subst, zero-add, arith, ◌==◌, ℕ, ◌+◌, ◌*◌, ◌<◌, ◌≤◌, ◌||◌, not, Bool, true, false, true≢false, List, [], ◌∷◌, length, get_or, Option, Some, None}
+use Rattle.std.proofs.Common.{◌≡◌, sym, subst, zero-add, arith, ◌==◌, ℕ, ◌+◌, ◌*◌, ◌<◌, ◌≤◌, true, false, List, [], ◌∷◌, length, get_or, Option, Some, None}
 use Rattle.std.specs.Prelude.{is_some}
 use Rattle.std.specs.List.{All, AllZip, sum_by}
 use Rattle.std.proofs.lemmas.List.{length-replicate}
 use Rattle.std.proofs.lemmas.Bool.{eq-eqb, leb-true, ltb-true}
+use Rattle.muen_num.proofs.Booleans.{implied}
 use Rattle.muen_num.specs.declared.limits.TheConstants.{MOST_BLOCK_BYTES, MOST_DEVICE_BYTES, MOST_DEVICES, MOST_DEVICE_WINDOWS, MOST_REGIONS, MOST_MAJOR_FRAMES, MOST_CPUS, MOST_SUBJECTS, PAGE}
 use Rattle.binary_form.specs.Form.{each_fit, each, bytes_of, field, only, gap, done, number, byte, either, present, items}
 use Rattle.image_pack.specs.Codes.{is_own}
@@ -47,15 +48,11 @@ chosen_low : (t n : ℕ) → (tau0_at true n).fits (Some t) → t < n
 unfolding tau0_at either present field only gap done number
 chosen_low t n f = ltb-true t n f.0.1
 
-own_where : (b own : Bool) → b ≡ true → (not b || own) ≡ true → own ≡ true
-own_where true own e h = h
-own_where false own e h = absurd (true≢false (sym e))
-
 choice_kept : (spans : List SpanPart) (t : Option ℕ) (n : ℕ) → length spans ≡ n → (tau0_at (is_some t) n).fits t → All (λ s. suits_tau0 t s.number s.kind ≡ true) spans → IsChoice spans t
 choice_kept spans None n same f all = tt
 choice_kept spans (Some t) n same f all =
     let low : t < n = chosen_low t n f in
-    (omega (arith, low, same), λ k d l e. let s = get_or spans k d in own_where (s.number == t) (is_own s.kind) (eq-eqb s.number t e) (all k d l))
+    (omega (arith, low, same), λ k d l e. let s = get_or spans k d in implied (s.number == t) (is_own s.kind) (eq-eqb s.number t e) (all k d l))
 
 -- ---- spans and contents
 

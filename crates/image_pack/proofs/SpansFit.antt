@@ -1,7 +1,8 @@
 -- Spans that keep the conditions of an image fit its form.
-use Rattle.std.proofs.Common.{◌≡◌, ◌∙◌, refl, ℕ, suc, ◌+◌, ◌-◌, ◌*◌, ◌<◌, ◌≤◌, ◌^◌, ◌&&◌, ◌||◌, not, cond, min, Bool, true, false, List, [], ◌∷◌, length, length-set, get_or, get_or-set_other, mul-le-mul_left, eq-eqb, le-leb, lt-ltb, Some, IfSome, arith, sym, ap}
+use Rattle.std.proofs.Common.{◌≡◌, ◌∙◌, refl, ℕ, suc, ◌+◌, ◌-◌, ◌*◌, ◌<◌, ◌≤◌, ◌^◌, not, cond, min, Bool, true, false, List, [], ◌∷◌, length, length-set, get_or, get_or-set_other, mul-le-mul_left, eq-eqb, le-leb, lt-ltb, Some, IfSome, arith, sym, ap}
 use Rattle.std.specs.List.{All, sum_by}
 use Rattle.std.specs.Prelude.{slice_index_or}
+use Rattle.std.proofs.lemmas.Bool.{and_from, or_right}
 use Rattle.std.proofs.lemmas.List.Elements.{All-head, All-tail}
 use Rattle.std.proofs.lemmas.List.Sums.{sum_by-cons}
 use Rattle.binary_form.specs.Form.{all_fit, field, only, gap, done, number, byte, coded, either, present, absent}
@@ -34,14 +35,6 @@ pub record GoOn (h : Header) (b : SpansBefore) (xs : List SpanPart) : Type 0 whe
   pub choice : All (λ s. suits_tau0 h.tau0 s.number s.kind ≡ true) xs
 
 -- ---- one field and another
-
-both : (a b : Bool) → a ≡ true → b ≡ true → (a && b) ≡ true
-both true b h g = g
-both false b h g = h
-
-pub right : (a b : Bool) → b ≡ true → (a || b) ≡ true
-right true b h = refl
-right false b h = h
 
 kind_decodes : (k : SpanKind) → kind_in (kind_bytes k) ≡ Some k
 unfolding kind_in kind_of
@@ -112,12 +105,12 @@ room : (h : Header) (b : SpansBefore) (x : SpanPart) (xs : List SpanPart) → Go
 room h b x xs g =
     let own = fewer PAGE (pages_with b x.kind x.pages) (pages_with b x.kind x.pages + sum_by pages_of xs) MOST_BLOCK_BYTES (omega arith) (own_pages h b x xs g) in
     let device = fewer PAGE (device_pages_with b x.kind x.pages) (device_pages_with b x.kind x.pages + sum_by device_pages_of xs) MOST_DEVICE_BYTES (omega arith) (more_device_pages h b x xs g) in
-    right _ _ (both _ _ (le-leb _ _ own) (le-leb _ _ device))
+    or_right _ _ (and_from _ _ (le-leb _ _ own) (le-leb _ _ device))
 
 -- ---- one span
 
 number_new : (h : Header) (b : SpansBefore) (x : SpanPart) → x.number < h.spans → slice_index_or b.seen x.number true ≡ false → is_new h b x.number ≡ true
-number_new h b x low unseen = both _ _ (lt-ltb _ _ low) (ap not unseen)
+number_new h b x low unseen = and_from _ _ (lt-ltb _ _ low) (ap not unseen)
 
 one_fits : (h : Header) (b : SpansBefore) (x : SpanPart) (xs : List SpanPart) → h.spans < 2 ^ 16 → GoOn h b (x ∷ xs) → (span h b).fits x
 unfolding span field only gap done number byte coded is_kind
@@ -128,13 +121,13 @@ one_fits h b x xs few g =
     let number : x.number < h.spans = g.numbered 0 x (omega arith) in
     let unseen : slice_index_or b.seen x.number true ≡ false = g.unseen 0 x (omega arith) in
     let choice : suits_tau0 h.tau0 x.number x.kind ≡ true = g.choice 0 x (omega arith) in (
-      (omega (arith, low), both _ _ (eq-eqb _ _ s.aligned) (le-leb _ _ behind)),
+      (omega (arith, low), and_from _ _ (eq-eqb _ _ s.aligned) (le-leb _ _ behind)),
       (
-        (omega (arith, low), both _ _ (lt-ltb _ _ s.some) (le-leb _ _ s.low)),
+        (omega (arith, low), and_from _ _ (lt-ltb _ _ s.some) (le-leb _ _ s.low)),
         (
           (omega (arith, number, few), number_new h b x number unseen),
           (
-            (kind_decodes x.kind, both _ _ choice (room h b x xs g)),
+            (kind_decodes x.kind, and_from _ _ choice (room h b x xs g)),
             (
               (part_small x.tag.part, s.part),
               (

@@ -2,13 +2,12 @@
 use Rattle.std.proofs.Common.{◌≡◌, ◌≢◌, ◌∙◌, sym, subst, ap, arith, ℕ, suc, ◌+◌, ◌*◌, ◌%◌, ◌<◌, ◌≤◌, ◌&&◌, ◌||◌, not, cond, Bool, true, false, true≢false, List, [], ◌∷◌, length, length-set, get_or, get_or-set_other, eqb, eq-eqb, nat_le, nat_lt, ◌==◌, IfSome}
 use Rattle.std.specs.Prelude.{slice_index_or, slice_set}
 use Rattle.std.specs.List.{All, sum_by}
-use Rattle.std.proofs.lemmas.Bool.{eqb-true, leb-true, ltb-true, not-true}
+use Rattle.std.proofs.lemmas.Bool.{and_parts, eqb-true, leb-true, ltb-true, not-true}
 use Rattle.std.proofs.lemmas.List.{get_or-set_same}
 use Rattle.std.proofs.lemmas.List.Elements.{All-cons, All-nil}
 use Rattle.std.proofs.lemmas.List.Kept.{AllPairs-cons}
 use Rattle.std.proofs.lemmas.List.Sums.{sum_by-cons}
 use Rattle.binary_form.specs.Form.{all_fit, field, only, gap, done, number, byte, coded, either, present, absent}
-use Rattle.binary_form.proofs.Forms.{both_true}
 use Rattle.binary_form.proofs.NameLaws.{name_kept}
 use Rattle.muen_num.specs.Naming.{is_name}
 use Rattle.muen_num.specs.declared.limits.TheConstants.{PAGE, PHYSICAL_END, MOST_BLOCK_BYTES, MOST_DEVICE_BYTES}
@@ -47,10 +46,10 @@ record Stands (h : Header) (b : SpansBefore) (x : SpanPart) : Type 0 where
 one_stands : (h : Header) (b : SpansBefore) (x : SpanPart) → (span h b).fits x → Stands h b x
 unfolding span field only gap done number byte coded is_kind
 one_stands h b x f =
-    let address = both_true (eqb (x.address % PAGE) 0) (nat_le b.end x.address) f.0.1 in
-    let size = both_true (nat_lt 0 x.pages) (nat_le (x.address + PAGE * x.pages) PHYSICAL_END) f.1.0.1 in
-    let fresh = both_true (nat_lt x.number h.spans) (not (slice_index_or b.seen x.number true)) f.1.1.0.1 in
-    let kind = both_true (suits_tau0 h.tau0 x.number x.kind) (has_room b x.pages x.kind) f.1.1.1.0.1 in
+    let address = and_parts (eqb (x.address % PAGE) 0) (nat_le b.end x.address) f.0.1 in
+    let size = and_parts (nat_lt 0 x.pages) (nat_le (x.address + PAGE * x.pages) PHYSICAL_END) f.1.0.1 in
+    let fresh = and_parts (nat_lt x.number h.spans) (not (slice_index_or b.seen x.number true)) f.1.1.0.1 in
+    let kind = and_parts (suits_tau0 h.tau0 x.number x.kind) (has_room b x.pages x.kind) f.1.1.1.0.1 in
     record {
       one = record {
         aligned = eqb-true (x.address % PAGE) 0 address.0;
@@ -85,7 +84,7 @@ device_pages : (b : SpansBefore) (x : SpanPart) (xs : List SpanPart) → PAGE * 
 device_pages b x xs h = subst (λ n. PAGE * (b.device_pages + n) ≤ MOST_DEVICE_BYTES) (sym (sum_by-cons device_pages_of x xs)) (exact_device (is_device x.kind) b.device_pages x.pages (sum_by device_pages_of xs) MOST_DEVICE_BYTES (omega arith) h)
 
 last_room : (b p q : Bool) → b ≡ true → (not b || (p && q)) ≡ true → (p ≡ true) × (q ≡ true)
-last_room true p q e h = both_true p q h
+last_room true p q e h = and_parts p q h
 last_room false p q e h = absurd (true≢false (sym e))
 
 with_none : (n m : ℕ) → 4096 * n ≤ m → 4096 * (n + 0) ≤ m

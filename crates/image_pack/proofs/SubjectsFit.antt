@@ -1,15 +1,15 @@
 -- Groups and subjects that keep the conditions of an image fit its form.
-use Rattle.std.proofs.Common.{◌≡◌, refl, sym, arith, ℕ, zero, suc, ◌+◌, ◌<◌, ◌≤◌, ◌^◌, ◌%◌, ◌&&◌, ◌||◌, ◌⊎◌, inl, inr, min, Bool, true, false, true≢false, List, [], ◌∷◌, length, eqb, ne_eqb, nat_le, ◌==◌, le-leb, lt-ltb, Option, Some, None}
+use Rattle.std.proofs.Common.{◌≡◌, refl, sym, arith, ℕ, ◌+◌, ◌<◌, ◌≤◌, ◌^◌, ◌%◌, ◌&&◌, inl, inr, min, Bool, true, true≢false, List, [], ◌∷◌, length, eqb, ne_eqb, nat_le, ◌==◌, le-leb, lt-ltb, Option, Some, None}
 use Rattle.std.specs.List.{All, enumerate_from, list_any}
-use Rattle.std.proofs.lemmas.Bool.{eqb-true, ltb-true}
+use Rattle.std.proofs.lemmas.Bool.{and_from, and_parts, eqb-true, ltb-true, or_cases}
 use Rattle.std.proofs.lemmas.List.Elements.{All-head, All-tail}
 use Rattle.binary_form.specs.Form.{all_fit, field, only, gap, done, number, byte, coded, items}
-use Rattle.binary_form.proofs.Forms.{both_true}
 use Rattle.binary_form.proofs.NameLaws.{name_fits}
 use Rattle.muen_num.specs.declared.limits.TheConstants.{PAGE}
 use Rattle.muen_num.specs.declared.mode.EventMode.{EventMode}
 use Rattle.muen_num.specs.declared.mode.EventMode.TheVariants.{Asap, Async, Own, Switch}
-use Rattle.frame_clock.specs.Plan.{is_group_on}
+use Rattle.muen_num.proofs.Booleans.{first_of_three}
+use Rattle.frame_clock.proofs.SlotLaws.{group_there}
 use Rattle.frame_clock.specs.declared.plan.GroupPart.{GroupPart}
 use Rattle.image_pack.specs.Codes.{event_bytes, event_in, event_of, is_vector, mode_code, mode_of, part_code, vector_code, vector_of}
 use Rattle.image_pack.specs.Image.{event, group, is_eptp, is_group_of, is_kernel_span, next_index, nothing_left, outline, subject}
@@ -21,17 +21,6 @@ use Rattle.image_pack.specs.declared.parts.SpanPart.{SpanPart}
 use Rattle.image_pack.specs.declared.parts.SubjectPart.{SubjectPart}
 
 -- ---- truths and items
-
-pub both : (a b : Bool) → a ≡ true → b ≡ true → (a && b) ≡ true
-both true b h g = g
-both false b h g = h
-
-pub first_of_three : (a b c : Bool) → (a && b && c) ≡ true → a ≡ true
-first_of_three a b c h = (both_true a b (both_true (a && b) c h).0).0
-
-pub one_of : (a b : Bool) → (a || b) ≡ true → (a ≡ true) ⊎ (b ≡ true)
-one_of true b h = inl refl
-one_of false b h = inr h
 
 -- items that fit whatever stands before them
 pub each_fits : {A C : Type 0} (next : C → A → C) (fits : C → A → Type 0) (P : A → Type 0) → ((c : C) (x : A) → P x → fits c x) → (c : C) (xs : List A) → All P xs → all_fit next fits c xs
@@ -64,7 +53,7 @@ vector_decodes mode (Some v) h = let some : 32 ≤ v = h.0 in rw (ne_eqb v 0 (λ
 some_event : (n t : ℕ) (mode : EventMode) (v : Option ℕ) → t < n → IsVector mode v → event_of n t (vector_code v) mode ≡ Some (Some (record { mode = mode; target = t; vector = v }))
 unfolding event_of
 some_event n t mode v low h =
-    rw (both _ _ (lt-ltb t n low) (vector_passes mode v h), vector_decodes mode v h) refl
+    rw (and_from _ _ (lt-ltb t n low) (vector_passes mode v h), vector_decodes mode v h) refl
 
 mode_event : (n t : ℕ) (mode : EventMode) (v : Option ℕ) → t < n → IsVector mode v → event_in n (mode_code mode ∷ t ∷ vector_code v ∷ 0 ∷ []) ≡ Some (Some (record { mode = mode; target = t; vector = v }))
 unfolding event_in mode_of
@@ -87,16 +76,11 @@ events_fit h es k = each_fits (nothing_left h) (λ b. (event h b).fits) (IsEvent
 
 -- ---- numbers that are there
 
-pub group_there : (groups : List GroupPart) (cpu n : ℕ) → is_group_on groups cpu n ≡ true → n < length groups
-group_there [] cpu n h = absurd (true≢false (sym h))
-group_there (g ∷ gs) cpu zero h = omega arith
-group_there (g ∷ gs) cpu (suc n) h = let k = group_there gs cpu n h in omega (arith, k)
-
 -- a number that a span has which passes
 pub passed_low : (p : SpanPart → Bool) (n m : ℕ) → ((s : SpanPart) → p s ≡ true → s.number ≡ n) → (spans : List SpanPart) → All (λ s. s.number < m) spans → list_any p spans ≡ true → n < m
 passed_low p n m is [] all h = absurd (true≢false (sym h))
 passed_low p n m is (s ∷ ss) all h =
-    elim (one_of (p s) (list_any p ss) h) [
+    elim (or_cases (p s) (list_any p ss) h) [
       | inl here ↦
           let e : s.number ≡ n = is s here in
           let low : s.number < m = All-head (λ x. x.number < m) s ss all in
@@ -118,7 +102,7 @@ pub record FewBefore (i : Image) : Type 0 where
   pub spans : All (λ s. s.number < 2 ^ 16) i.spans
 
 eptp_low : (n : ℕ) → is_eptp n ≡ true → n < 2 ^ 40
-eptp_low n h = ltb-true n (2 ^ 40) (both_true (eqb (n % PAGE) 0x1E) _ h).1
+eptp_low n h = ltb-true n (2 ^ 40) (and_parts (eqb (n % PAGE) 0x1E) _ h).1
 
 one_subject : (i : Image) (index : ℕ) (q : SubjectPart) → FewBefore i → IsSubject i (index, q) → (subject (outline i.header i.spans i.plan.groups) index).fits q
 unfolding subject field only gap done byte number items is_group_of
@@ -131,7 +115,7 @@ one_subject i index q few k =
     let low : q.eptp < 2 ^ 40 = eptp_low q.eptp k.eptp in (
       (omega (arith, cpu, cpus), lt-ltb _ _ k.cpu),
       (
-        (omega (arith, there, groups), both _ _ k.in_group k.first),
+        (omega (arith, there, groups), and_from _ _ k.in_group k.first),
         (
           (omega (arith, msrs), le-leb _ _ k.few_msrs),
           (

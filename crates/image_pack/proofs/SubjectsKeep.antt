@@ -1,10 +1,9 @@
 -- Groups and subjects that fit the form of an image keep its conditions.
-use Rattle.std.proofs.Common.{◌≡◌, ◌∙◌, refl, sym, subst, ap, arith, ℕ, zero, suc, ◌+◌, ◌<◌, ◌≤◌, ◌&&◌, ◌||◌, cond, Bool, true, false, true≢false, List, [], ◌∷◌, length, eqb, nat_le, nat_lt, ◌==◌, Option, Some, None}
+use Rattle.std.proofs.Common.{◌≡◌, ◌∙◌, refl, sym, subst, ap, arith, ℕ, zero, suc, ◌+◌, ◌≤◌, ◌&&◌, ◌||◌, cond, Bool, true, false, true≢false, List, [], ◌∷◌, length, eqb, nat_le, nat_lt, ◌==◌, Option, Some, None}
 use Rattle.std.specs.List.{All, enumerate_from}
-use Rattle.std.proofs.lemmas.Bool.{leb-true, ltb-true, ne_eqb}
+use Rattle.std.proofs.lemmas.Bool.{and_parts, leb-true, ltb-true, ne_eqb}
 use Rattle.std.proofs.lemmas.List.Elements.{All-cons, All-nil}
 use Rattle.binary_form.specs.Form.{all_fit, field, only, gap, done, number, byte, coded, items}
-use Rattle.binary_form.proofs.Forms.{both_true}
 use Rattle.binary_form.proofs.NameLaws.{name_kept}
 use Rattle.muen_num.specs.declared.limits.TheConstants.{FIRST_VECTOR, LAST_VECTOR, MOST_MSRS}
 use Rattle.muen_num.specs.declared.mode.EventMode.{EventMode}
@@ -39,7 +38,7 @@ groups_kept h gs f = each_kept (nothing_left h) (λ b. (group h b).fits) (IsGrou
 
 low_vector : (a b c : Bool) → a ≡ false → (a || (b && c)) ≡ true → c ≡ true
 low_vector true b c e h = absurd (true≢false e)
-low_vector false b c e h = (both_true b c h).1
+low_vector false b c e h = (and_parts b c h).1
 
 some_vector : (n : ℕ) → vector_of n ≡ Some n → eqb n 0 ≡ false
 some_vector zero h = absurd (cc (h))
@@ -47,13 +46,13 @@ some_vector (suc n) h = ne_eqb (suc n) 0 (λ e. absurd (omega (arith, e)))
 
 high_vector : (a b c : Bool) → b ≡ false → (a || (b && c)) ≡ true → a ≡ true
 high_vector true b c e h = refl
-high_vector false b c e h = absurd (true≢false (sym (both_true b c h).0 ∙ e))
+high_vector false b c e h = absurd (true≢false (sym (and_parts b c h).0 ∙ e))
 
 -- a vector that is read as it was written
 vector_kept : (mode : EventMode) (v : Option ℕ) → is_vector mode (vector_code v) ≡ true → vector_of (vector_code v) ≡ v → IsVector mode v
 vector_kept mode None h back = low_vector (nat_le FIRST_VECTOR 0 && nat_le 0 LAST_VECTOR) (0 == 0) (is_switch mode) refl h
 vector_kept mode (Some v) h back =
-    let two = both_true (nat_le FIRST_VECTOR v) (nat_le v LAST_VECTOR) (high_vector (nat_le FIRST_VECTOR v && nat_le v LAST_VECTOR) (v == 0) (is_switch mode) (some_vector v back) h) in
+    let two = and_parts (nat_le FIRST_VECTOR v) (nat_le v LAST_VECTOR) (high_vector (nat_le FIRST_VECTOR v && nat_le v LAST_VECTOR) (v == 0) (is_switch mode) (some_vector v back) h) in
     (leb-true FIRST_VECTOR v two.0, leb-true v LAST_VECTOR two.1)
 
 chosen : (b : Bool) (x y : Option EventPart) → cond b (Some x) None ≡ Some y → (b ≡ true) × (x ≡ y)
@@ -70,7 +69,7 @@ some_event : (n : ℕ) (e : EventPart) → event_of n e.target (vector_code e.ve
 unfolding event_of
 some_event n e h =
     let c = chosen (nat_lt e.target n && is_vector e.mode (vector_code e.vector)) (Some (record { mode = e.mode; target = e.target; vector = vector_of (vector_code e.vector) })) (Some e) h in
-    let two = both_true (nat_lt e.target n) (is_vector e.mode (vector_code e.vector)) c.0 in
+    let two = and_parts (nat_lt e.target n) (is_vector e.mode (vector_code e.vector)) c.0 in
     let same : vector_of (vector_code e.vector) ≡ e.vector = one_vector (record { mode = e.mode; target = e.target; vector = vector_of (vector_code e.vector) }) e c.1 in
     (ltb-true e.target n two.0, vector_kept e.mode e.vector two.1 same)
 
@@ -96,7 +95,7 @@ events_kept h es f = record { many = f.0; each = each_kept (nothing_left h) (λ 
 one_subject : (i : Image) (index : ℕ) (q : SubjectPart) → (subject (outline i.header i.spans i.plan.groups) index).fits q → IsSubject i (index, q)
 unfolding subject field only gap done byte number is_group_of
 one_subject i index q f =
-    let two = both_true (is_group_on i.plan.groups q.cpu q.group) (is_first_here i.plan.groups index q.group) f.1.0.1 in
+    let two = and_parts (is_group_on i.plan.groups q.cpu q.group) (is_first_here i.plan.groups index q.group) f.1.0.1 in
     record {
       cpu = ltb-true q.cpu i.header.cpus f.0.1;
       in_group = two.0;

@@ -4,6 +4,7 @@ use Rattle.std.specs.Prelude.{slice_get}
 use Rattle.std.proofs.lemmas.List.{drop-drop}
 use Rattle.std.proofs.lemmas.Option.{get_or_from_slice_get, slice_get_within}
 use Rattle.machine_layout.specs.Memory.{Page, page_of}
+use Rattle.phys_mem.proofs.Rising.{later_spans}
 use Rattle.phys_mem.specs.Frames.{pages_in}
 use Rattle.phys_mem.specs.Spans.{AreSpans, IsSpan, end_of, pages_of_spans}
 use Rattle.phys_mem.specs.declared.spans.MemorySpan.{MemorySpan}
@@ -44,12 +45,6 @@ right (p ∷ ps) ys q h = right_if (eqb p.number q) p.bytes (page_of ps q) (page
 
 -- ---- spans
 
-later : (s : MemorySpan) (ss : List MemorySpan) → AreSpans (s ∷ ss) → AreSpans ss
-later s ss h = record {
-  each = λ k d l. h.each (suc k) d (omega (arith, l));
-  apart = λ i j d a b. h.apart (suc i) (suc j) d (omega (arith, a)) (omega (arith, b));
-}
-
 behind : (address bytes next j : ℕ) → address % 4096 ≡ 0 → bytes % 4096 ≡ 0 → address + bytes ≤ next → address / 4096 + bytes / 4096 ≤ next / 4096 + j
 behind address bytes next j a b h = omega (arith, a, b, h)
 
@@ -71,4 +66,4 @@ in_spans (t ∷ ts) h (suc i) s at j l =
     let address : (get_or ts i s).address ≡ s.address = ap (λ (x : MemorySpan). x.address) (get_or_from_slice_get ts i s s at) in
     right (pages_in (length t.bytes / 4096) (t.address / 4096) t.bytes) (pages_of_spans ts) (s.address / 4096 + j)
     (not_in (length t.bytes / 4096) (t.address / 4096) (s.address / 4096 + j) t.bytes (inr (behind t.address (length t.bytes) s.address j first.aligned first.whole (omega (arith, apart, address)))))
-    ∙ in_spans ts (later t ts h) i s at j l
+    ∙ in_spans ts (later_spans t ts h) i s at j l

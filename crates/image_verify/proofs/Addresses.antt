@@ -2,7 +2,7 @@
 use Rattle.std.proofs.Common.{◌≡◌, ℕ, zero, suc, Bool, true, false, cond, List, [], ◌∷◌, ◌++◌, length, map, Option, Some, None, refl, sym, ap, ap₂, subst, ◌∙◌, arith}
 use Rattle.std.specs.Prelude.{◌==◌, not, option_and_then, option_map, slice_get}
 use Rattle.std.specs.Option.{option_map_or}
-use Rattle.std.specs.List.{AllZip, Contains, cons_option, filter, filter_map, find, flat_map, list_any, zip}
+use Rattle.std.specs.List.{AllZip, Contains, cons_option, filter, filter_map, find, list_any, zip}
 use Rattle.std.proofs.lemmas.Bool.{or_parts, true≢false}
 use Rattle.std.proofs.lemmas.Option.{slice_get-map}
 use Rattle.std.proofs.lemmas.Slice.Zip.{AllZip-long}
@@ -16,26 +16,25 @@ use Rattle.image_checks.specs.Memory.{Span, address_at, by_number, span_at}
 use Rattle.image_checks.specs.Sound.{AreContents, IsSpanOf, address_of, is_kernel, kind_of, thing_spans}
 use Rattle.image_verify.specs.Windows.{is_named, is_span_of, shown_address, shown_span, spans_by_number, state_span}
 use Rattle.muen_num.proofs.Lists.{find-map, map-map}
+use Rattle.muen_num.proofs.Options.{from_some}
 use Rattle.muen_num.specs.Range.{numbers_below}
 use Rattle.muen_num.specs.declared.tag.TagPart.{TagPart}
 use Rattle.policy_lawful.proofs.UniqueNames.{subjects_unique}
 use Rattle.policy_lawful.proofs.WindowsByIndex.{name_there}
 use Rattle.policy_lawful.specs.Contents.{Held}
 use Rattle.policy_lawful.specs.Resolution.{IsResolved, Resolution, source_of, subject_named}
-use Rattle.policy_lawful.specs.Thing.{Thing, channel, component_by, device_memory, provided, region, same_thing, state, thing_tag, things_of}
+use Rattle.policy_lawful.specs.Thing.{Thing, channel, device_memory, provided, region, same_thing, state, thing_tag, things_of}
 use Rattle.policy_lawful.specs.Views.{thing_shown, views_of}
 use Rattle.policy_lawful.specs.declared.resolved.Subject.{Subject}
 use Rattle.policy_lawful.specs.declared.view.Shown.{Shown}
 use Rattle.policy_lawful.specs.declared.view.Shown.TheVariants.{Memory, Channel, Provided, Device, State}
 use Rattle.policy_lawful.specs.declared.view.View.{View}
-use Rattle.policy_lawful.specs.source.Component.{Component}
 use Rattle.policy_lawful.specs.source.Device.{Device as SourceDevice}
 use Rattle.policy_lawful.specs.source.Source.{Source}
 use Rattle.policy_lawful.specs.source.Subject.{Subject as NamedSubject}
-use Rattle.proof_build.proofs.FirstIndexes.{IsFirstAt, beside_first, first_mapped, first_named, none_joined, none_mapped, none_pieces}
+use Rattle.proof_build.proofs.FirstIndexes.{IsFirstAt, beside_first, first_mapped, first_named}
 use Rattle.proof_build.proofs.NamedViews.{shown_name, view_called}
-use Rattle.proof_start.proofs.ListFacts.{from_some}
-use Rattle.policy_lawful.proofs.Items.{provided_by, things_are}
+use Rattle.subject_model.proofs.NoPages.{pages_apart}
 
 -- ---- by kind and name
 
@@ -198,25 +197,6 @@ module _ (p : Source) (files : Held) (i : Image) (keeps : KeepsConditions i) (co
       ∙ ap (λ o. option_map_or (λ (s : SpanPart). s.address) o 0)
       (sym (find-map (is_span_of x) (λ (e : Span). e.0) (by_number i)) ∙ ap (find (is_span_of x)) (spans_are i keeps))
 
-  -- no thing is a state page but those
-  no_provided : (name subject : List ℕ) (o : Option Component) → list_any (λ t. same_thing t (state name)) (provided_by subject o) ≡ false
-  no_provided name subject None = refl
-  no_provided name subject (Some c) = none_mapped (λ t. same_thing t (state name)) (λ x. provided subject x.logical) c.provides (λ x. refl)
-
-  pub no_thing : (name : List ℕ) → list_any (λ t. same_thing t (state name)) (things_of p) ≡ false
-  no_thing name =
-      let test : Thing → Bool = λ t. same_thing t (state name) in
-      let regions = map (λ r. region r.name) p.memory in
-      let channels = map (λ c. channel c.name) p.channels in
-      let brought = flat_map (λ s. provided_by s.name (component_by p s.component)) p.subjects in
-      let devices = flat_map (λ d. map (λ m. device_memory d.name m.name) d.memory) p.devices in
-      ap (list_any test) (things_are p)
-      ∙ none_joined test ((regions ++ channels) ++ brought) devices
-      (none_joined test (regions ++ channels) brought
-      (none_joined test regions channels (none_mapped test (λ r. region r.name) p.memory (λ r. refl)) (none_mapped test (λ c. channel c.name) p.channels (λ c. refl)))
-      (none_pieces test (λ s. provided_by s.name (component_by p s.component)) p.subjects (λ s. no_provided name s.name (component_by p s.component))))
-      (none_pieces test (λ d. map (λ m. device_memory d.name m.name) d.memory) p.devices (λ d. none_mapped test (λ m. device_memory d.name m.name) d.memory (λ m. refl)))
-
   -- where one lies that stands first of its name
   state_lies : (name : List ℕ) (k : ℕ) (q : SubjectPart) → IsFirstAt (λ t. same_thing t (state name)) (map (λ s. state s.name) p.subjects) k → slice_get i.subjects k ≡ Some q
       → address_of p i (state name) ≡ address_at i q.state
@@ -224,7 +204,7 @@ module _ (p : Source) (files : Held) (i : Image) (keeps : KeepsConditions i) (co
   state_lies name k q first at =
       let test : Thing → Bool = λ t. same_thing t (state name) in
       let address : SubjectPart → ℕ = λ q. address_at i q.state in
-      ap (λ o. option_map_or (λ (e : Thing × ℕ). e.1) o 0) (found_behind test (things_of p) (addresses (thing_spans i)) states (no_thing name))
+      ap (λ o. option_map_or (λ (e : Thing × ℕ). e.1) o 0) (found_behind test (things_of p) (addresses (thing_spans i)) states (pages_apart p name))
       ∙ beside_first test (map (λ s. state s.name) p.subjects) (map address i.subjects) k (address_at i q.state) first
       (slice_get-map address i.subjects k ∙ ap (option_map address) at)
 

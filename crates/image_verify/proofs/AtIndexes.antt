@@ -12,12 +12,12 @@ use Rattle.image_checks.specs.Sound.{ForEachSubject}
 use Rattle.image_verify.proofs.Rooms.{named_at, subject_of}
 use Rattle.image_verify.specs.Filled.{IsAt, IsFilled}
 use Rattle.image_verify.specs.Windows.{WithPart}
-use Rattle.muen_num.proofs.Lists.{there}
+use Rattle.muen_num.proofs.Lists.{all_at, there}
+use Rattle.muen_num.proofs.Pairs.{both_at, other_at, zipped_at, zipped_both}
 use Rattle.policy_lawful.specs.Contents.{Held}
 use Rattle.policy_lawful.specs.Resolution.{source_of, subject_named}
 use Rattle.policy_lawful.specs.declared.resolved.Subject.{Subject}
 use Rattle.policy_lawful.specs.source.Subject.{Subject as NamedSubject}
-use Rattle.proof_start.proofs.ListFacts.{all_at, both_at, other_at, zipped_at, zipped_both}
 
 -- what stands at an index of a list that is mapped
 pub mapped_at : {X Y : Type 0} (f : X → Y) (xs : List X) (k : ℕ) (x : X) (d : Y) → slice_get xs k ≡ Some x → get_or (map f xs) k d ≡ f x

@@ -6,7 +6,6 @@ use Rattle.std.proofs.lemmas.Bool.{leb-true, and_parts}
 use Rattle.std.proofs.lemmas.List.{length-map}
 use Rattle.std.proofs.lemmas.List.Elements.{All-cons, All-map, All-nil}
 use Rattle.std.proofs.lemmas.Option.{get_or_from_slice_get, slice_get-map, slice_get_within}
-use Rattle.ept_check.specs.Entries.{pages as pages_below}
 use Rattle.ept_check.specs.Known.{Reads}
 use Rattle.ept_check.specs.Sound.{AreSound, AreWindows, CanBeChecked, HasOnePathPerTable}
 use Rattle.ept_check.specs.Tables.{Tables, addr_of, addresses, is_among, look_at, subject_of, table_read, tables_in, walk_at}
@@ -28,8 +27,10 @@ use Rattle.image_verify.specs.Stand.{StandForTables}
 use Rattle.image_verify.specs.TablePages.{pages_of_all}
 use Rattle.image_verify.specs.Windows.{WithPart, tables_of_subject, tables_of_subjects, windows_on}
 use Rattle.ept_check.specs.Memory.{is_there}
-use Rattle.ept_check.specs.Walks.{addresses_from, addresses_read, entry_address, entry_of, entry_size, goes_on, index_at, is_leaf, is_misconfigured, is_present, bits_of, root_of, walk_from, walk_of}
+use Rattle.ept_check.specs.Walks.{addresses_from, addresses_read, entry_address, entry_of, goes_on, index_at, is_leaf, is_misconfigured, is_present, bits_of, root_of, walk_from, walk_of}
+use Rattle.ept_check.proofs.Sizes.{above_of}
 use Rattle.muen_num.proofs.Lists.{there}
+use Rattle.muen_num.proofs.Options.{from_some}
 use Rattle.muen_num.specs.Access.{kind_bit}
 use Rattle.muen_num.specs.declared.access.AccessKind.{AccessKind}
 use Rattle.muen_num.specs.declared.limits.TheConstants.{MOST_SUBJECTS}
@@ -39,7 +40,6 @@ use Rattle.policy_lawful.specs.Windows.{access_of, windows_of}
 use Rattle.policy_lawful.specs.declared.resolved.Subject.{Subject}
 use Rattle.policy_lawful.specs.source.Source.{Source}
 use Rattle.proof_build.specs.Built.{HasOnePathPerTable as HasOnePath, IsOnePath as IsSamePath}
-use Rattle.proof_start.proofs.ListFacts.{from_some}
 
 -- ---- entries lie at multiples of 8
 
@@ -71,22 +71,6 @@ subject_below q n l = omega (arith, l)
 
 addr_below : (q : ℕ) → 4096 * (q % 68719476736) < 281474976710656
 addr_below q = omega arith
-
-above_0 : (p q : ℕ) → p / 68719476736 ≡ q / 68719476736 → 4096 * (p % 68719476736) / 2097152 ≡ 4096 * (q % 68719476736) / 2097152 → p / 512 ≡ q / 512
-above_0 p q s r = omega (arith, s, r)
-
-above_1 : (p q : ℕ) → p / 68719476736 ≡ q / 68719476736 → 4096 * (p % 68719476736) / 1073741824 ≡ 4096 * (q % 68719476736) / 1073741824 → p / 262144 ≡ q / 262144
-above_1 p q s r = omega (arith, s, r)
-
-above_2 : (p q : ℕ) → p / 68719476736 ≡ q / 68719476736 → 4096 * (p % 68719476736) / 549755813888 ≡ 4096 * (q % 68719476736) / 549755813888 → p / 134217728 ≡ q / 134217728
-above_2 p q s r = omega (arith, s, r)
-
-above : (m p q : ℕ) → m ≤ 3 → subject_of p ≡ subject_of q → addr_of p / entry_size (suc m) ≡ addr_of q / entry_size (suc m) → p / pages_below (suc m) ≡ q / pages_below (suc m)
-above zero p q l s r = above_0 p q s r
-above (suc zero) p q l s r = above_1 p q s r
-above (suc (suc zero)) p q l s r = above_2 p q s r
-above (suc (suc (suc zero))) p q l s r = s
-above (suc (suc (suc (suc m)))) p q l s r = absurd (omega (arith, l))
 
 few_subjects : (n m : ℕ) → n ≤ m → m ≤ 32 → n ≤ 1048576
 few_subjects n m a b = omega (arith, a, b)
@@ -237,7 +221,7 @@ module _ (x : Expansion) (files : Held) (i : Image) (h : IsFilled x files i) (pa
       let f = row (subject_of b) (subject_below b (length v.roots) high) in
       let same : IsSamePath (subject_of a) (subject_of b) m l (addr_of a) (addr_of b) =
       once (subject_of a) (subject_of b) e.part f.part (addr_of a) (addr_of b) m l t e.at.part f.at.part (addr_below a) (addr_below b) (read_at a m t e one) (read_at b l t f other) in
-      record { level = same.depth; above = above m a b one.depth same.subject same.range }
+      record { level = same.depth; above = above_of m a b one.depth same.subject same.range }
 
 -- ---- over what a call has made
 

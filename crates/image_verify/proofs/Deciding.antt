@@ -27,7 +27,8 @@ use Rattle.ept_check.specs.Walks.{root_of}
 use Rattle.muen_num.proofs.NumbersBelow.{length_numbers}
 use Rattle.muen_num.specs.Range.{numbers_below}
 use Rattle.muen_num.specs.Search.{first_of}
-use Rattle.policy_lawful.specs.Resolution.{Resolution, source_of, subject_named}
+use Rattle.policy_lawful.specs.Resolution.{Resolution, source_of}
+use Rattle.policy_lawful.proofs.SourceElements.{many_subjects}
 
 -- ---- indexes
 
@@ -41,17 +42,13 @@ take_short zero xs = omega arith
 take_short (suc n) [] = omega arith
 take_short (suc n) (x ∷ xs) = let rest = take_short n xs in omega (arith, rest)
 
-as_many : (r : Resolution) → length (source_of r).subjects ≡ length r.subjects
-unfolding source_of
-as_many r = length-map r.subjects (subject_named r)
-
 pub in_zip : {Y : Type 0} (r : Resolution) (ys : List Y) (k : ℕ) → k < length (zip (source_of r).subjects ys) → k < length r.subjects
-in_zip r ys k h = let short = zip_short (source_of r).subjects ys in omega (arith, h, short, as_many r)
+in_zip r ys k h = let short = zip_short (source_of r).subjects ys in omega (arith, h, short, many_subjects r)
 
 pub in_common : (r : Resolution) (i : Image) (k : ℕ) → k < length (numbers_below (length (common (source_of r) i))) → k < length r.subjects
 in_common r i k h =
     let short = take_short (length (source_of r).subjects) i.subjects in
-    omega (arith, h, length_numbers (length (common (source_of r) i)), short, as_many r)
+    omega (arith, h, length_numbers (length (common (source_of r) i)), short, many_subjects r)
 
 -- ---- what the kernel keeps, and the plan
 

@@ -1,5 +1,5 @@
 -- Each page of a span of an image is in the image's memory.
-use Rattle.std.proofs.Common.{◌≡◌, ℕ, ◌+◌, ◌-◌, ◌/◌, ◌<◌, ◌≤◌, Bool, true, false, List, Option, Some, refl, sym, ap, ◌∙◌, arith}
+use Rattle.std.proofs.Common.{◌≡◌, ℕ, ◌+◌, ◌-◌, ◌/◌, ◌<◌, ◌≤◌, true, List, Option, Some, sym, ap, ◌∙◌, arith}
 use Rattle.std.specs.Prelude.{is_some, slice_get}
 use Rattle.image_pack.proofs.PartsKeep.{parts_keep}
 use Rattle.image_pack.specs.Parts.{IsParts}
@@ -8,12 +8,6 @@ use Rattle.image_pack.specs.declared.parts.SpanPart.{SpanPart}
 use Rattle.image_checks.specs.Memory.{memory_of}
 use Rattle.ept_check.specs.Memory.{is_there, page_of}
 use Rattle.proof_start.proofs.MemoryFacts.{page_there, same_memory, span_with}
-
--- two that tell of each other are the same
-pub same_bool : (a b : Bool) → (a ≡ true → b ≡ true) → (b ≡ true → a ≡ true) → a ≡ b
-same_bool true b f g = sym (f refl)
-same_bool false true f g = g refl
-same_bool false false f g = refl
 
 pub in_span_there : (i : Image) → IsParts i → (a : ℕ) (s : SpanPart) → slice_get i.spans a ≡ Some s → (t : ℕ) → s.address / 4096 ≤ t → t < s.address / 4096 + s.pages → is_there (memory_of i) t ≡ true
 in_span_there i parts a s at t low high =

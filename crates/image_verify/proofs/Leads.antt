@@ -1,10 +1,8 @@
 -- The windows that are checked lead each access where the policy's do.
-use Rattle.std.proofs.Common.{◌≡◌, ℕ, ◌+◌, ◌-◌, ◌<◌, ◌≤◌, All, Bool, true, false, List, length, map, get_or, Option, Some, None, refl, sym, ap, subst, ◌∙◌, arith}
-use Rattle.std.specs.Prelude.{◌&&◌, nat_le, nat_lt, option_map, slice_get, if◌then◌else◌}
+use Rattle.std.proofs.Common.{◌≡◌, ℕ, ◌+◌, ◌-◌, ◌≤◌, All, Bool, true, List, map, Option, Some, None, refl, sym, ap, subst, ◌∙◌}
+use Rattle.std.specs.Prelude.{◌&&◌, nat_le, nat_lt, option_map, slice_get}
 use Rattle.std.specs.List.{AllPairs, find}
 use Rattle.std.specs.List.Sorted.{IsPermutation}
-use Rattle.std.proofs.lemmas.Bool.{and_parts, leb-true, ltb-true}
-use Rattle.std.proofs.lemmas.List.{get_or-map, length-map}
 use Rattle.std.proofs.lemmas.List.Elements.{All-map}
 use Rattle.std.proofs.lemmas.List.Sorted.{IsPermutation-map}
 use Rattle.std.proofs.lemmas.Option.{get_or_from_slice_get, slice_get_within}
@@ -26,55 +24,29 @@ use Rattle.image_verify.proofs.Rooms.{Fits, as_many, keeps, views_fit}
 use Rattle.image_verify.specs.Filled.{IsFilled}
 use Rattle.image_verify.specs.Windows.{shown_address, spans_by_number, window_on, windows_on}
 use Rattle.ept_check.specs.Memory.{is_there}
-use Rattle.ept_check.specs.walk.Walk.TheVariants.{At, Violation}
-use Rattle.muen_num.proofs.Lists.{find-map, passes_at, there}
+use Rattle.muen_num.proofs.Lists.{find-map, passes_at}
+use Rattle.muen_num.proofs.Pairs.{pairs_mapped, pairs_unmapped}
+use Rattle.muen_num.proofs.Numbers.{not_both}
 use Rattle.muen_num.specs.declared.access.AccessKind.{AccessKind}
 use Rattle.policy_lawful.proofs.SourceElements.{parts_in_range}
 use Rattle.policy_lawful.proofs.WindowsByIndex.{windows_by_index}
 use Rattle.policy_lawful.specs.Contents.{Held}
 use Rattle.policy_lawful.specs.Resolution.{Resolution, source_of, subject_in_range, subject_named}
-use Rattle.policy_lawful.specs.Thing.{Thing}
 use Rattle.policy_lawful.specs.Views.{thing_shown, view_window, views_of}
-use Rattle.policy_lawful.specs.Windows.{access_by, access_of, byte, holds, violation, windows_of}
+use Rattle.policy_lawful.specs.Windows.{access_by, access_of, holds, windows_of}
 use Rattle.policy_lawful.specs.declared.resolved.Subject.{Subject}
 use Rattle.policy_lawful.specs.declared.view.View.{View}
-use Rattle.policy_lawful.specs.Rights.{allows, rights_bits}
-use Rattle.policy_lawful.specs.rights.Rights.{Rights}
+use Rattle.policy_lawful.specs.Rights.{allows}
 use Rattle.policy_lawful.specs.source.Source.{Source}
 use Rattle.proof_build.proofs.WalksByWindow.{ArePassedOnce, found_contained, found_permuted}
 use Rattle.proof_build.proofs.EachInTurn.{All-in_order}
+use Rattle.proof_build.proofs.Walks.{by_rights}
 
 -- ---- pairs of a list that is mapped
-
-pairs_behind : {X Y : Type 0} (f : X → Y) (R : Y → Y → Type 0) (xs : List X) → AllPairs R (map f xs) → AllPairs (λ a b. R (f a) (f b)) xs
-pairs_behind f R xs h i j d p q =
-    let many = length-map xs f in
-    let l : i < length xs = omega (arith, p, q) in
-    subst (λ a. R a (f (get_or xs j d))) (get_or-map f xs i d (f d) l)
-    (subst (R (get_or (map f xs) i (f d))) (get_or-map f xs j d (f d) q) (h i j (f d) p (omega (arith, many, q))))
-
-pairs_onto : {X Y : Type 0} (f : X → Y) (R : Y → Y → Type 0) (xs : List X) → AllPairs (λ a b. R (f a) (f b)) xs → AllPairs R (map f xs)
-pairs_onto f R xs h i j d p q =
-    let many = length-map xs f in
-    let m : j < length xs = omega (arith, many, q) in
-    let l : i < length xs = omega (arith, p, m) in
-    let e = (there xs i l).0 in
-    rw (get_or-map f xs i e d l, get_or-map f xs j e d m) (h i j e p m)
 
 -- the view holds the address
 abbrev pub on_view : ℕ → View → Bool
 on_view addr v = nat_le v.guest addr && nat_lt addr (v.guest + v.size)
-
-not_both : (addr a m b n : ℕ) → a + m ≤ b → (nat_le a addr && nat_lt addr (a + m)) ≡ true → (nat_le b addr && nat_lt addr (b + n)) ≡ true → ⊥
-not_both addr a m b n apart p q =
-    let high = ltb-true addr (a + m) (and_parts (nat_le a addr) (nat_lt addr (a + m)) p).1 in
-    let low = leb-true b addr (and_parts (nat_le b addr) (nat_lt addr (b + n)) q).0 in
-    omega (arith, apart, high, low)
-
--- a byte where there is the right, and the rights that were found where there isn't
-by_rights : (address : Thing → ℕ) (b : Bool) (x : Thing) (to offset : ℕ) (rights : Rights) → address x ≡ to → (if b then At (to + offset) else Violation (rights_bits rights)) ≡ led address (if b then byte x offset else violation (Some rights))
-by_rights address true x to offset rights e = ap (λ n. At (n + offset)) (sym e)
-by_rights address false x to offset rights e = refl
 
 abbrev ends_by : GuestRange → GuestRange → Type 0
 ends_by a b = a.guest + a.size ≤ b.guest
@@ -100,7 +72,7 @@ module _ (x : Expansion) (files : Held) (i : Image) (h : IsFilled x files i) (k 
       let can : CanMap g.views =
       subst (λ g. CanMap g.views) (get_or_from_slice_get x.grants k g g granted_there)
       (can_map_granted r x.grants h.expanded.resolved h.expanded.lawful h.expanded.expansion.grants k g (slice_get_within x.grants k g granted_there)) in
-      pairs_onto on is_behind g.views (pairs_behind view_range ends_by g.views can.apart)
+      pairs_mapped on is_behind g.views (pairs_unmapped view_range ends_by g.views can.apart)
 
   -- **the windows** can be checked
   pub are_windows : AreWindows (is_there (memory_of i)) (windows_on r i s.name g.views)

@@ -1,10 +1,10 @@
 -- What windows show lies whole in spans of the image.
-use Rattle.std.proofs.Common.{◌≡◌, ℕ, ◌+◌, ◌*◌, ◌/◌, ◌%◌, ◌<◌, ◌≤◌, All, true, List, length, map, get_or, Some, sym, ap, subst, ◌∙◌, inl, inr, arith}
+use Rattle.std.proofs.Common.{◌≡◌, ℕ, ◌+◌, ◌*◌, ◌/◌, ◌%◌, ◌<◌, ◌≤◌, All, true, length, map, get_or, Some, sym, ap, subst, ◌∙◌, inl, inr, arith}
 use Rattle.std.specs.Prelude.{◌&&◌, nat_le, nat_lt, not, option_map, slice_get}
 use Rattle.std.specs.Option.{option_map_or}
 use Rattle.std.specs.List.{find, list_any}
 use Rattle.std.proofs.lemmas.Bool.{and_parts, eqb-true, leb-true, true≢false}
-use Rattle.std.proofs.lemmas.List.{get_or-map, length-map}
+use Rattle.std.proofs.lemmas.List.{length-map}
 use Rattle.std.proofs.lemmas.List.Elements.{All-contains_itself, All-from_recursion}
 use Rattle.std.proofs.lemmas.List.Sums.{AllPass-from_list_all}
 use Rattle.std.proofs.lemmas.Option.{slice_get-map}
@@ -17,13 +17,15 @@ use Rattle.image_pack.specs.declared.parts.Image.{Image}
 use Rattle.image_pack.specs.declared.parts.SpanPart.{SpanPart}
 use Rattle.image_checks.specs.Memory.{Span, bytes_of, by_number, memory_of, span_at}
 use Rattle.image_checks.specs.Sound.{IsSpanOf, address_of, is_kernel, thing_spans}
-use Rattle.image_verify.proofs.Addresses.{HasSpan, address_shown, no_thing, passes_as, state_is, there_too, thing_beside}
+use Rattle.image_verify.proofs.Addresses.{HasSpan, address_shown, passes_as, state_is, there_too, thing_beside}
 use Rattle.image_verify.proofs.InSpans.{in_span_there}
 use Rattle.image_verify.specs.Filled.{IsFilled}
 use Rattle.image_verify.specs.Windows.{is_span_of, shown_address, spans_by_number, window_on}
 use Rattle.expand_kernel.specs.Expansion.{Expansion}
 use Rattle.ept_check.specs.Memory.{is_there}
-use Rattle.muen_num.proofs.Lists.{passes_at}
+use Rattle.muen_num.proofs.Lists.{all_at, all_unmapped, passes_at}
+use Rattle.muen_num.proofs.Options.{from_some}
+use Rattle.muen_num.proofs.Pairs.{first_at, other_at}
 use Rattle.muen_num.specs.Range.{numbers_below}
 use Rattle.muen_num.specs.declared.limits.TheConstants.{GUEST_END}
 use Rattle.policy_lawful.proofs.KeptViews.{views_kept}
@@ -39,11 +41,12 @@ use Rattle.policy_lawful.specs.declared.resolved.Subject.{Subject}
 use Rattle.policy_lawful.specs.declared.view.View.{View}
 use Rattle.policy_lawful.specs.source.Source.{Source}
 use Rattle.policy_lawful.specs.source.Subject.{Subject as NamedSubject}
-use Rattle.proof_start.proofs.ListFacts.{all_at, any_passing, filtered_at, first_at, found_at, found_some, from_some, kept_at, other_at}
+use Rattle.proof_start.proofs.ListFacts.{any_passing, filtered_at, found_at, found_some, kept_at}
 use Rattle.proof_start.proofs.MemoryFacts.{span_by}
 use Rattle.proof_start.proofs.SubjectFacts.{subject_spans}
 use Rattle.proof_start.proofs.WindowFacts.{IsOn, IsOnState, IsOnThing, each_window}
 use Rattle.proof_start.proofs.KeyLaws.{same_things}
+use Rattle.subject_model.proofs.NoPages.{pages_apart}
 
 -- ---- numbers
 
@@ -64,12 +67,6 @@ low_page address start k e l = omega (arith, e, l)
 
 high_page : (address start size pages k : ℕ) → address ≡ start → start % 4096 ≡ 0 → size ≤ 4096 * pages → 4096 * k < address + size → k < start / 4096 + pages
 high_page address start size pages k e a r l = omega (arith, e, a, r, l)
-
--- what holds of each that a list is mapped to
-unmapped : {X Y : Type 0} (f : X → Y) (P : Y → Type 0) (xs : List X) → All P (map f xs) → All (λ x. P (f x)) xs
-unmapped f P xs h j d l =
-    let many = length-map xs f in
-    subst P (get_or-map f xs j d (f d) l) (h j (f d) (omega (arith, many, l)))
 
 -- ---- rooms
 
@@ -108,7 +105,7 @@ module _ (x : Expansion) (files : Held) (i : Image) (h : IsFilled x files i) whe
   has_span (channel a) e = tt
   has_span (provided s a) e = tt
   has_span (device_memory d a) e = tt
-  has_span (state a) e = absurd (true≢false (sym e ∙ no_thing p files i keeps h.contents a))
+  has_span (state a) e = absurd (true≢false (sym e ∙ pages_apart p a))
 
   -- the span of a thing that is the same is its
   passing : (y t : Thing) (e : Span) → HasSpan t → IsSpanOf p files y e → same_thing y t ≡ true → is_span_of t e.0 ≡ true
@@ -197,7 +194,7 @@ module _ (x : Expansion) (files : Held) (i : Image) (h : IsFilled x files i) whe
       let in_range : subject_in_range r s ≡ true = passes_at (subject_in_range r) r.subjects k s (parts_in_range r h.expanded.resolved.in_range).subjects at in
       let all : All (IsOn p k n) (windows_of p n) = All-from_recursion (IsOn p k n) (windows_of p n) (each_window p h.expanded.lawful k n (named_at k s at)) in
       let moved : All (IsOn p k n) (map (view_window r s.name) (views_of r s)) = subst (All (IsOn p k n)) (windows_by_index r s h.expanded.resolved in_range) all in
-      let each = unmapped (view_window r s.name) (IsOn p k n) (views_of r s) moved in
+      let each = all_unmapped (view_window r s.name) (IsOn p k n) (views_of r s) moved in
       let guests = AllPass-from_list_all (λ (v : View). is_guest v.guest v.size) (views_of r s) (views_kept r h.expanded.lawful h.expanded.resolved k s at) in
       λ j d l.
       let v = get_or (views_of r s) j d in

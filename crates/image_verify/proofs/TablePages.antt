@@ -2,16 +2,17 @@
 use Rattle.std.proofs.Common.{◌≡◌, ℕ, zero, suc, ◌+◌, ◌*◌, ◌/◌, ◌%◌, ◌<◌, ◌≤◌, Bool, true, false, cond, List, [], ◌∷◌, ◌++◌, length, map, Some, refl, sym, ap, ap₂, subst, ◌∙◌, inl, inr, arith, append_assoc, length-append, eq-eqb}
 use Rattle.std.specs.Prelude.{◌==◌, ◌&&◌, ◌||◌, nat_le, nat_lt, slice_get, slice_index}
 use Rattle.std.specs.List.{All, AllPairs, list_any, sum_by}
+use Rattle.std.specs.Cmp.{both_ways}
 use Rattle.std.proofs.lemmas.Bool.{and_from, and_parts, cases_lt, le-leb, leb-true, lt-ltb, ltb-true, eqb-true, or_left, or_right}
 use Rattle.std.proofs.lemmas.List.{length-map, map-append}
 use Rattle.std.proofs.lemmas.List.Elements.{All-head, All-tail}
 use Rattle.std.proofs.lemmas.List.Folds.{list_any-append}
 use Rattle.std.proofs.lemmas.List.Sums.{sum_by-cons}
+use Rattle.std.proofs.Math.Bool.{or-false}
 use Rattle.ept_check.specs.Sound.{AreTables}
 use Rattle.ept_check.specs.Tables.{is_among}
 use Rattle.image_pack.proofs.PartsKeep.{parts_keep}
 use Rattle.image_pack.specs.Codes.{is_device, part_code}
-use Rattle.image_pack.specs.ImageConditions.{KeepsConditions}
 use Rattle.image_pack.specs.Parts.{IsParts}
 use Rattle.image_pack.specs.SpanConditions.{IsSpan, end_of, pages_of}
 use Rattle.image_pack.specs.declared.parts.Image.{Image}
@@ -20,13 +21,14 @@ use Rattle.image_pack.specs.declared.parts.SpanKind.TheVariants.{Own, Channel, P
 use Rattle.image_pack.specs.declared.parts.SpanPart.{SpanPart}
 use Rattle.image_checks.specs.Memory.{memory_of}
 use Rattle.image_checks.specs.Sound.{is_in_tables, is_kernel, is_tables}
-use Rattle.image_verify.proofs.InSpans.{in_span_there, same_bool}
+use Rattle.image_verify.proofs.InSpans.{in_span_there}
 use Rattle.image_verify.specs.TablePages.{pages_of_all, pages_of_tables}
 use Rattle.muen_num.specs.Range.{numbers_below}
 use Rattle.muen_num.specs.declared.tag.TagPart.TheVariants.{Ept}
 use Rattle.muen_num.proofs.NumbersBelow.{length_numbers}
+use Rattle.muen_num.proofs.Lists.{all_at}
 use Rattle.phys_mem.specs.Frames.{IsRising}
-use Rattle.proof_start.proofs.ListFacts.{all_at, any_passing}
+use Rattle.proof_start.proofs.ListFacts.{any_passing}
 
 -- ---- numbers in a row
 
@@ -39,22 +41,18 @@ row_more a n = map-append (λ k. a + k) (numbers_below n) (n ∷ [])
 among_more : (a n t : ℕ) → is_among (row a (suc n)) t ≡ is_among (row a n) t || ((a + n == t) || false)
 among_more a n t = ap (λ xs. is_among xs t) (row_more a n) ∙ list_any-append (λ m. m == t) (row a n) ((a + n) ∷ [])
 
-or_no : (b : Bool) → (b || false) ≡ b
-or_no true = refl
-or_no false = refl
-
 row_has : (a n t : ℕ) → a ≤ t → t < a + n → is_among (row a n) t ≡ true
 row_has a zero t low high = absurd (omega (arith, low, high))
 row_has a (suc n) t low high =
     among_more a n t
     ∙ elim (cases_lt t (a + n)) [
       | inl less ↦ or_left (is_among (row a n) t) ((a + n == t) || false) (row_has a n t low less)
-      | inr more ↦ or_right (is_among (row a n) t) ((a + n == t) || false) (or_no (a + n == t) ∙ eq-eqb (a + n) t (omega (arith, more, high)))
+      | inr more ↦ or_right (is_among (row a n) t) ((a + n == t) || false) (or-false (a + n == t) ∙ eq-eqb (a + n) t (omega (arith, more, high)))
     ]
 
 only_more : (b : Bool) (a n t : ℕ) → (b ≡ true → (a ≤ t) × (t < a + n)) → (b || ((a + n == t) || false)) ≡ true → (a ≤ t) × (t < a + suc n)
 only_more true a n t before h = let both = before refl in (both.0, omega (arith, both.1))
-only_more false a n t before h = let same = eqb-true (a + n) t (sym (or_no (a + n == t)) ∙ h) in (omega (arith, same), omega (arith, same))
+only_more false a n t before h = let same = eqb-true (a + n) t (sym (or-false (a + n == t)) ∙ h) in (omega (arith, same), omega (arith, same))
 
 row_only : (a n t : ℕ) → is_among (row a n) t ≡ true → (a ≤ t) × (t < a + n)
 row_only a zero t h = absurd (cc (h))
@@ -62,7 +60,7 @@ row_only a (suc n) t h = only_more (is_among (row a n) t) a n t (row_only a n t)
 
 in_row : (a n t : ℕ) → is_among (row a n) t ≡ (nat_le a t && nat_lt t (a + n))
 in_row a n t =
-    same_bool (is_among (row a n) t) (nat_le a t && nat_lt t (a + n))
+    both_ways (is_among (row a n) t) (nat_le a t && nat_lt t (a + n))
     (λ h. let both = row_only a n t h in and_from (nat_le a t) (nat_lt t (a + n)) (le-leb a t both.0) (lt-ltb t (a + n) both.1))
     (λ h. let both = and_parts (nat_le a t) (nat_lt t (a + n)) h in row_has a n t (leb-true a t both.0) (ltb-true t (a + n) both.1))
 
@@ -87,13 +85,13 @@ among_all (s ∷ ss) t =
 
 same_low : (address at : ℕ) → address % 4096 ≡ 0 → nat_le address at ≡ nat_le (address / 4096) (at / 4096)
 same_low address at a =
-    same_bool (nat_le address at) (nat_le (address / 4096) (at / 4096))
+    both_ways (nat_le address at) (nat_le (address / 4096) (at / 4096))
     (λ h. let l = leb-true address at h in le-leb (address / 4096) (at / 4096) (omega (arith, a, l)))
     (λ h. let l = leb-true (address / 4096) (at / 4096) h in le-leb address at (omega (arith, a, l)))
 
 same_high : (address pages at : ℕ) → address % 4096 ≡ 0 → at % 8 ≡ 0 → nat_le (at + 8) (address + 4096 * pages) ≡ nat_lt (at / 4096) (address / 4096 + pages)
 same_high address pages at a b =
-    same_bool (nat_le (at + 8) (address + 4096 * pages)) (nat_lt (at / 4096) (address / 4096 + pages))
+    both_ways (nat_le (at + 8) (address + 4096 * pages)) (nat_lt (at / 4096) (address / 4096 + pages))
     (λ h. let l = leb-true (at + 8) (address + 4096 * pages) h in lt-ltb (at / 4096) (address / 4096 + pages) (omega (arith, a, l)))
     (λ h. let l = ltb-true (at / 4096) (address / 4096 + pages) h in le-leb (at + 8) (address + 4096 * pages) (omega (arith, a, b, l)))
 
@@ -202,9 +200,6 @@ few_pages : (n sum most : ℕ) → n ≤ sum → 4096 * sum ≤ 67108864 → n �
 few_pages n sum most a b = omega (arith, a, b)
 
 module _ (i : Image) (parts : IsParts i) (pages : List ℕ) (is : pages ≡ pages_of_all i.spans) where
-  keeps : KeepsConditions i
-  keeps = parts_keep i parts
-
   -- such a page is one of a span
   pub record OfSpan (t : ℕ) : Type 0 where
     pub index : ℕ
@@ -224,14 +219,14 @@ module _ (i : Image) (parts : IsParts i) (pages : List ℕ) (is : pages ≡ page
   -- **the tables** that are declared
   pub are_tables : AreTables (memory_of i) pages
   are_tables = record {
-    rising = subst IsRising (sym is) (rising_from 0 (pages_of_all i.spans) (rise_all 0 i.spans keeps.spans.each keeps.spans.ascend (λ k d l. omega arith)));
+    rising = subst IsRising (sym is) (rising_from 0 (pages_of_all i.spans) (rise_all 0 i.spans (parts_keep i parts).spans.each (parts_keep i parts).spans.ascend (λ k d l. omega arith)));
     there = λ t h. let o = of_span t h in in_span_there i parts o.index o.span o.here t o.low o.high;
     small = λ t h.
         let o = of_span t h in
-        let span = all_at IsSpan i.spans o.index o.span keeps.spans.each o.here in
+        let span = all_at IsSpan i.spans o.index o.span (parts_keep i parts).spans.each o.here in
         page_below o.span.address o.span.pages t span.aligned span.low o.high;
     few =
         let long = all_long i.spans in
         let many : length pages ≡ length (pages_of_all i.spans) = ap length is in
-        few_pages (length pages) (sum_by pages_of i.spans) 0 (omega (arith, long, many)) keeps.spans.room.pages;
+        few_pages (length pages) (sum_by pages_of i.spans) 0 (omega (arith, long, many)) (parts_keep i parts).spans.room.pages;
   }

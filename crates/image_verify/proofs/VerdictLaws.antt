@@ -14,7 +14,6 @@ use Rattle.ept_check.specs.declared.types.TableFault.{TableFault}
 use Rattle.expand_kernel.specs.Expansion.{Expansion, IsExpanded}
 use Rattle.image_checks.proofs.OwnPageLaws.{each_shares_none}
 use Rattle.image_checks.proofs.PlanFaults.{a_plan_fault_is_none_of_a_sound_image, none_first, one_first, one_plan_fault}
-use Rattle.image_checks.proofs.Telling.{one_of}
 use Rattle.image_checks.specs.Contents.{IsFirstOther, owner_at}
 use Rattle.image_checks.specs.OwnPages.{SharesWithNone}
 use Rattle.image_pack.specs.Parts.{IsParts}
@@ -36,6 +35,7 @@ use Rattle.image_verify.specs.declared.fault.Owner.{Owner}
 use Rattle.image_verify.specs.declared.fault.Owner.TheVariants.{Named}
 use Rattle.ept_check.specs.Memory.{is_there}
 use Rattle.muen_num.specs.Range.{numbers_below}
+use Rattle.muen_num.proofs.Options.{one_value}
 use Rattle.policy_lawful.specs.Contents.{Held}
 use Rattle.policy_lawful.specs.Resolution.{Resolution, source_of}
 use Rattle.policy_lawful.specs.Thing.{Thing, thing_tag, things_of}
@@ -89,7 +89,7 @@ one_other p files i a b x y =
         | inr l ↦ absurd (y.here (x.before y.k l))
       ]
     ] in
-    one_of (Some a) a b refl (sym x.is ∙ ap (owner_at p i) same ∙ y.is)
+    one_value (Some a) a b refl (sym x.is ∙ ap (owner_at p i) same ∙ y.is)
 
 -- ---- what the kernel keeps, and the plan
 
@@ -114,7 +114,7 @@ one_owner r i OwnPages a b x y =
     let parts = common (source_of r) i in
     x.is ∙ ap (subject_owner r) (one_first (SharesWithNone parts) (numbers_below (length parts)) x.k y.k x.first y.first) ∙ sym y.is
 one_owner r i Plan a b x y =
-    x.is ∙ ap (plan_owner r i) (one_of (Some x.differs) x.differs y.differs refl (one_plan_fault (source_of r) i (Some x.differs) (Some y.differs) x.first y.first)) ∙ sym y.is
+    x.is ∙ ap (plan_owner r i) (one_value (Some x.differs) x.differs y.differs refl (one_plan_fault (source_of r) i (Some x.differs) (Some y.differs) x.first y.first)) ∙ sym y.is
 one_owner r i Contents a b x y = absurd x
 one_owner r i TableEntries a b x y = absurd x
 
@@ -177,7 +177,7 @@ none_found r (Some f) h = absurd (none-some (named r f) h)
 
 twice_found : (r : Resolution) (o : Option TableFault) (f : Fault) → Some f ≡ option_map (named r) o → ((t : TableFault) → Some t ≡ o → t.kind ≡ TwiceFault) → IsTwice f
 twice_found r None f h k = absurd (none-some f (sym h))
-twice_found r (Some t) f h k = record { subject = subject_name r t.subject; addr = t.addr; is = one_of (Some f) f (named r t) refl h ∙ ap (by_kind r t) (k t refl) }
+twice_found r (Some t) f h k = record { subject = subject_name r t.subject; addr = t.addr; is = one_value (Some f) f (named r t) refl h ∙ ap (by_kind r t) (k t refl) }
 
 -- ---- laws
 

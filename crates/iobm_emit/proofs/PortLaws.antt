@@ -1,11 +1,11 @@
 -- Laws of granted ports and of their bits.
-use Rattle.std.proofs.Common.{◌≡◌, sym, refl, ℕ, zero, suc, ◌+◌, ◌-◌, ◌<◌, ◌≤◌, ◌&&◌, ◌||◌, Bool, true, false, not, min, List, [], ◌∷◌, length, get_or, take, arith, inl, inr, zero-add, lt-ltb, le-ltb, le-leb, nat_le}
-use Rattle.std.specs.List.{list_any, list_all}
+use Rattle.std.proofs.Common.{◌≡◌, sym, refl, ℕ, ◌+◌, ◌-◌, ◌<◌, ◌≤◌, ◌&&◌, Bool, true, false, not, min, List, length, get_or, take, arith, inl, inr, zero-add, lt-ltb, le-ltb, le-leb, nat_le}
 use Rattle.std.proofs.lemmas.Bool.{cases_lt}
 use Rattle.std.proofs.lemmas.Bool.Decides.{nat_tests}
 use Rattle.std.proofs.lemmas.List.{take_all}
-use Rattle.std.proofs.lemmas.List.Folds.{list_any_more, list_any-append, list_all-append}
-use Rattle.muen_num.specs.Range.{numbers_below}
+use Rattle.std.proofs.lemmas.List.Folds.{list_any_more}
+use Rattle.muen_num.proofs.Booleans.{not_or}
+use Rattle.muen_num.proofs.NumbersBelow.{all_or_one}
 use Rattle.machine_layout.specs.Exits.{is_set, port_is_set, port_exits}
 use Rattle.machine_layout.specs.Bitmaps.{is_between}
 use Rattle.policy_types.specs.declared.resources.PortRange.{PortRange}
@@ -14,10 +14,6 @@ use Rattle.iobm_emit.specs.Ports.{has_port, is_granted, is_granted_access}
 -- the bits of a range
 range_bits : (r : PortRange) (base bit : ℕ) → bit < 0x8000 → is_between (min (r.start - base) 0x8000) (min (r.end + 1 - base) 0x8000) bit ≡ has_port r (base + bit)
 range_bits r base bit h = grind (arith, nat_tests)
-
-not_or : (a b : Bool) → not (a || b) ≡ (not a && not b)
-not_or true b = refl
-not_or false b = refl
 
 -- with one more range
 pub granted_more : (ports : List PortRange) (i base bit first end : ℕ) (r : PortRange) (old new : Bool) → i < length ports → bit < 0x8000 → first ≡ min ((get_or ports i r).start - base) 0x8000 → end ≡ min ((get_or ports i r).end + 1 - base) 0x8000 → old ≡ not (is_granted (take i ports) (base + bit)) → new ≡ (old && not (is_between first end bit)) → new ≡ not (is_granted (take (i + 1) ports) (base + bit))
@@ -36,17 +32,6 @@ pub granted_all : (ports : List PortRange) (i port : ℕ) (b : Bool) → length 
 granted_all ports i port b h p = rw (← take_all i ports h) p
 
 -- ---- accesses
-
-one_more : (x y u v : Bool) → x ≡ not y → u ≡ not v → (x || (u || false)) ≡ not (y && (v && true))
-one_more x true u true p q = rw (p, q) refl
-one_more x true u false p q = rw (p, q) refl
-one_more x false u v p q = rw p refl
-
-any_is : (f g : ℕ → Bool) (n : ℕ) → ((k : ℕ) → k < n → f k ≡ not (g k)) → list_any f (numbers_below n) ≡ not (list_all g (numbers_below n))
-any_is f g zero h = refl
-any_is f g (suc n) h =
-    let rest = any_is f g n (λ k l. h k (omega arith)) in
-    rw (list_any-append f (numbers_below n) (n ∷ []), list_all-append g (numbers_below n) (n ∷ [])) (one_more _ _ _ _ rest (h n (omega arith)))
 
 -- each port has the bit of its bitmap
 port_is : (ports : List PortRange) (a b : List ℕ) → ((bit : ℕ) → bit < 0x8000 → is_set a bit ≡ not (is_granted ports (0 + bit))) → ((bit : ℕ) → bit < 0x8000 → is_set b bit ≡ not (is_granted ports (0x8000 + bit))) → (port : ℕ) → port < 0x10000 → port_is_set a b port ≡ not (is_granted ports port)
@@ -69,5 +54,5 @@ exits_is ports a b p q port size =
       | inl l ↦
           rw (lt-ltb 0x10000 (port + size) l, past port size l) refl
       | inr l ↦
-          rw (le-ltb 0x10000 (port + size) l, le-leb (port + size) 0x10000 l) (any_is (λ k. port_is_set a b (port + k)) (λ k. is_granted ports (port + k)) size (λ k h. port_is ports a b p q (port + k) (omega arith)))
+          rw (le-ltb 0x10000 (port + size) l, le-leb (port + size) 0x10000 l) (all_or_one (λ k. port_is_set a b (port + k)) (λ k. is_granted ports (port + k)) size (λ k h. port_is ports a b p q (port + k) (omega arith)))
     ]

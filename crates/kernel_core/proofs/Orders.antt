@@ -5,7 +5,7 @@ use Rattle.std.specs.List.{All}
 use Rattle.std.proofs.lemmas.List.Elements.{All-filter}
 use Rattle.std.proofs.lemmas.Option.{get_or_from_slice_get, none-some, slice_get-map, slice_get_past, slice_get_within}
 use Rattle.muen_num.specs.Range.{numbers_below}
-use Rattle.muen_num.proofs.NumbersBelow.{length_numbers}
+use Rattle.muen_num.proofs.NumbersBelow.{length_numbers, one_more}
 use Rattle.device_bench.specs.Devices.{IsLow, inputs_at}
 use Rattle.device_bench.specs.declared.effect.Effect.{Effect}
 use Rattle.device_bench.specs.record.Record.{Record}
@@ -18,9 +18,6 @@ use Rattle.kernel_core.specs.declared.setup.Setup.{Setup}
 
 pub past_numbers : (n k : ℕ) → n ≤ k → slice_get (numbers_below n) k ≡ None
 past_numbers n k l = slice_get_past (numbers_below n) k (omega (arith, length_numbers n, l))
-
-one_more : (n : ℕ) → numbers_below (n + 1) ≡ numbers_below n ++ n ∷ []
-one_more n = ap numbers_below (add-one n)
 
 -- ---- inputs
 

@@ -6,11 +6,11 @@ use Rattle.machine_layout.specs.Memory.{le_number}
 use Rattle.machine_layout.specs.Laws.{AreasAreReadBack}
 use Rattle.machine_layout.proofs.StoreLaws.{le_number-le_bytes}
 
-length-entry : (e : AreaEntry) → length (entry_bytes e) ≡ entry_size
+pub length-entry : (e : AreaEntry) → length (entry_bytes e) ≡ entry_size
 unfolding entry_bytes
 length-entry e = refl
 
-length-area : (es : List AreaEntry) → length (area_bytes es) ≡ entry_size * length es
+pub length-area : (es : List AreaEntry) → length (area_bytes es) ≡ entry_size * length es
 length-area [] = refl
 length-area (e ∷ es) = length-append (entry_bytes e) (area_bytes es) ∙ omega (arith, length-entry e, length-area es)
 

@@ -1,10 +1,11 @@
 -- Laws of bitmaps.
-use Rattle.std.proofs.Common.{◌≡◌, ap, refl, ℕ, ◌+◌, ◌*◌, ◌/◌, ◌%◌, ◌<◌, ◌≤◌, ◌&&◌, ◌==◌, ◌^◌, Bool, true, false, not, List, length, get_or, set, replicate, arith, inl, inr, min, w8, get_or-set_same, get_or-set_other, eq-eqb, ne_eqb, bit_and}
+use Rattle.std.proofs.Common.{◌≡◌, ap, refl, sym, ℕ, ◌+◌, ◌*◌, ◌/◌, ◌%◌, ◌<◌, ◌≤◌, ◌&&◌, ◌==◌, ◌^◌, Bool, true, false, not, List, length, get_or, set, replicate, arith, inl, inr, min, w8, get_or-set_same, get_or-set_other, eq-eqb, ne_eqb, bit_and}
 use Rattle.std.specs.Int.{bit_at, bit_not}
 use Rattle.std.proofs.lemmas.Bool.{cases_eq}
 use Rattle.std.proofs.lemmas.List.{get_or-replicate}
 use Rattle.std.proofs.lemmas.Nat.Bits.{bit_at_clear_same, bit_at_clear_other, bit_at_ones}
 use Rattle.std.proofs.lemmas.Bool.Decides.{nat_tests}
+use Rattle.std.proofs.Math.Bool.{and-false, and-true}
 use Rattle.machine_layout.specs.Exits.{is_set}
 use Rattle.machine_layout.specs.Bitmaps.{is_between}
 
@@ -20,23 +21,15 @@ all_set size n h =
     let offset : n % 8 < 8 = omega arith in
     rw (get_or-replicate {A = ℕ} size (n / 8) 255 0 within, ones (n % 8) offset) refl
 
-and_true : (b : Bool) → b ≡ (b && true)
-and_true true = refl
-and_true false = refl
-
-and_false : (b : Bool) → false ≡ (b && false)
-and_false true = refl
-and_false false = refl
-
 -- a bit of the byte in which a bit was cleared
 in_byte : (b bit n : ℕ) → n / 8 ≡ bit / 8 → (bit_at (bit_and b (bit_not w8 (1 * 2 ^ (bit % 8) % 2 ^ 8))) (n % 8) == 1) ≡ ((bit_at b (n % 8) == 1) && not (n == bit))
 in_byte b bit n e =
     elim (cases_eq n bit) [
       | inl s ↦
-          rw (s, bit_at_clear_same w8 b (bit % 8) (omega arith), eq-eqb bit bit refl) (and_false _)
+          rw (s, bit_at_clear_same w8 b (bit % 8) (omega arith), eq-eqb bit bit refl) (sym (and-false _))
       | inr d ↦
           let apart : n % 8 ≡ bit % 8 → _ = λ s. d (omega arith) in
-          rw (bit_at_clear_other w8 b (bit % 8) (omega arith) (n % 8) (omega arith) apart, ne_eqb n bit d) (and_true _)
+          rw (bit_at_clear_other w8 b (bit % 8) (omega arith) (n % 8) (omega arith) apart, ne_eqb n bit d) (sym (and-true _))
     ]
 
 -- with one bit cleared
@@ -48,7 +41,7 @@ bit_cleared bitmap bit b n h e =
       | inl s ↦ rw (s, get_or-set_same bitmap (bit / 8) b 0 within, e) (in_byte (get_or bitmap (bit / 8) 0) bit n s)
       | inr d ↦
           let apart : n ≡ bit → _ = λ s. d (ap (λ k. k / 8) s) in
-          rw (get_or-set_other bitmap (bit / 8) (n / 8) b 0 d, ne_eqb n bit apart) (and_true _)
+          rw (get_or-set_other bitmap (bit / 8) (n / 8) b 0 d, ne_eqb n bit apart) (sym (and-true _))
     ]
 
 between_more : (first bit end n : ℕ) → first ≤ bit → bit < end → (not (is_between first (min bit end) n) && not (n == bit)) ≡ not (is_between first (min (bit + 1) end) n)

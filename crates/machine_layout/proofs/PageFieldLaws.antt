@@ -5,20 +5,10 @@ use Rattle.std.proofs.lemmas.Bool.{cases_lt}
 use Rattle.std.proofs.lemmas.List.{get_or_past}
 use Rattle.std.proofs.lemmas.Nat.{le_bytes_8}
 use Rattle.std.proofs.Math.Nat.{div-div-eq-div-mul, div-one}
-use borrow.Rule.Slice.PartMut.{put_mid}
 use Rattle.machine_layout.specs.Memory.{over, le_number, le_bytes}
 use Rattle.machine_layout.specs.PageFields.{number_at, padded}
 
 -- ---- bytes over others
-
--- where there is room, it is the part before, the bytes, and the part after
-pub put_is_over : (xs : List ℕ) (at : ℕ) (bs : List ℕ) → at + length bs ≤ length xs → put_mid at (length bs) xs bs ≡ over xs at bs
-put_is_over [] zero [] h = refl
-put_is_over [] zero (b ∷ bs) h = absurd (omega arith)
-put_is_over [] (suc at) bs h = absurd (omega arith)
-put_is_over (x ∷ xs) zero [] h = refl
-put_is_over (x ∷ xs) zero (b ∷ bs) h = ap (λ ys. b ∷ ys) (put_is_over xs zero bs (omega arith))
-put_is_over (x ∷ xs) (suc at) bs h = ap (λ ys. x ∷ ys) (put_is_over xs at bs (omega arith))
 
 over-append : (front rest bs : List ℕ) → over (front ++ rest) (length front) bs ≡ front ++ over rest 0 bs
 over-append [] rest bs = refl

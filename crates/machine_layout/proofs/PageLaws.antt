@@ -1,7 +1,8 @@
 -- What a change of a page leaves as it was.
-use Rattle.std.proofs.Common.{◌≡◌, ◌⊎◌, inl, inr, ℕ, ◌+◌, ◌*◌, ◌/◌, ◌%◌, ◌≤◌, cond, eqb, List, [], ◌∷◌, take, drop, Option, Some, None, refl, sym, ap, ◌∙◌, arith}
+use Rattle.std.proofs.Common.{◌≡◌, ◌⊎◌, inl, inr, ℕ, ◌+◌, ◌*◌, ◌/◌, ◌%◌, ◌≤◌, cond, eqb, List, [], ◌∷◌, take, drop, Some, None, refl, sym, ap, ◌∙◌, arith}
 use Rattle.std.specs.Prelude.{option_map, is_some}
 use Rattle.std.proofs.lemmas.Bool.{cases_eq, eq-eqb, ne_eqb}
+use Rattle.muen_num.proofs.Options.{is_some-option_map}
 use Rattle.machine_layout.specs.Memory.{Page, page_of, is_there, change, le_number, load_of}
 use Rattle.machine_layout.specs.Laws.{OtherPagesStay, ThePageChanges, PagesStayThere, NoPageIsMade, OtherPagesLoadTheSame, ChangesDifferInTheirPage}
 
@@ -18,10 +19,6 @@ page_of-change_same [] k f = refl
 page_of-change_same (p ∷ m) k f =
     let ih = page_of-change_same m k f in
     elim (cases_eq p.number k) [ inl e ↦ rw (eq-eqb p.number k e) (rw (eq-eqb p.number k e) refl) | inr n ↦ rw (ne_eqb p.number k n) (rw (ne_eqb p.number k n) ih) ]
-
-is_some-option_map : {A B : Type 0} (f : A → B) (o : Option A) → is_some (option_map f o) ≡ is_some o
-is_some-option_map f None = refl
-is_some-option_map f (Some x) = refl
 
 -- the same pages are there
 pub is_there-change : (m : List Page) (k : ℕ) (f : List ℕ → List ℕ) (q : ℕ) → is_there (change m k f) q ≡ is_there m q

@@ -8,6 +8,7 @@ use borrow.Rule.Slice.PartMut.{put_mid}
 use Rattle.machine_layout.specs.Memory.{Page, page_of, change, over, read, write, le_number, le_bytes, load_of, store_of}
 use Rattle.machine_layout.specs.Laws.{OtherBytesStay, TheStoredIsLoaded, LengthsStay, StoresDifferInTheirBytes}
 use Rattle.machine_layout.proofs.PageLaws.{page_of-change_other, page_of-change_same, is_there-change}
+use Rattle.machine_layout.proofs.PageFieldLaws.{length-le_bytes}
 
 -- where it has room, it is the part before, the bytes, and the part after
 pub over_is : (xs : List ℕ) (o : ℕ) (bs : List ℕ) → o + length bs ≤ length xs → over xs o bs ≡ put_mid o (length bs) xs bs
@@ -17,10 +18,6 @@ over_is [] (suc o) bs h = absurd (omega arith)
 over_is (x ∷ xs) zero [] h = refl
 over_is (x ∷ xs) zero (b ∷ bs) h = ap (λ ys. b ∷ ys) (over_is xs zero bs (omega arith))
 over_is (x ∷ xs) (suc o) bs h = ap (λ ys. x ∷ ys) (over_is xs o bs (omega arith))
-
-pub length-le_bytes : (n v : ℕ) → length (le_bytes n v) ≡ n
-length-le_bytes zero v = refl
-length-le_bytes (suc n) v = ap suc (length-le_bytes n (v / 256))
 
 -- a part of a frame that was spelt over
 pub spelt : (xs ys : List ℕ) (o n k v : ℕ) → o + n ≤ length xs → k ≡ n → ys ≡ le_bytes n v → put_mid o k xs ys ≡ over xs o (le_bytes n v)

@@ -1,13 +1,15 @@
 -- Laws of areas of MSRs.
-use Rattle.std.proofs.Common.{◌≡◌, ◌∙◌, ap, sym, refl, ℕ, zero, suc, ◌+◌, ◌-◌, ◌*◌, ◌/◌, ◌<◌, ◌≤◌, ◌^◌, List, [], ◌∷◌, ◌++◌, length, map, get_or, take, arith, append_assoc, append-nil, length-append, flat_map, ap₂}
+use Rattle.std.proofs.Common.{◌≡◌, ◌∙◌, ap, sym, refl, ℕ, suc, ◌+◌, ◌-◌, ◌*◌, ◌/◌, ◌<◌, ◌≤◌, ◌^◌, List, [], ◌∷◌, ◌++◌, length, map, get_or, take, arith, append_assoc, append-nil, length-append, flat_map, ap₂}
 use Rattle.std.proofs.lemmas.List.{take_more, map-append, length-map, take_all}
 use Rattle.std.proofs.lemmas.Grind.{flat_map-append}
 use Rattle.std.proofs.lemmas.List.Sums.{sum_by-cons, sum_by_more, sum_by_more_le}
 use Rattle.muen_num.specs.Range.{numbers_below}
+use Rattle.muen_num.proofs.NumbersBelow.{length_numbers}
 use Rattle.machine_layout.specs.Exits.{AreaEntry, area_bytes, entry_bytes, entry_size}
 use Rattle.machine_layout.specs.Memory.{le_bytes, over}
 use Rattle.machine_layout.specs.PageFields.{padded}
 use Rattle.machine_layout.proofs.PageFieldLaws.{over_padded, length-le_bytes}
+use Rattle.machine_layout.proofs.AreaLaws.{length-area}
 use Rattle.policy_types.specs.declared.resources.MsrGrant.{MsrGrant}
 use Rattle.msrbm_emit.specs.Area.{area_of, count_of, entries_of, entry_of, size_of}
 
@@ -15,18 +17,6 @@ use Rattle.msrbm_emit.specs.Area.{area_of, count_of, entries_of, entry_of, size_
 entry_words : (index : ℕ) → index < 2 ^ 32 → entry_bytes (entry_of index) ≡ le_bytes 8 index ++ le_bytes 8 0
 unfolding entry_bytes
 entry_words index h = let none : index / 256 / 256 / 256 / 256 ≡ 0 = omega arith in rw none refl
-
-length-numbers_below : (n : ℕ) → length (numbers_below n) ≡ n
-length-numbers_below zero = refl
-length-numbers_below (suc n) = length-append (numbers_below n) (n ∷ []) ∙ omega (arith, length-numbers_below n)
-
-pub length-entry : (e : AreaEntry) → length (entry_bytes e) ≡ entry_size
-unfolding entry_bytes
-length-entry e = refl
-
-pub length-area : (es : List AreaEntry) → length (area_bytes es) ≡ entry_size * length es
-length-area [] = refl
-length-area (e ∷ es) = length-append (entry_bytes e) (area_bytes es) ∙ omega (arith, length-entry e, length-area es)
 
 -- one more entry behind those that are there
 pub entry_put : (size at index : ℕ) (front old mid new : List ℕ) → index < 2 ^ 32 → length front ≡ at → at + entry_size ≤ size → old ≡ padded size front → mid ≡ over old at (le_bytes 8 index) → new ≡ over mid (at + 8) (le_bytes 8 0) → new ≡ padded size (front ++ entry_bytes (entry_of index))
@@ -43,7 +33,7 @@ abbrev pub front_of : ℕ → ℕ → List AreaEntry
 front_of start n = map (λ k. entry_of (start + k)) (numbers_below n)
 
 length-front_of : (start n : ℕ) → length (front_of start n) ≡ n
-length-front_of start n = length-map (numbers_below n) (λ k. entry_of (start + k)) ∙ length-numbers_below n
+length-front_of start n = length-map (numbers_below n) (λ k. entry_of (start + k)) ∙ length_numbers n
 
 area_push : (es : List AreaEntry) (e : AreaEntry) → area_bytes (es ++ e ∷ []) ≡ area_bytes es ++ entry_bytes e
 area_push es e = flat_map-append entry_bytes es (e ∷ []) ∙ ap (λ x. area_bytes es ++ x) (append-nil (entry_bytes e))
@@ -71,16 +61,16 @@ range_ends m i h l = let e : i - m.start ≡ size_of m = omega arith in ap (fron
 
 -- ---- grant by grant
 
-length-entries_of : (m : MsrGrant) → length (entries_of m) ≡ size_of m
+pub length-entries_of : (m : MsrGrant) → length (entries_of m) ≡ size_of m
 unfolding entries_of
 length-entries_of m = length-front_of m.start (size_of m)
 
-length-area_of : (msrs : List MsrGrant) → length (area_of msrs) ≡ count_of msrs
+pub length-area_of : (msrs : List MsrGrant) → length (area_of msrs) ≡ count_of msrs
 unfolding area_of count_of
 length-area_of [] = refl
 length-area_of (m ∷ msrs) = length-append (entries_of m) (area_of msrs) ∙ (ap₂ (λ a b. a + b) (length-entries_of m) (length-area_of msrs) ∙ sym (sum_by-cons size_of m msrs))
 
-count_more : (msrs : List MsrGrant) (i : ℕ) (d : MsrGrant) → i < length msrs → count_of (take (i + 1) msrs) ≡ count_of (take i msrs) + size_of (get_or msrs i d)
+pub count_more : (msrs : List MsrGrant) (i : ℕ) (d : MsrGrant) → i < length msrs → count_of (take (i + 1) msrs) ≡ count_of (take i msrs) + size_of (get_or msrs i d)
 unfolding count_of
 count_more msrs i d h = sum_by_more size_of msrs i d h
 

@@ -1,8 +1,10 @@
 -- Laws of the bits of MSRs.
-use Rattle.std.proofs.Common.{◌≡◌, ◌∙◌, ap, sym, refl, ℕ, ◌+◌, ◌-◌, ◌*◌, ◌<◌, ◌≤◌, ◌&&◌, ◌||◌, ◌⊎◌, Bool, true, false, not, List, length, get_or, take, arith, Option, Some, None, nat_le}
+use Rattle.std.proofs.Common.{◌≡◌, ◌∙◌, ap, sym, refl, ℕ, ◌+◌, ◌-◌, ◌*◌, ◌<◌, ◌≤◌, ◌&&◌, ◌⊎◌, Bool, true, false, not, List, length, get_or, take, arith, Option, Some, None, nat_le}
 use Rattle.std.proofs.lemmas.Bool.Decides.{nat_tests}
 use Rattle.std.proofs.lemmas.List.Folds.{list_any_more}
+use Rattle.std.proofs.Math.Bool.{and-true}
 use Rattle.muen_num.specs.declared.limits.TheConstants.{LOW_MSR_LAST, HIGH_MSR_FIRST, HIGH_MSR_LAST}
+use Rattle.muen_num.proofs.Booleans.{not_or}
 use Rattle.machine_layout.specs.Exits.{is_set, low_part, high_part, msr_bit, exits_by, msr_exits}
 use Rattle.machine_layout.specs.Bitmaps.{is_between}
 use Rattle.policy_types.specs.declared.resources.MsrGrant.{MsrGrant}
@@ -48,10 +50,6 @@ apart start end index first bit false h f b = grind (arith, nat_tests)
 outside : (start end index : ℕ) → Lies start end → (LOW_MSR_LAST < index) × ((index < HIGH_MSR_FIRST) ⊎ (HIGH_MSR_LAST < index)) → (nat_le start index && nat_le index end) ≡ false
 outside start end index h n = grind (arith, nat_tests)
 
-and_true : (b : Bool) → (b && true) ≡ b
-and_true true = refl
-and_true false = refl
-
 and_none : (b h : Bool) → b ≡ (b && not (h && false))
 and_none true true = refl
 and_none true false = refl
@@ -69,13 +67,13 @@ by_bit old new first end has (Some bit) cleared p q = cleared bit ∙ ap (λ x. 
 
 by_other : (old new : List ℕ) (first end : ℕ) (o : Option ℕ) → Clears old new first end → ((bit : ℕ) → o ≡ Some bit → is_between first end bit ≡ false) → exits_by new o ≡ exits_by old o
 by_other old new first end None cleared p = refl
-by_other old new first end (Some bit) cleared p = cleared bit ∙ (ap (λ x. is_set old bit && not x) (p bit refl) ∙ and_true _)
+by_other old new first end (Some bit) cleared p = cleared bit ∙ (ap (λ x. is_set old bit && not x) (p bit refl) ∙ and-true _)
 
 pub run_cleared : (m : MsrGrant) (first : ℕ) (write : Bool) (old new : List ℕ) → is_covered m ≡ true → allows m write ≡ true → msr_bit m.start write ≡ Some first → Clears old new first (first + (m.end - m.start + 1)) → (index : ℕ) → msr_exits new index write ≡ (msr_exits old index write && not (has_msr m index && allows m write))
 unfolding msr_exits
 run_cleared m first write old new covered allowed begins cleared index =
     let lies = covered_tells m covered in
-    rw (allowed, and_true (has_msr m index)) (by_bit old new first _ (has_msr m index) (msr_bit index write) cleared (λ bit e. in_run m.start m.end index first bit write lies (bit_tells m.start write first begins) (bit_tells index write bit e)) (λ e. outside m.start m.end index lies (none_tells index write e)))
+    rw (allowed, and-true (has_msr m index)) (by_bit old new first _ (has_msr m index) (msr_bit index write) cleared (λ bit e. in_run m.start m.end index first bit write lies (bit_tells m.start write first begins) (bit_tells index write bit e)) (λ e. outside m.start m.end index lies (none_tells index write e)))
 
 pub run_of_other : (m : MsrGrant) (first : ℕ) (write : Bool) (old new : List ℕ) → is_covered m ≡ true → msr_bit m.start write ≡ Some first → Clears old new first (first + (m.end - m.start + 1)) → (index : ℕ) → msr_exits new index (not write) ≡ msr_exits old index (not write)
 unfolding msr_exits
@@ -87,10 +85,6 @@ run_of_other m first write old new covered begins cleared index =
 below : (index : ℕ) (write : Bool) (bit : ℕ) → Stands index write bit → bit < 32768
 below index true bit h = grind arith
 below index false bit h = grind arith
-
-not_or : (a b : Bool) → not (a || b) ≡ (not a && not b)
-not_or true b = refl
-not_or false b = refl
 
 -- every MSR exits where all bits are set
 pub all_exit : (bitmap : List ℕ) (size : ℕ) → size ≡ 4096 → ((n : ℕ) → n < 8 * size → is_set bitmap n ≡ true) → (index : ℕ) (write : Bool) → msr_exits bitmap index write ≡ true

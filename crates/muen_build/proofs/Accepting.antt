@@ -5,6 +5,7 @@ use Rattle.std.specs.List.{All}
 use Rattle.std.specs.FinMap.{insert}
 use Rattle.std.proofs.lemmas.List.Elements.{All-nil, All-weaker}
 use Rattle.muen_num.specs.Answers.{Answers, Explains}
+use Rattle.muen_num.proofs.Lookups.{same_self}
 use Rattle.muen_outside.specs.Looks.{ShowAll}
 use Rattle.muen_outside.specs.States.{History, Look, looked}
 use Rattle.muen_outside.specs.Store.{Store, find_bytes}
@@ -21,7 +22,7 @@ use Rattle.muen_build.proofs.Held.{things_held}
 use Rattle.policy_lawful.specs.Resolution.{IsResolved, Resolution, source_of}
 use Rattle.region_alloc.specs.Placement.{no_room}
 use Rattle.muen_build.proofs.FilledByIndex.{contents_filled}
-use Rattle.muen_build.proofs.Looks.{grows_not, same_self, stops_so}
+use Rattle.muen_build.proofs.Looks.{grows_not, stops_so}
 use Rattle.muen_build.proofs.Refusing.{built_so, contents_first, not_lawful, room_last}
 use Rattle.muen_build.specs.Filling.{filled_of}
 

@@ -4,10 +4,11 @@ use Rattle.std.specs.Str.{bytes_eq}
 use Rattle.std.specs.Option.{option_or}
 use Rattle.std.specs.List.{flat_map, list_any}
 use Rattle.std.proofs.lemmas.List.Folds.{list_any-append, list_any_at}
+use Rattle.std.proofs.lemmas.Bool.{or_right}
 use Rattle.muen_num.specs.Search.{as_refusal, first_in}
 use Rattle.muen_num.proofs.FirstSteps.{first_step}
 use Rattle.muen_num.proofs.Lists.{list_any-map}
-use Rattle.muen_num.proofs.SearchLaws.{first_in-append, first_over-map}
+use Rattle.muen_num.proofs.SearchLaws.{first_in-append, first_in-flat_map, first_over-map}
 use Rattle.muen_outside.specs.Looks.{ShowAll}
 use Rattle.muen_outside.specs.States.{History, Look}
 use Rattle.muen_outside.specs.Store.{Store}
@@ -164,21 +165,12 @@ ok_both (Err e) P Q p q = tt
 
 -- ---- those of memory, then those of components
 
--- a list that is joined of many is searched one after another
-first_in-flat_map : {X Y O : Type 0} (at : Y → Option O) (f : X → List Y) (xs : List X) → first_in at (flat_map f xs) ≡ first_in (λ x. first_in at (f x)) xs
-first_in-flat_map at f [] = refl
-first_in-flat_map at f (x ∷ xs) = first_in-append at (f x) (flat_map f xs) ∙ ap (option_or (first_in at (f x))) (first_in-flat_map at f xs)
-
 list_any-flat_map : {X Y : Type 0} (test : Y → Bool) (f : X → List Y) (xs : List X) → list_any test (flat_map f xs) ≡ list_any (λ x. list_any test (f x)) xs
 list_any-flat_map test f [] = refl
 list_any-flat_map test f (x ∷ xs) = list_any-append test (f x) (flat_map f xs) ∙ ap (λ b. list_any test (f x) || b) (list_any-flat_map test f xs)
 
 or_left : (a b : Bool) → a ≡ true → (a || b) ≡ true
 or_left a b h = ap (λ x. x || b) h
-
-or_right : (a b : Bool) → b ≡ true → (a || b) ≡ true
-or_right true b h = refl
-or_right false b h = h
 
 module _ (r : Resolution) (h : IsResolved r) where
   all_is : (files : Store) → of_all (filled_of (source_of r)) files ≡ option_or (of_all (map filled_region r.memory) files) (of_brought r.components r.subjects files)

@@ -2,21 +2,19 @@
 use Rattle.std.proofs.Common.{◌≡◌, ℕ, ◌≤◌, ◌<◌, Bool, true, false, cond, List, [], ◌∷◌, length, Option, Some, None, refl, sym, ap, ◌∙◌, arith}
 use Rattle.std.specs.Prelude.{nat_lt, if◌then◌else◌}
 use Rattle.std.specs.Str.{bytes_eq}
-use Rattle.std.specs.FinMap.{get, insert, get-insert, same_map, slice_cmp-IsAntisymmetric, nat_cmp-IsAntisymmetric}
-use Rattle.std.specs.Cmp.Lexicographic.{nat_list_cmp_total, texts_ties}
+use Rattle.std.specs.FinMap.{get, insert, same_map, slice_cmp-IsAntisymmetric, nat_cmp-IsAntisymmetric}
+use Rattle.std.specs.Cmp.Lexicographic.{nat_list_cmp_total}
 use Rattle.std.proofs.lemmas.Bool.{lt-ltb}
 use Rattle.std.proofs.lemmas.Bool.Decides.{nat_tests}
 use Rattle.std.proofs.lemmas.Slice.Eq.{bytes_eq-Decides}
 use Rattle.muen_outside.specs.Looks.{Shows}
 use Rattle.muen_outside.specs.Store.{Store, whole, long, find_bytes, reading_of}
+use Rattle.muen_outside.proofs.HeldMap.{get-insert_bytes}
 use Rattle.muen_num.specs.declared.limits.TheConstants.{POLICY_MOST}
 use Rattle.muen_build.specs.Accepting.{Files, insert_all}
 use Rattle.muen_build.specs.Looks.{document_look}
 
 -- ---- what stands under a name
-
-get-insert_bytes : (m : Store) (k v q : List ℕ) → get (insert m k v) q ≡ cond (bytes_eq q k) (Some v) (get m q)
-get-insert_bytes m k v q = get-insert nat_list_cmp_total m k v q ∙ ap (λ t. cond t (Some v) (get m q)) (sym (texts_ties q k))
 
 module _ (m : Store) (name document file : List ℕ) where
   -- under the document's

@@ -18,7 +18,7 @@ use Rattle.policy_lawful.specs.source.Source.{Source}
 use Rattle.muen_num.specs.Search.{first_in}
 use Rattle.muen_num.specs.declared.tag.TagPart.TheVariants.{Named, Whole}
 use Rattle.muen_num.specs.declared.tag.Tag.{Tag}
-use Rattle.muen_num.proofs.SearchLaws.{first_in-append, first_over-map}
+use Rattle.muen_num.proofs.SearchLaws.{first_in-append, first_over-map, option_or-None}
 use Rattle.policy_lawful.specs.source.Component.{Component}
 use Rattle.policy_lawful.specs.ByIndex.{provided_at}
 use Rattle.muen_build.specs.Filling.{Filled, brought_at, filled, filled_at, filled_by, filled_of, filled_provided, filled_refused, filled_region}
@@ -31,17 +31,13 @@ abbrev filled_item : Item → Filled
 filled_item i = filled (thing_tag i.thing) i.size i.content
 
 -- what stands second and last of four lists is passed over
-or_none : {O : Type 0} (o : Option O) → option_or o None ≡ o
-or_none None = refl
-or_none (Some x) = refl
-
 first_passing : {X O : Type 0} (at : X → Option O) (a b c d : List X) → first_in at b ≡ None → first_in at d ≡ None → first_in at (a ++ b ++ c ++ d) ≡ first_in at (a ++ c)
 first_passing at a b c d second last =
     first_in-append at (a ++ b ++ c) d
     ∙ ap (option_or (first_in at (a ++ b ++ c))) last
-    ∙ or_none (first_in at (a ++ b ++ c))
+    ∙ option_or-None (first_in at (a ++ b ++ c))
     ∙ first_in-append at (a ++ b) c
-    ∙ ap (λ o. option_or o (first_in at c)) (first_in-append at a b ∙ ap (option_or (first_in at a)) second ∙ or_none (first_in at a))
+    ∙ ap (λ o. option_or o (first_in at c)) (first_in-append at a b ∙ ap (option_or (first_in at a)) second ∙ option_or-None (first_in at a))
     ∙ sym (first_in-append at a c)
 
 first_none : {X Y O : Type 0} (at : Y → Option O) (f : X → Y) (xs : List X) → ((x : X) → at (f x) ≡ None) → first_in at (map f xs) ≡ None

@@ -13,6 +13,7 @@ use Rattle.image_emit.specs.Made.{thing_bytes}
 use Rattle.muen_num.specs.Search.{first_in}
 use Rattle.muen_num.specs.declared.limits.TheConstants.{COMPONENT_FILE_MOST}
 use Rattle.muen_num.proofs.SearchLaws.{none_append, none_both}
+use Rattle.muen_num.proofs.Lookups.{other_way, same_self}
 use Rattle.muen_outside.specs.Looks.{AreOthers, ShowAll, ShowsAnswer}
 use Rattle.muen_outside.specs.States.{Look}
 use Rattle.muen_outside.specs.Store.{Store, whole, long, reading_of, find_bytes}
@@ -30,7 +31,6 @@ use Rattle.policy_lawful.specs.source.Content.{Content}
 use Rattle.policy_lawful.specs.source.Content.TheVariants.{Zero, Fill, Inline, File}
 use Rattle.muen_build.proofs.FilledByIndex.{contents_filled, filled_by_index}
 use Rattle.muen_build.proofs.Documents.{given_there, not_given, whole_found}
-use Rattle.muen_build.proofs.Looks.{other_way, same_self}
 use Rattle.muen_build.proofs.Steps.{found_reads, others_found}
 
 -- ---- without a file

@@ -1,24 +1,16 @@
 -- Looks, one after another.
 use Rattle.std.proofs.Common.{◌≡◌, inl, inr, ℕ, true, false, List, [], ◌∷◌, ◌++◌, Option, Some, None, IfSome, sym, ap, subst, ◌∙◌, append-nil, append_assoc}
 use Rattle.std.specs.Str.{bytes_eq}
-use Rattle.std.specs.Cmp.Lexicographic.{nat_list_eq_equiv}
 use Rattle.std.proofs.lemmas.List.Elements.{All-append, All-nil, All-weaker}
 use Rattle.muen_outside.specs.Looks.{AreOthers, AreSingle, IsPossibleEnd, ShowAll, Shows}
 use Rattle.muen_outside.specs.States.{History, Look, looked}
 use Rattle.muen_outside.specs.Store.{Store}
+use Rattle.muen_outside.proofs.Explained.{told_none}
 use Rattle.policy_lawful.specs.refusal.Refusal.{Refusal}
 use Rattle.muen_build.specs.Accepting.{ErrorSays, Files, Grows, IsAskedBy, Names, Stops, WithGiven}
 use Rattle.muen_build.specs.declared.accepted.BuildError.{BuildError}
 use Rattle.muen_build.specs.declared.accepted.BuildError.TheVariants.{FileFault, Refused}
-
--- ---- names
-
-pub same_self : (x : List ℕ) → bytes_eq x x ≡ true
-same_self x = nat_list_eq_equiv.refl x
-
--- another name, told the other way round
-pub other_way : (a b : List ℕ) → bytes_eq a b ≡ false → bytes_eq b a ≡ false
-other_way a b ne = sym (nat_list_eq_equiv.symm a b) ∙ ne
+use Rattle.muen_num.proofs.Lookups.{other_way}
 
 -- ---- files and looks
 
@@ -37,10 +29,6 @@ show_both files (l ∷ ls) more h k = (h.0, show_both files ls more h.1 k)
 pub told_both : (held : Option Store) (ls more : List Look) → IfSome held (λ m. ShowAll m ls) → IfSome held (λ m. ShowAll m more) → IfSome held (λ m. ShowAll m (ls ++ more))
 told_both None ls more h k = tt
 told_both (Some m) ls more h k = show_both m ls more h k
-
-pub told_none : (held : Option Store) → IfSome held (λ m. ShowAll m [])
-told_none None = tt
-told_none (Some m) = tt
 
 pub told_one : (held : Option Store) (l : Look) → IfSome held (λ m. Shows m l) → IfSome held (λ m. ShowAll m (l ∷ []))
 told_one None l h = tt

@@ -26,6 +26,7 @@ use Rattle.policy_lawful.specs.source.Provided.{Provided}
 use Rattle.policy_lawful.specs.source.Region.{Region as SourceRegion}
 use Rattle.region_alloc.specs.Placed.{Placement}
 use Rattle.proof_build.specs.Mapped.{kernel_first}
+use Rattle.subject_emit.proofs.Numbered.{as_many}
 
 -- ---- lists
 
@@ -94,15 +95,6 @@ module _ (given found : Files) where
       ++ brought_sized r.components r.subjects i)
       ∙ ap (λ ns. ns ++ map (λ (r : Region). r.size) (flat_map (brought_at r.components) r.subjects)) (sym (map-append (λ (r : Region). r.size) (map own_region r.memory) (map channel_region r.channels)))
       ∙ sym (map-append (λ (r : Region). r.size) (map own_region r.memory ++ map channel_region r.channels) (flat_map (brought_at r.components) r.subjects))
-
-  as_many : (cs : List Component) (ss : List Subject) → length (flat_map (brought_at cs) ss) ≡ length (flat_map (λ s. provided_at cs s.component) ss)
-  unfolding brought_at
-  as_many cs [] = refl
-  as_many cs (s ∷ ss) =
-      let own = provided_at cs s.component in
-      length-append (map (provided_region s.name) own) (flat_map (brought_at cs) ss)
-      ∙ ap₂ (λ n m. n + m) (length-map own (provided_region s.name)) (as_many cs ss)
-      ∙ sym (length-append own (flat_map (λ s. provided_at cs s.component) ss))
 
   first_many : (r : Resolution) → length (first_regions r) ≡ kernel_first r 0
   first_many r =

@@ -7,6 +7,7 @@ use Rattle.std.proofs.lemmas.List.{length-take, length-drop, map_push}
 use Rattle.std.proofs.lemmas.List.Elements.{All-cons, All-nil}
 use Rattle.std.proofs.lemmas.Slice.Eq.{bytes_eq-Decides}
 use Rattle.muen_num.specs.declared.limits.TheConstants.{COMPONENT_FILE_MOST}
+use Rattle.muen_num.proofs.Lookups.{same_self}
 use Rattle.muen_outside.specs.Looks.{AreOthers, ShowAll, ShowsAnswer}
 use Rattle.muen_outside.specs.States.{History, Look, look}
 use Rattle.muen_outside.specs.Store.{Store, Reading, whole, absent, long, reading_of, find_bytes}
@@ -20,7 +21,7 @@ use Rattle.muen_build.specs.Refusals.{file_refused, too_long_for}
 use Rattle.muen_build.specs.declared.accepted.BuildError.{BuildError}
 use Rattle.muen_build.specs.declared.accepted.BuildError.TheVariants.{FileFault, Refused}
 use Rattle.muen_build.proofs.Documents.{admitted, given_there, not_given, too_many}
-use Rattle.muen_build.proofs.Looks.{others_push, same_self, show_last, single_push, stops_here, told_one}
+use Rattle.muen_build.proofs.Looks.{others_push, show_last, single_push, stops_here, told_one}
 use Rattle.muen_build.specs.Filling.{Filled}
 
 -- ---- a file that is given

@@ -18,9 +18,9 @@ use Rattle.muen_build.specs.Looks.{names_file}
 use Rattle.muen_build.specs.Refusals.{contents_refused}
 use Rattle.muen_build.specs.declared.accepted.BuildError.{BuildError}
 use Rattle.muen_build.specs.declared.accepted.BuildError.TheVariants.{FileFault, Refused}
-use Rattle.muen_build.proofs.Looks.{same_self}
 use Rattle.policy_lawful.specs.Resolution.{Resolution, source_of}
 use Rattle.policy_lawful.specs.source.Source.{Source}
+use Rattle.muen_num.proofs.Lookups.{same_self}
 
 find_both : (name : List ℕ) (xs ys : Files) → find_bytes name (xs ++ ys) ≡ option_or (find_bytes name xs) (find_bytes name ys)
 find_both name [] ys = refl

@@ -19,7 +19,7 @@ module _ {X : Type 0} (P : X → Type 0) where
   each_flat f h [] = tt
   each_flat f h (y ∷ ys) = each_append (f y) (flat_map f ys) (h y) (each_flat f h ys)
 
-  each_cons : (o : Option X) (xs : List X) → IfSome o P → AllByRecursion P xs → AllByRecursion P (cons_option o xs)
+  pub each_cons : (o : Option X) (xs : List X) → IfSome o P → AllByRecursion P xs → AllByRecursion P (cons_option o xs)
   each_cons None xs h a = a
   each_cons (Some x) xs h a = (h, a)
 

@@ -1,6 +1,6 @@
 -- Elements of a list, and what tests, maps and filters tell of them.
-use Rattle.std.proofs.Common.{◌≡◌, ◌<◌, ◌≤◌, Bool, true, false, cond, List, [], ◌∷◌, ◌++◌, length, map, filter, Option, Some, None, refl, sym, ap, subst, ◌∙◌, ◌⊎◌, inl, inr, arith}
-use Rattle.std.specs.Prelude.{◌||◌}
+use Rattle.std.proofs.Common.{◌≡◌, ℕ, zero, suc, ◌<◌, ◌≤◌, Bool, true, false, cond, List, [], ◌∷◌, ◌++◌, length, map, filter, Option, Some, None, refl, sym, ap, subst, ◌∙◌, ◌⊎◌, inl, inr, arith}
+use Rattle.std.specs.Prelude.{◌||◌, slice_get}
 use Rattle.std.specs.List.{All, AllByRecursion, cons_option, filter_map, find, flat_map, list_all, list_any}
 use Rattle.std.proofs.lemmas.Bool.{and_parts, or_cases, or_left, or_right}
 use Rattle.std.proofs.lemmas.List.Elements.{All-from_recursion, recursion_from_All}
@@ -9,6 +9,20 @@ use Rattle.std.proofs.lemmas.List.Elements.{All-from_recursion, recursion_from_A
 abbrev pub In : {X : Type 0} → X → List X → Type 0
 In x [] = ⊥
 In x (y ∷ ys) = (y ≡ x) ⊎ In x ys
+
+-- ---- and its index
+
+-- what stands at an index is an element
+pub at_in : {X : Type 0} (xs : List X) (k : ℕ) (x : X) → slice_get xs k ≡ Some x → In x xs
+at_in [] k x h = absurd (cc)
+at_in (y ∷ ys) zero x h = inl cc
+at_in (y ∷ ys) (suc k) x h = inr (at_in ys k x h)
+
+-- and an element stands at one
+pub index_in : {X : Type 0} (xs : List X) (x : X) → In x xs → (k : ℕ) × (slice_get xs k ≡ Some x)
+index_in [] x i = absurd i
+index_in (y ∷ ys) x (inl e) = (0, ap Some e)
+index_in (y ∷ ys) x (inr i) = let later = index_in ys x i in (suc later.0, later.1)
 
 -- ---- what holds of each
 
@@ -167,6 +181,12 @@ flat_some f (x ∷ xs) y i =
       | inl j ↦ record { one = x; within = inl refl; part = j }
       | inr j ↦ let p = flat_some f xs y j in record { one = p.one; within = inr p.within; part = p.part }
     ]
+
+-- and one of that list is one of all
+pub flat_in : {X Y : Type 0} (f : X → List Y) (xs : List X) (x : X) (y : Y) → In x xs → In y (f x) → In y (flat_map f xs)
+flat_in f [] x y i j = absurd i
+flat_in f (z ∷ zs) x y (inl same) j = left_in (f z) (flat_map f zs) y (subst (λ w. In y (f w)) (sym same) j)
+flat_in f (z ∷ zs) x y (inr i) j = right_in (f z) (flat_map f zs) y (flat_in f zs x y i j)
 
 pub find_in : {X : Type 0} (test : X → Bool) (xs : List X) (x : X) → find test xs ≡ Some x → In x xs × (test x ≡ true)
 find_in test [] x h = absurd (cc)

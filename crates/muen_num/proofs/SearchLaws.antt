@@ -1,6 +1,6 @@
 -- Searches for the first answer: one behind another, over lists that are joined or mapped, and those that find nothing.
 use Rattle.std.proofs.Common.{◌≡◌, ℕ, ◌+◌, Bool, true, false, List, [], ◌∷◌, ◌++◌, map, Option, Some, None, refl, sym, ap, ◌∙◌}
-use Rattle.std.specs.List.{list_all, enumerate_from}
+use Rattle.std.specs.List.{flat_map, list_all, enumerate_from}
 use Rattle.std.specs.Option.{option_or}
 use Rattle.std.proofs.lemmas.Bool.{and_from}
 use Rattle.muen_num.specs.Search.{unless, first_in}
@@ -34,6 +34,11 @@ pub first_in-append : {X O : Type 0} (at : X → Option O) (xs ys : List X) → 
 first_in-append at [] ys = refl
 first_in-append at (x ∷ xs) ys =
     ap (option_or (at x)) (first_in-append at xs ys) ∙ sym (option_or_assoc (at x) (first_in at xs) (first_in at ys))
+
+-- of many, one after another
+pub first_in-flat_map : {X Y O : Type 0} (at : Y → Option O) (f : X → List Y) (xs : List X) → first_in at (flat_map f xs) ≡ first_in (λ x. first_in at (f x)) xs
+first_in-flat_map at f [] = refl
+first_in-flat_map at f (x ∷ xs) = first_in-append at (f x) (flat_map f xs) ∙ ap (option_or (first_in at (f x))) (first_in-flat_map at f xs)
 
 -- where nothing is found in it, nor is in either
 pub none_append : {X O : Type 0} (at : X → Option O) (xs ys : List X) → first_in at (xs ++ ys) ≡ None → (first_in at xs ≡ None) × (first_in at ys ≡ None)

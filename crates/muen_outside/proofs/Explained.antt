@@ -1,23 +1,21 @@
 -- Some files show all looks, each at a name of its own.
-use Rattle.std.proofs.Common.{◌≡◌, ℕ, Bool, true, false, cond, List, [], ◌∷◌, length, Option, Some, None, Result, Ok, Err, IfSome, refl, sym, ap, subst, ◌∙◌, arith}
+use Rattle.std.proofs.Common.{◌≡◌, ℕ, Bool, false, cond, List, [], ◌∷◌, length, Option, Some, None, Result, Ok, Err, IfSome, refl, sym, ap, subst, ◌∙◌, arith}
 use Rattle.std.specs.Prelude.{nat_lt, replicate, if◌then◌else◌}
 use Rattle.std.specs.Str.{bytes_eq}
-use Rattle.std.specs.Cmp.Lexicographic.{nat_list_eq_equiv}
 use Rattle.std.proofs.lemmas.Bool.{lt-ltb}
 use Rattle.std.proofs.lemmas.Bool.Decides.{nat_tests}
 use Rattle.std.proofs.lemmas.List.{length-replicate}
+use Rattle.muen_num.proofs.Lookups.{other_way, same_self}
 use Rattle.muen_outside.specs.declared.files.FileError.{FileError}
 use Rattle.muen_outside.specs.Looks.{ShowsAnswer, AreOthers, AreSingle, IsPossibleEnd, ShowAll}
 use Rattle.muen_outside.specs.States.{Look}
 use Rattle.muen_outside.specs.Store.{Store, Reading, whole, absent, long, find_bytes}
 use Rattle.muen_outside.proofs.HeldMap.{stored, get-stored}
 
-same_self : (x : List ℕ) → bytes_eq x x ≡ true
-same_self x = nat_list_eq_equiv.refl x
-
--- another name, told the other way round
-other_way : (a b : List ℕ) → bytes_eq a b ≡ false → bytes_eq b a ≡ false
-other_way a b ne = sym (nat_list_eq_equiv.symm a b) ∙ ne
+-- any store shows no looks
+pub told_none : (held : Option Store) → IfSome held (λ m. ShowAll m [])
+told_none None = tt
+told_none (Some m) = tt
 
 -- what stands under a name, so that a read answers this
 abbrev content_of : Result Reading FileError → Option (List ℕ)

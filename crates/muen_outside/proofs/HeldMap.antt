@@ -24,7 +24,7 @@ find-by_bytes q (e ∷ es) =
 pub get-stored : (es : Entries) (q : List ℕ) → get (stored es) q ≡ find_bytes q es
 get-stored es q = get-from_entries nat_list_cmp_total es q ∙ find-by_bytes q es
 
-get-insert_bytes : (m : Store) (k v q : List ℕ) → get (insert m k v) q ≡ cond (bytes_eq q k) (Some v) (get m q)
+pub get-insert_bytes : (m : Store) (k v q : List ℕ) → get (insert m k v) q ≡ cond (bytes_eq q k) (Some v) (get m q)
 get-insert_bytes m k v q = get-insert nat_list_cmp_total m k v q ∙ ap (λ t. cond t (Some v) (get m q)) (sym (texts_ties q k))
 
 hidden : (t : Bool) (x y r : Option (List ℕ)) → cond t x r ≡ cond t x (cond t y r)

@@ -1,9 +1,10 @@
 -- What comes of a command whose files were read.
 use Rattle.std.proofs.Common.{◌≡◌, inl, ℕ, List, [], ◌++◌, Option, Some, None, refl, sym, ap, subst, ◌∙◌, append-nil}
-use Rattle.muen_build.proofs.Looks.{no_look, told_none}
+use Rattle.muen_build.proofs.Looks.{no_look}
 use Rattle.muen_outside.specs.Puts.{Failed}
 use Rattle.muen_outside.specs.States.{History, Look, SinkState, Write, looked, went, written}
 use Rattle.muen_outside.specs.Store.{Store}
+use Rattle.muen_outside.proofs.Explained.{told_none}
 use Rattle.muen_top.specs.Answers.{Answer, prints, answer_of}
 use Rattle.muen_top.specs.Calls.{ComesOfCommand, IsDone, OutcomeSays, Prints}
 use Rattle.muen_top.specs.Commands.{Command, load}

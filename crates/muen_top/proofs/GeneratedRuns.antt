@@ -13,6 +13,7 @@ use Rattle.generated_system.specs.System.{generated_system, subject, system_with
 use Rattle.image_soundness.specs.Bench.{devices_of}
 use Rattle.muen_build.specs.Refusals.{accepted_policy_of, refusal_of}
 use Rattle.muen_num.proofs.NumbersBelow.{length_numbers}
+use Rattle.muen_num.proofs.Lists.{map_same}
 use Rattle.muen_num.specs.Range.{numbers_below}
 use Rattle.muen_num.specs.declared.limits.TheConstants.{POLICY_MOST, RECORD_MOST}
 use Rattle.muen_outside.proofs.HeldMap.{get-stored}
@@ -24,9 +25,8 @@ use Rattle.policy_lawful.specs.Contents.{Held, content_bytes, initial_bytes, no_
 use Rattle.policy_lawful.specs.Lawful.{kept_or}
 use Rattle.policy_lawful.specs.Thing.{Item, Thing, device_items, item_of, items_of, placed_items, same_thing, state, things_of}
 use Rattle.policy_lawful.specs.refusal.Refusal.{Refusal}
-use Rattle.policy_lawful.specs.source.Content.{Content}
-use Rattle.policy_lawful.specs.source.Content.TheVariants.{Zero, Fill, Inline, File}
 use Rattle.policy_lawful.specs.source.Source.{Source}
+use Rattle.policy_lawful.proofs.NoFiles.{in_no_file, same_content}
 use Rattle.record_text.specs.DeviceRecord.{DeviceRecord}
 use Rattle.record_text.specs.Reading.{record_of}
 use Rattle.subject_model.specs.Clock.{run_of}
@@ -41,10 +41,6 @@ use Rattle.muen_top.specs.declared.outcome.Outcome.TheVariants.{Done}
 
 -- ---- a policy whose contents name no file
 
-abbrev in_no_file : Content → Bool
-in_no_file (File name offset most) = false
-in_no_file _ = true
-
 abbrev names_no_file : List Item → Bool
 names_no_file items = list_all (λ i. in_no_file i.content) items
 
@@ -55,12 +51,6 @@ both_left false b h = absurd (true≢false (sym h))
 both_right : (a b : Bool) → (a && b) ≡ true → b ≡ true
 both_right true b h = h
 both_right false b h = absurd (true≢false (sym h))
-
-same_content : (f g : Held) (size : ℕ) (c : Content) → in_no_file c ≡ true → content_bytes f size c ≡ content_bytes g size c
-same_content f g size Zero h = refl
-same_content f g size (Fill b) h = refl
-same_content f g size (Inline bytes) h = refl
-same_content f g size (File name offset most) h = absurd (true≢false (sym h))
 
 abbrev bytes_among : Held → List Item → Thing → List ℕ
 bytes_among f items x = option_map_or (λ i. content_bytes f i.size i.content) (find (λ i. same_thing i.thing x) items) []
@@ -73,10 +63,6 @@ same_among f g x (i ∷ items) h =
       | inr n ↦ rw n (same_among f g x items (both_right (in_no_file i.content) (names_no_file items) h))
     ]
 
-same_mapped : {X Y : Type 0} (f g : X → Y) → ((x : X) → f x ≡ g x) → (xs : List X) → map f xs ≡ map g xs
-same_mapped f g same [] = refl
-same_mapped f g same (x ∷ xs) = ap (λ y. y ∷ map f xs) (same x) ∙ ap (λ ys. g x ∷ ys) (same_mapped f g same xs)
-
 module _ (p : Source) (f g : Held) (none : names_no_file (items_of p) ≡ true) where
   same_bytes : (x : Thing) → initial_bytes p f x ≡ initial_bytes p g x
   unfolding initial_bytes item_of
@@ -86,7 +72,7 @@ module _ (p : Source) (f g : Held) (none : names_no_file (items_of p) ≡ true) 
   unfolding start_of
   same_start =
       ap (λ things. record (start_of p f) { things = things ++ map (λ s. (state s.name, first_page s)) p.subjects })
-      (same_mapped (λ x. (x, initial_bytes p f x)) (λ x. (x, initial_bytes p g x)) (λ x. ap (λ b. (x, b)) (same_bytes x)) (things_of p))
+      (map_same (λ x. (x, initial_bytes p f x)) (λ x. (x, initial_bytes p g x)) (λ x. ap (λ b. (x, b)) (same_bytes x)) (things_of p))
 
   same_text : (r : DeviceRecord) → trace_of p f r ≡ trace_of p g r
   unfolding trace_of run_of

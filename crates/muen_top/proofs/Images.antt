@@ -127,10 +127,6 @@ pub some_mapped : {X Y : Type 0} (f : X → Y) (P : Y → Type 0) (o : Option X)
 some_mapped f P None h = h
 some_mapped f P (Some x) h = h
 
-pub is_some_mapped : {X Y : Type 0} (f : X → Y) (o : Option X) → is_some (option_map f o) ≡ is_some o
-is_some_mapped f None = refl
-is_some_mapped f (Some x) = refl
-
 -- ---- the writes
 
 module _ (policy image bytes : List ℕ) (dma tables : Option (List ℕ)) (held held' held'' : Option Store) (old mid new : History) (same : held' ≡ held) (made : IsBuilt policy held old mid bytes tables) (out : SinkState) where

@@ -1,5 +1,5 @@
 -- The file of a policy's tables isn't too long for a read.
-use Rattle.std.proofs.Common.{◌≡◌, sym, subst, ℕ, ◌+◌, ◌*◌, ◌≤◌, List, length, replicate, arith, refl}
+use Rattle.std.proofs.Common.{sym, subst, ℕ, ◌+◌, ◌*◌, ◌≤◌, List, length, replicate, arith}
 use Rattle.std.specs.Int.{w32, w64}
 use Rattle.std.proofs.lemmas.Bool.{leb-true}
 use Rattle.std.proofs.lemmas.List.{length-append, length-replicate}
@@ -7,8 +7,9 @@ use Rattle.muen_num.specs.declared.limits.TheConstants.{MOST_DEVICES, PAGE}
 use Rattle.image_pack.specs.fault.Field.{Field}
 use Rattle.image_pack.specs.Form.{Form, tag, field, gap, bytes_of}
 use Rattle.image_pack.proofs.Leaves.{wide32, wide64}
-use Rattle.image_pack.proofs.Sizes.{IsSized, byte_sized, condition, done_sized, field_sized, gap_sized, items_sized, name_sized, number_sized, only_sized, rows}
+use Rattle.image_pack.proofs.Sizes.{IsSized, byte_sized, condition, done_sized, items_sized, number_sized, only_sized, rows}
 use Rattle.dma_tables.proofs.ConditionsHold.{conditions_kept}
+use Rattle.dma_tables.proofs.FileSizes.{device_sized, marked_size}
 use Rattle.dma_tables.specs.DmaFile.{after_device, device, dma_file, mark_bytes}
 use Rattle.dma_tables.specs.Tables.{device_size}
 use Rattle.dma_tables.specs.declared.file.DmaFile.{DmaFile}
@@ -48,18 +49,6 @@ fixed_short n size get f more sized rest = field_short (λ s. n) size get f more
 
 -- ---- the file
 
-device_sized : (among : Unit {0}) (names : List (List ℕ)) → IsSized device_size (device among names)
-unfolding device
-device_sized among names =
-    field_sized 64 4 _ _ _ (only_sized 64 _ _ _ name_sized) (λ called a.
-    field_sized 1 3 _ _ _ byte_sized (λ bus b.
-    field_sized 1 2 _ _ _ byte_sized (λ devfn c.
-    gap_sized 2 0 _ _ (done_sized _))))
-
-mark_size : length mark_bytes ≡ 8
-unfolding mark_bytes
-mark_size = refl
-
 pages_short : (n : ℕ) (t : DmaFile) → (bytes_of n).fits t.pages → length ((bytes_of n).spell t.pages) ≤ length t.pages
 unfolding bytes_of
 pages_short n t fits = omega arith
@@ -83,6 +72,6 @@ tables_small p file is =
     let many = keeps.many in
     let few = is.are.few in
     let size : length (dma_file.spell is.tables) ≤ length mark_bytes + (8 + (4 + (1 + (3 + (2176 + (length is.tables.pages + 0)))))) = file_short is.tables is.file.tables in
-    let mark = mark_size in
+    let mark = marked_size in
     let bound : length (dma_file.spell is.tables) ≤ DMA_MOST = omega (arith, many, few, size, mark) in
     subst (λ (b : List ℕ). length b ≤ DMA_MOST) (sym is.file.bytes_are) bound

@@ -18,10 +18,11 @@ use Rattle.muen_build.specs.Refusals.{contents_refused, fitting_policy_of, lawfu
 use Rattle.muen_build.specs.declared.accepted.BuildError.{BuildError}
 use Rattle.muen_build.specs.declared.accepted.BuildError.TheVariants.{Refused as RefusedPolicy, FileFault as FaultOfFiles}
 use Rattle.muen_build.proofs.Documents.{shown_document, whole_found}
-use Rattle.muen_build.proofs.Looks.{looked_both, same_self, show_front, told_both}
+use Rattle.muen_build.proofs.Looks.{looked_both, show_front, told_both}
 use Rattle.muen_build.proofs.Refusing.{fits_not, fits_so}
 use Rattle.muen_num.specs.Answers.{Answers}
 use Rattle.muen_num.specs.declared.limits.TheConstants.{IMAGE_MOST, POLICY_MOST}
+use Rattle.muen_num.proofs.Lookups.{same_self}
 use Rattle.muen_outside.proofs.Explained.{explained}
 use Rattle.muen_outside.specs.declared.files.FileError.{FileError}
 use Rattle.muen_outside.specs.Looks.{AreOthers, AreSingle, EndsInFault, ShowAll}

@@ -5,10 +5,10 @@ use Rattle.std.specs.Prelude.{codes, option_map}
 use Rattle.std.specs.Str.{bytes_eq}
 use Rattle.image_pack.proofs.ImageSizes.{image_fits}
 use Rattle.muen_build.proofs.Documents.{admitted, other_bytes, own_bytes}
-use Rattle.muen_build.proofs.Looks.{same_self}
 use Rattle.muen_build.specs.ImageFor.{IsImageFor}
 use Rattle.muen_build.specs.Refusals.{accepted_policy_of}
 use Rattle.muen_num.specs.declared.limits.TheConstants.{IMAGE_MOST, POLICY_MOST}
+use Rattle.muen_num.proofs.Lookups.{same_self}
 use Rattle.muen_outside.specs.States.{SinkState, Write}
 use Rattle.muen_outside.specs.Store.{Reading, Store, absent, long, reading_of, whole}
 use Rattle.policy_lawful.specs.refusal.Refusal.{Refusal}

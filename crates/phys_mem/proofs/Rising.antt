@@ -66,7 +66,7 @@ pages_rising (suc n) k low bytes rest a h =
     let next : k + suc n ≡ k + 1 + n = omega arith in
     (a, pages_rising n (k + 1) (k + 1) _ rest (omega arith) (subst (λ j. RisingFrom j (numbers_of rest)) next h))
 
-later_spans : (s : MemorySpan) (ss : List MemorySpan) → AreSpans (s ∷ ss) → AreSpans ss
+pub later_spans : (s : MemorySpan) (ss : List MemorySpan) → AreSpans (s ∷ ss) → AreSpans ss
 later_spans s ss h =
     record {
       each = λ k d l. h.each (suc k) d (omega arith);

@@ -3,14 +3,11 @@ use Rattle.std.proofs.Common.{◌≡◌, ◌≢◌, ◌⊎◌, inl, inr, ℕ, �
 use Rattle.std.proofs.lemmas.Bool.{cases_eq, cases_lt, ne_eqb, true≢false}
 use Rattle.std.proofs.lemmas.Bool.Decides.{nat_tests}
 use Rattle.std.proofs.lemmas.List.{get_or_read, get_or_append_left, get_or-append-add, get_or-set_same, get_or-set_other}
-use Rattle.std.proofs.lemmas.Option.{none-some}
-use Rattle.std.specs.Option.{unwrap_or, is_some}
+use Rattle.std.proofs.lemmas.Option.{none-some, same_Some}
+use Rattle.std.specs.Option.{is_some}
 use Rattle.std.specs.Prelude.{not}
 use Rattle.phys_mem.specs.Frames.{NoneBelow, IsFirst}
 use Rattle.phys_mem.specs.IndexTables.{table_of, in_table, told, AreTables, IsMade, TellsTo, Tells}
-
-inj : (a b : ℕ) → Some a ≡ Some b → a ≡ b
-inj a b e = ap (λ o. unwrap_or o a) e
 
 -- what is told where a table is longer, or an entry is another
 longer : (lower more : List (Option ℕ)) (low : ℕ) (o : Option ℕ) → low < 16384 → ((s : ℕ) → o ≡ Some s → s + 16384 ≤ length lower) → in_table (lower ++ more) low o ≡ in_table lower low o
@@ -43,7 +40,7 @@ module _ (upper lower : List (Option ℕ)) (tables : AreTables upper lower) wher
     known : (a s : ℕ) → table_of made a ≡ Some s → ((a ≡ high) × (s ≡ base)) ⊎ (table_of upper a ≡ Some s)
     known a s e =
         elim (cases_eq a high) [
-          | inl h ↦ inl (h, sym (inj base s (sym table_at ∙ (ap (λ b. table_of made b) (sym h) ∙ e))))
+          | inl h ↦ inl (h, sym (same_Some base s (sym table_at ∙ (ap (λ b. table_of made b) (sym h) ∙ e))))
           | inr ne ↦ inr (sym (get_or-set_other upper high a (Some base) None ne) ∙ e)
         ]
 
@@ -97,7 +94,7 @@ module _ (upper lower : List (Option ℕ)) (tables : AreTables upper lower) wher
     other : (k s : ℕ) → k ≢ n → table_of upper (k / 16384) ≡ Some s → s + k % 16384 ≢ base + n % 16384
     other k s ne e h =
         let high : k / 16384 ≡ n / 16384 = tables.own (k / 16384) (n / 16384) s base (k % 16384) (n % 16384) e at (omega arith) (omega arith) h in
-        let same : s ≡ base = inj s base (sym e ∙ (ap (λ u. table_of upper u) high ∙ at)) in
+        let same : s ≡ base = same_Some s base (sym e ∙ (ap (λ u. table_of upper u) high ∙ at)) in
         ne (omega (arith, high, same, h))
 
     entered_at : (k : ℕ) → (k ≡ n) ⊎ (k ≢ n) → told upper written k ≡ cond (eqb k n) (Some place) (told upper lower k)

@@ -177,7 +177,7 @@ majors_valid r k =
 
 -- ---- the plan
 
-processor_same : (r : Resolution) → (source_of r).processor.logical_cpus ≡ r.processor.logical_cpus
+pub processor_same : (r : Resolution) → (source_of r).processor.logical_cpus ≡ r.processor.logical_cpus
 unfolding source_of
 processor_same r = refl
 

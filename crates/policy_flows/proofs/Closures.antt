@@ -5,11 +5,11 @@ use Rattle.std.specs.List.{All, list_any}
 use Rattle.std.specs.Str.{bytes_eq}
 use Rattle.std.proofs.lemmas.Bool.{and_from, and_parts, or_cases, or_left, or_right}
 use Rattle.std.proofs.lemmas.Slice.Eq.{bytes_eq-Decides}
-use Rattle.policy_lawful.proofs.Indexes.{same_self}
 use Rattle.policy_lawful.specs.source.Source.{Source}
 use Rattle.policy_lawful.specs.source.Subject.{Subject}
 use Rattle.policy_flows.specs.Flows.{IsClosed, IsLeastClosed, closure_of, flows_to, is_member, rounds, with_sources}
 use Rattle.muen_num.proofs.Members.{In, all_from, all_in, any_in, any_some, filter_fits, filter_grows, filter_in, filter_some, map_in, map_some}
+use Rattle.muen_num.proofs.Lookups.{same_self}
 
 -- ---- members by a test
 
@@ -42,7 +42,7 @@ member_some p test s h =
     }
 
 -- a member by name
-same_member : (members : List (List ℕ)) (u s : Subject) → u.name ≡ s.name → is_member members u ≡ true → is_member members s ≡ true
+pub same_member : (members : List (List ℕ)) (u s : Subject) → u.name ≡ s.name → is_member members u ≡ true → is_member members s ≡ true
 same_member members u s e h = subst (λ n. list_any (λ name. bytes_eq name n) members ≡ true) e h
 
 -- ---- rounds

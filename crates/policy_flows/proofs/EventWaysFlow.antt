@@ -15,8 +15,8 @@ use Rattle.policy_lawful.specs.source.SourceWay.{SourceWay}
 use Rattle.policy_lawful.specs.source.Subject.{Subject}
 use Rattle.policy_flows.specs.Flows.{by_channel, by_event, is_writer, reaches, ways_of}
 use Rattle.policy_flows.proofs.EventWays.{by_either, by_source, channel_end_of_way, from_source, source_of_way, way_counts}
-use Rattle.muen_num.proofs.Members.{In, any_in, any_some, filter_some, flat_some, map_some}
-use Rattle.policy_flows.proofs.UniqueSubjects.{HasUniqueNames, at_in}
+use Rattle.muen_num.proofs.Members.{In, any_in, any_some, at_in, filter_some, flat_some, map_some}
+use Rattle.policy_flows.proofs.UniqueSubjects.{HasUniqueNames}
 
 -- u raises by one of its sources an event whose target is s
 abbrev pub by_sources : Source → Subject → Subject → Bool
@@ -44,7 +44,7 @@ hit_by_channel : (c : Option Channel) (o : Option Target) (name : List ℕ) → 
 hit_by_channel None o name h = absurd (cc)
 hit_by_channel (Some c) o name h = hit_by_mode c.has_event o name h
 
-writes_is_writer : (e : ChannelEnd) (role : Role) (way : SourceWay) → writes_by e role way ≡ true → is_writer role ≡ true
+pub writes_is_writer : (e : ChannelEnd) (role : Role) (way : SourceWay) → writes_by e role way ≡ true → is_writer role ≡ true
 writes_is_writer e Writer way h = refl
 writes_is_writer e Reader way h = absurd (cc)
 

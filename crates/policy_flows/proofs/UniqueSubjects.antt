@@ -1,5 +1,5 @@
 -- Subjects of different names, and their indexes.
-use Rattle.std.proofs.Common.{◌≡◌, ℕ, zero, suc, ◌<◌, true, List, [], ◌∷◌, length, map, Some, None, sym, ap, ◌∙◌, inl, inr, arith}
+use Rattle.std.proofs.Common.{◌≡◌, ◌<◌, true, length, map, Some, None, sym, ap, ◌∙◌, arith}
 use Rattle.std.specs.Prelude.{◌==◌, slice_get}
 use Rattle.std.specs.Str.{bytes_eq}
 use Rattle.std.proofs.lemmas.Bool.{eqb-true}
@@ -7,24 +7,12 @@ use Rattle.std.proofs.lemmas.List.{length-map}
 use Rattle.std.proofs.lemmas.Option.{slice_get_within}
 use Rattle.policy_lawful.specs.Resolution.{name_at}
 use Rattle.policy_lawful.specs.Rules.{repeated}
-use Rattle.policy_lawful.proofs.Indexes.{same_name, same_self}
+use Rattle.policy_lawful.proofs.Indexes.{same_name}
 use Rattle.policy_lawful.specs.source.Source.{Source}
 use Rattle.policy_lawful.specs.source.Subject.{Subject}
 use Rattle.policy_lawful.proofs.WindowsByIndex.{name_there}
-use Rattle.muen_num.proofs.Members.{In}
-
--- ---- indexes
-
--- its index
-pub index_in : {X : Type 0} (xs : List X) (x : X) → In x xs → (k : ℕ) × (slice_get xs k ≡ Some x)
-index_in [] x i = absurd i
-index_in (y ∷ ys) x (inl e) = (0, ap Some e)
-index_in (y ∷ ys) x (inr i) = let later = index_in ys x i in (suc later.0, later.1)
-
-pub at_in : {X : Type 0} (xs : List X) (k : ℕ) (x : X) → slice_get xs k ≡ Some x → In x xs
-at_in [] k x h = absurd (cc)
-at_in (y ∷ ys) zero x h = inl cc
-at_in (y ∷ ys) (suc k) x h = inr (at_in ys k x h)
+use Rattle.muen_num.proofs.Members.{In, index_in}
+use Rattle.muen_num.proofs.Lookups.{same_self}
 
 -- ---- unique names
 

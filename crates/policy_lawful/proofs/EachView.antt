@@ -1,10 +1,11 @@
 -- What holds of each kind of view holds of each view of a subject.
-use Rattle.std.proofs.Common.{◌≡◌, ℕ, suc, ◌+◌, All, List, [], ◌∷◌, ◌++◌, map, Option, Some, None, refl, subst, ap, ◌∙◌, arith}
+use Rattle.std.proofs.Common.{◌≡◌, ℕ, ◌+◌, All, List, [], ◌∷◌, ◌++◌, map, Option, Some, None, refl, subst, ap, ◌∙◌, arith}
 use Rattle.std.specs.Prelude.{IfSome, option_and_then, option_map, slice_get, unwrap_or}
 use Rattle.std.specs.Option.{option_map_or}
 use Rattle.std.specs.List.{cons_option, enumerate_from, filter_map, flat_map}
 use Rattle.std.proofs.lemmas.List.Elements.{All-append, All-cons, All-map, All-nil}
 use Rattle.muen_num.specs.declared.limits.TheConstants.{PAGE}
+use Rattle.muen_num.proofs.Lists.{all_flat, each_numbered}
 use Rattle.policy_lawful.specs.ByIndex.{provided_at}
 use Rattle.policy_lawful.specs.Resolution.{Resolution}
 use Rattle.policy_lawful.specs.Views.{channel_view, component_channel_view, component_views, device_view, entry_for, monitor_view, provided_view, region_view, required_view, use_views, view, views_of}
@@ -37,17 +38,6 @@ each_filtered {X} {V} P g h (x ∷ xs) =
       | None ↦ λ k. each_filtered P g h xs
       | Some v ↦ λ k. All-cons P v (filter_map g xs) k (each_filtered P g h xs)
     ] (h x)
-
-each_joined : {X V : Type 0} (P : V → Type 0) (g : X → List V) → ((x : X) → All P (g x)) → (xs : List X) → All P (flat_map g xs)
-each_joined P g h [] = All-nil P
-each_joined P g h (x ∷ xs) = All-append P (g x) (flat_map g xs) (h x) (each_joined P g h xs)
-
-each_numbered : {X : Type 0} (P : ℕ × X → Type 0) (n : ℕ) (xs : List X) → ((k : ℕ) (x : X) → slice_get xs k ≡ Some x → P (n + k, x)) → All P (enumerate_from n xs)
-each_numbered P n [] h = All-nil P
-each_numbered P n (x ∷ xs) h =
-    let first : n + 0 ≡ n = omega arith in
-    All-cons P (n, x) (enumerate_from (n + 1) xs) (subst (λ m. P (m, x)) first (h 0 x refl))
-    (each_numbered P (n + 1) xs (λ k y e. let more : n + suc k ≡ (n + 1) + k = omega arith in subst (λ m. P (m, y)) more (h (suc k) y e)))
 
 -- ---- views
 
@@ -149,6 +139,6 @@ module _ (r : Resolution) (P : View → Type 0) where
       (All-append P a b
       (each_filtered P (λ m. region_view r m.region m.virtual_address m.rights) (λ m. of_region brought holds m.region m.virtual_address m.rights) s.memory)
       (each_filtered P (λ c. channel_view r c.channel c.virtual_address c.role) (λ c. of_channel brought holds c.channel c.virtual_address c.role) s.channels))
-      (each_joined P (λ d. filter_map (device_view r d.device) d.memory) (λ d. each_filtered P (device_view r d.device) (of_device brought holds d.device) d.memory) s.devices))
+      (all_flat P (λ d. filter_map (device_view r d.device) d.memory) (λ d. each_filtered P (device_view r d.device) (of_device brought holds d.device) d.memory) s.devices))
       (of_use brought holds s.component refl))
       (each_filtered P (monitor_view r) (of_monitor brought holds) s.monitors)

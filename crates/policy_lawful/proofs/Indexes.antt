@@ -3,7 +3,6 @@ use Rattle.std.proofs.Common.{◌≡◌, ℕ, zero, suc, ◌+◌, ◌<◌, true,
 use Rattle.std.specs.Prelude.{◌==◌, slice_get}
 use Rattle.std.specs.List.{find, position_or_len}
 use Rattle.std.specs.Str.{bytes_eq}
-use Rattle.std.specs.Cmp.Lexicographic.{nat_list_eq_equiv}
 use Rattle.std.proofs.lemmas.Bool.Decides.{Decides-eqb, same_from_decides}
 use Rattle.std.proofs.lemmas.List.{length-map}
 use Rattle.std.proofs.lemmas.List.Folds.{find_at}
@@ -15,9 +14,7 @@ use Rattle.policy_lawful.specs.Resolution.{name_at}
 use Rattle.policy_lawful.specs.declared.offence.Offence.{Offence}
 use Rattle.muen_num.proofs.Lists.{position-map}
 use Rattle.muen_num.proofs.SearchLaws.{none_both, unless_none}
-
-pub same_self : (x : List ℕ) → bytes_eq x x ≡ true
-same_self x = nat_list_eq_equiv.refl x
+use Rattle.muen_num.proofs.Lookups.{same_self}
 
 -- ---- indexes
 

@@ -33,7 +33,7 @@ pub record AddressesKept (p : Source) : Type 0 where
   pub components : list_all brings p.components ≡ true
   pub windows : list_all (λ s. list_all (λ e. is_guest e.address e.size) (window_extents p s)) p.subjects ≡ true
 
-component_brings : (c : Component) → component_offence c ≡ None → brings c ≡ true
+pub component_brings : (c : Component) → component_offence c ≡ None → brings c ≡ true
 component_brings c h =
     all_pass (λ x. is_guest x.virtual_address x.size) (λ x. two c.name x.logical) c.provides
     (none_both (first_in (λ x. unless (is_guest x.virtual_address x.size) (two c.name x.logical)) c.provides) _ h).0

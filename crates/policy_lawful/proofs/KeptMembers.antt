@@ -12,8 +12,8 @@ use Rattle.policy_lawful.specs.Offences.{alone}
 use Rattle.policy_types.specs.declared.source.Group.{Group}
 use Rattle.policy_types.specs.declared.source.Source.{Source}
 use Rattle.policy_types.specs.declared.source.Subject.{Subject}
-use Rattle.policy_lawful.proofs.Indexes.{same_self}
 use Rattle.muen_num.proofs.SearchLaws.{all_pass, none_both}
+use Rattle.muen_num.proofs.Lookups.{same_self}
 
 -- how often a name is listed in a group, and in several
 listed_in : Subject → Group → ℕ

@@ -22,6 +22,7 @@ pub mod Mapped
 pub mod NameHashes
 pub mod NameSets
 pub mod Naming
+pub mod NoFiles
 pub mod Offences
 pub mod Positions
 pub mod RegionsByIndex

@@ -1,21 +1,21 @@
 -- Whether a subject has a window on a region, by the region's name or by its index.
-use Rattle.std.proofs.Common.{◌≡◌, ℕ, ◌<◌, Bool, true, false, List, [], ◌∷◌, length, map, Some, None, refl, sym, ap, ◌∙◌, arith}
-use Rattle.std.specs.Prelude.{◌&&◌, ◌||◌, slice_get}
+use Rattle.std.proofs.Common.{◌≡◌, ℕ, ◌<◌, Bool, true, false, List, length, map, Some, None, refl, sym, ap, ◌∙◌, arith}
+use Rattle.std.specs.Prelude.{◌&&◌, slice_get}
 use Rattle.std.specs.Option.{option_map_or}
 use Rattle.std.specs.List.{list_all, list_any}
 use Rattle.std.specs.Str.{bytes_eq}
-use Rattle.std.proofs.lemmas.Bool.{and_parts}
 use Rattle.std.proofs.lemmas.List.{length-map}
 use Rattle.std.proofs.lemmas.Option.{slice_get_within}
 use Rattle.std.proofs.lemmas.Slice.Eq.{bytes_eq-Decides}
-use Rattle.muen_num.proofs.Lists.{list_any-map}
+use Rattle.muen_num.proofs.Lists.{any_same, list_any-map}
 use Rattle.muen_num.specs.declared.access.AccessKind.TheVariants.{Write}
 use Rattle.policy_lawful.specs.Resolution.{IsResolved, Resolution, source_of, subject_in_range, subject_named}
 use Rattle.policy_lawful.specs.Rules.{maps, writes}
 use Rattle.policy_lawful.specs.declared.resolved.Subject.{Subject}
 use Rattle.std.proofs.lemmas.List.Sums.{list_all-from_AllPass}
+use Rattle.muen_num.proofs.Lookups.{same_self}
 use Rattle.policy_lawful.proofs.EachView.{each_view}
-use Rattle.policy_lawful.proofs.Indexes.{same_name, same_self}
+use Rattle.policy_lawful.proofs.Indexes.{same_name}
 use Rattle.policy_lawful.proofs.UniqueNames.{unique}
 use Rattle.policy_lawful.specs.Thing.{region, same_thing}
 use Rattle.policy_types.specs.Rights.{allows}
@@ -74,12 +74,6 @@ same_region r q k x subject v (Channel j) is named = refl
 same_region r q k x subject v (Given j) is named = refl
 same_region r q k x subject v (Device i j) is named = refl
 same_region r q k x subject v (State j) is named = refl
-
-pub any_same : {X : Type 0} (p q ok : X → Bool) → ((x : X) → ok x ≡ true → p x ≡ q x) → (xs : List X) → list_all ok xs ≡ true → list_any p xs ≡ list_any q xs
-any_same p q ok same [] all = refl
-any_same p q ok same (x ∷ xs) all =
-    let parts = and_parts (ok x) (list_all ok xs) all in
-    λ i. same x parts.0 i || any_same p q ok same xs parts.1 i
 
 -- a subject has a window on the region at an index where it has such a view
 pub maps_at : (r : Resolution) (s : Subject) (k : ℕ) (x : Region) → IsResolved r → subject_in_range r s ≡ true → slice_get r.memory k ≡ Some x

@@ -7,7 +7,7 @@ use Rattle.muen_num.specs.Search.{first_in, first_after, unless}
 use Rattle.std.specs.Str.{bytes_eq}
 use Rattle.policy_lawful.specs.Offences.{alone}
 use Rattle.policy_lawful.specs.Rules.{device_kinds, logical_names, offence_1, repeated}
-use Rattle.policy_lawful.specs.Resolution.{Resolution, group_named, source_of, subject_named}
+use Rattle.policy_lawful.specs.Resolution.{IsResolved, Resolution, group_named, source_of, subject_named}
 use Rattle.policy_lawful.specs.declared.offence.Offence.{Offence}
 use Rattle.policy_types.specs.declared.source.Component.{Component}
 use Rattle.policy_types.specs.declared.source.Device.{Device}
@@ -111,6 +111,14 @@ logical_among (x ∷ xs) (suc k) c h is = logical_among xs k c (none_both _ _ h)
 pub logical_unique : (p : Source) (k : ℕ) (c : Component) → offence_1 p ≡ None → slice_get p.components k ≡ Some c → repeated (logical_names c) ≡ None
 logical_unique p k c h is = logical_among p.components k c (unique p h).logical_names is
 
+-- and so are those of what it brings along
+pub provided_unique : (c : Component) → repeated (logical_names c) ≡ None → repeated (map (λ x. x.logical) c.provides) ≡ None
+provided_unique c h =
+    let provides = map (λ x. x.logical) c.provides in
+    let memory = map (λ x. x.logical) c.memory in
+    let channels = map (λ x. x.logical) c.channels in
+    (unique_parts provides memory (unique_parts (provides ++ memory) channels h).0).0
+
 -- ---- of a resolved policy
 
 -- the names of its subjects and groups, by their indexes
@@ -119,6 +127,13 @@ subject_names r = map (λ s. s.name) r.subjects
 
 abbrev pub group_names : Resolution → List (List ℕ)
 group_names r = map (λ g. g.name) r.scheduling.groups
+
+-- and those of its channels and events
+abbrev pub channel_names : Resolution → List (List ℕ)
+channel_names r = map (λ c. c.name) r.channels
+
+abbrev pub event_names : Resolution → List (List ℕ)
+event_names r = map (λ e. e.name) r.events
 
 -- the source policy's subjects have the names of the resolved one's
 pub names_of_subjects : (r : Resolution) → map (λ s. s.name) (source_of r).subjects ≡ subject_names r
@@ -133,3 +148,25 @@ subjects_unique r h = ap repeated (sym (names_of_subjects r)) ∙ (unique (sourc
 pub groups_unique : (r : Resolution) → offence_1 (source_of r) ≡ None → repeated (group_names r) ≡ None
 unfolding source_of
 groups_unique r h = ap repeated (sym (map-map (λ g. g.name) (group_named r) r.scheduling.groups)) ∙ (unique (source_of r) h).groups
+
+-- no two devices have, no two regions, channels or events
+pub devices_unique : (r : Resolution) → IsResolved r → repeated (map (λ d. d.name) r.devices) ≡ None
+unfolding source_of
+devices_unique r h = (unique (source_of r) h.names).devices
+
+pub regions_unique : (r : Resolution) → IsResolved r → repeated (map (λ x. x.name) r.memory) ≡ None
+unfolding source_of
+regions_unique r h = (unique (source_of r) h.names).regions
+
+pub channels_unique : (r : Resolution) → IsResolved r → repeated (channel_names r) ≡ None
+unfolding source_of
+channels_unique r h = (unique (source_of r) h.names).channels
+
+pub events_unique : (r : Resolution) → IsResolved r → repeated (event_names r) ≡ None
+unfolding source_of
+events_unique r h = (unique (source_of r) h.names).events
+
+-- and no two logical names of a component are the same
+pub unique_logical : (r : Resolution) → IsResolved r → (used : ℕ) (c : Component) → slice_get r.components used ≡ Some c → repeated (logical_names c) ≡ None
+unfolding source_of
+unique_logical r h used c is = logical_unique (source_of r) used c h.names is

@@ -3,7 +3,8 @@ use Rattle.std.proofs.Common.{◌≡◌, ℕ, ◌<◌, true, List, [], ◌++◌,
 use Rattle.std.proofs.lemmas.List.{get_or-map, length-map, map-append}
 use Rattle.std.specs.Prelude.{nat_lt, option_map, option_and_then, slice_get, unwrap_or}
 use Rattle.std.specs.Option.{option_map_or}
-use Rattle.std.specs.List.{enumerate_from, filter_map, flat_map, list_all}
+use Rattle.std.specs.List.{enumerate_from, filter_map, find, flat_map, list_all}
+use Rattle.std.specs.Str.{bytes_eq}
 use Rattle.std.proofs.lemmas.Bool.{and_parts, ltb-true}
 use Rattle.std.proofs.lemmas.Option.{get_or_from_slice_get, slice_get_within}
 use Rattle.muen_num.proofs.Lists.{option_map-option_map, there}
@@ -18,7 +19,7 @@ use Rattle.policy_lawful.specs.declared.resolved.Subject.{Subject}
 use Rattle.policy_lawful.specs.declared.resolved.Wanted.{Wanted}
 use Rattle.policy_lawful.specs.declared.resolved.Wanted.TheVariants.{Memory as WantedMemory, Channel as WantedChannel}
 use Rattle.policy_lawful.proofs.Indexes.{found_at_index}
-use Rattle.policy_lawful.proofs.UniqueNames.{logical_unique, parts_unique, unique}
+use Rattle.policy_lawful.proofs.UniqueNames.{logical_unique, parts_unique, subject_names, unique}
 use Rattle.policy_lawful.specs.Thing.{channel, component_by, provided, region}
 use Rattle.policy_lawful.specs.Windows.{channel_window, component_channel_window, component_windows, device_window, entry_of, monitor_window, region_window, required_window, role_rights, window, windows_of}
 use Rattle.policy_types.specs.declared.rights.Rights.{Rights}
@@ -36,6 +37,17 @@ use Rattle.policy_lawful.proofs.Mapped.{filter_maps, filter_numbered, flat_maps,
 -- what stands at an index has the name that stands there
 pub name_there : {X : Type 0} (f : X → List ℕ) (xs : List X) (k : ℕ) (x : X) → slice_get xs k ≡ Some x → name_at (map f xs) k ≡ f x
 name_there f xs k x is = get_or-map f xs k x [] (slice_get_within xs k x is) ∙ ap f (get_or_from_slice_get xs k x x is)
+
+-- a subject has that of its index
+pub name_of_subject : (r : Resolution) (k : ℕ) (s : Subject) → slice_get r.subjects k ≡ Some s → name_at (subject_names r) k ≡ s.name
+name_of_subject r k s at = name_there (λ (t : Subject). t.name) r.subjects k s at
+
+-- where names are unique, what stands at an index is found by its own
+pub found_by_name : {X : Type 0} (f : X → List ℕ) (xs : List X) → repeated (map f xs) ≡ None → (k : ℕ) (x : X) → slice_get xs k ≡ Some x → find (λ y. bytes_eq (f y) (f x)) xs ≡ Some x
+found_by_name f xs unique k x at =
+    ap (λ n. find (λ y. bytes_eq (f y) n) xs) (sym (name_there f xs k x at))
+    ∙ found_at_index f xs k unique (slice_get_within xs k x at)
+    ∙ at
 
 -- a monitor with the name of the subject that it monitors
 abbrev monitor_named : Resolution → Monitor → NamedMonitor

@@ -6,8 +6,10 @@ use Rattle.std.specs.Option.{option_map_or, option_or}
 use Rattle.std.specs.Str.{bytes_eq}
 use Rattle.std.proofs.lemmas.List.{map-append}
 use Rattle.std.proofs.lemmas.List.Folds.{find-append}
-use Rattle.muen_num.proofs.Lists.{find-map, map-map}
+use Rattle.muen_num.proofs.Lists.{find-map, map-flat_map, map-map}
 use Rattle.muen_num.proofs.Members.{find_in}
+use Rattle.muen_num.proofs.SearchLaws.{option_or-None}
+use Rattle.muen_num.proofs.Lookups.{found_behind}
 use Rattle.policy_meaning.specs.Thing.{Item, Thing, channel, channel_item, component_by, device_item, device_items, device_memory, item_of, items_of, placed_items, provided, provided_item, provided_items, region, region_item, same_thing, things_of}
 use Rattle.policy_types.specs.declared.source.Component.{Component}
 use Rattle.policy_types.specs.declared.source.Device.{Device}
@@ -15,12 +17,6 @@ use Rattle.policy_types.specs.declared.source.DeviceMemory.{DeviceMemory}
 use Rattle.policy_types.specs.declared.source.Provided.{Provided}
 use Rattle.policy_types.specs.declared.source.Source.{Source}
 use Rattle.policy_types.specs.declared.source.Subject.{Subject}
-
--- ---- lists made of lists
-
-pub map_flat : {X Y Z : Type 0} (f : Y → Z) (g : X → List Y) (xs : List X) → map f (flat_map g xs) ≡ flat_map (λ x. map f (g x)) xs
-map_flat f g [] = refl
-map_flat f g (x ∷ xs) = map-append f (g x) (flat_map g xs) ∙ ap (λ ys. map f (g x) ++ ys) (map_flat f g xs)
 
 -- ---- by kind
 
@@ -34,7 +30,7 @@ map_placed f p =
     let memory = map region_item p.memory in
     let channels = map channel_item p.channels in
     let provided = flat_map (λ s. provided_items s.name (component_by p s.component)) p.subjects in
-    let of_subjects = map_flat f (λ s. provided_items s.name (component_by p s.component)) p.subjects ∙ (λ i. flat_map (λ s. map-map f (provided_item s.name) (option_map_or (λ c. c.provides) (component_by p s.component) []) i) p.subjects) in
+    let of_subjects = map-flat_map f (λ s. provided_items s.name (component_by p s.component)) p.subjects ∙ (λ i. flat_map (λ s. map-map f (provided_item s.name) (option_map_or (λ c. c.provides) (component_by p s.component) []) i) p.subjects) in
     map-append f (memory ++ channels) provided
     ∙ ap (λ xs. xs ++ map f provided) (map-append f memory channels)
     ∙ (λ i. map-map f region_item p.memory i ++ map-map f channel_item p.channels i ++ of_subjects i)
@@ -47,7 +43,7 @@ pub map_items : {A : Type 0} (f : Item → A) (p : Source) → map f (items_of p
     ++ flat_map (λ d. map (λ m. f (device_item d.name m)) d.memory) p.devices
 unfolding items_of device_items
 map_items f p =
-    let of_devices = map_flat f (λ d. map (device_item d.name) d.memory) p.devices ∙ (λ i. flat_map (λ d. map-map f (device_item d.name) d.memory i) p.devices) in
+    let of_devices = map-flat_map f (λ d. map (device_item d.name) d.memory) p.devices ∙ (λ i. flat_map (λ d. map-map f (device_item d.name) d.memory i) p.devices) in
     map-append f (placed_items p) (device_items p) ∙ (λ i. map_placed f p i ++ of_devices i)
 
 -- the regions that a component brings along for this subject
@@ -64,15 +60,8 @@ things_are p = map_items (λ i. i.thing) p
 
 -- ---- what is found of each
 
-or_none : {X : Type 0} (o : Option X) → option_or o None ≡ o
-or_none None = refl
-or_none (Some x) = refl
-
 none_behind : {X : Type 0} (test : X → Bool) (xs ys : List X) → find test ys ≡ None → find test (xs ++ ys) ≡ find test xs
-none_behind test xs ys none = find-append test xs ys ∙ ap (option_or (find test xs)) none ∙ or_none (find test xs)
-
-none_before : {X : Type 0} (test : X → Bool) (xs ys : List X) → find test xs ≡ None → find test (xs ++ ys) ≡ find test ys
-none_before test xs ys none = find-append test xs ys ∙ ap (λ o. option_or o (find test ys)) none
+none_behind test xs ys none = find-append test xs ys ∙ ap (option_or (find test xs)) none ∙ option_or-None (find test xs)
 
 none_of : {X Y : Type 0} (test : Y → Bool) (f : X → Y) (xs : List X) → ((x : X) → test (f x) ≡ false) → find test (map f xs) ≡ None
 none_of test f [] h = refl
@@ -80,7 +69,7 @@ none_of test f (x ∷ xs) h = ap (λ b. cond b (Some (f x)) (find test (map f xs
 
 none_flat : {X Y : Type 0} (test : Y → Bool) (g : X → List Y) (xs : List X) → ((x : X) → find test (g x) ≡ None) → find test (flat_map g xs) ≡ None
 none_flat test g [] h = refl
-none_flat test g (x ∷ xs) h = none_before test (g x) (flat_map g xs) (h x) ∙ none_flat test g xs h
+none_flat test g (x ∷ xs) h = found_behind test (g x) (flat_map g xs) (h x) ∙ none_flat test g xs h
 
 -- in the list of the first element that is its own
 found_flat : {X Y : Type 0} (test : Y → Bool) (own : X → Bool) (g : X → List Y) (xs : List X) (x : X) (y : Y) → ((z : X) → own z ≡ false → find test (g z) ≡ None)
@@ -91,7 +80,7 @@ found_flat test own g (z ∷ zs) x y apart e h =
       | true ↦ λ is k.
           let same : z ≡ x = cc in
           find-append test (g z) (flat_map g zs) ∙ ap (λ o. option_or o (find test (flat_map g zs))) (ap (λ w. find test (g w)) same ∙ h)
-      | false ↦ λ is k. none_before test (g z) (flat_map g zs) (apart z is) ∙ found_flat test own g zs x y apart k h
+      | false ↦ λ is k. found_behind test (g z) (flat_map g zs) (apart z is) ∙ found_flat test own g zs x y apart k h
     ] refl e
 
 module _ (p : Source) where
@@ -130,7 +119,7 @@ module _ (p : Source) where
       let test : Item → Bool = λ i. same_thing i.thing (channel name) in
       none_behind test (regions ++ channels ++ brought) devices (none_device test (λ d m. refl))
       ∙ none_behind test (regions ++ channels) brought (none_brought test (λ s x. refl))
-      ∙ none_before test regions channels (none_of test region_item p.memory (λ r. refl))
+      ∙ found_behind test regions channels (none_of test region_item p.memory (λ r. refl))
       ∙ find-map test channel_item p.channels
 
   -- of the component of the first subject of the name
@@ -141,8 +130,8 @@ module _ (p : Source) where
       let test : Item → Bool = λ i. same_thing i.thing (provided subject logical) in
       let own : bytes_eq n.name subject ≡ true = (find_in (λ (s : Subject). bytes_eq s.name subject) p.subjects n is).1 in
       none_behind test (regions ++ channels ++ brought) devices (none_device test (λ d m. refl))
-      ∙ none_before test (regions ++ channels) brought
-      (none_before test regions channels (none_of test region_item p.memory (λ r. refl)) ∙ none_of test channel_item p.channels (λ c. refl))
+      ∙ found_behind test (regions ++ channels) brought
+      (found_behind test regions channels (none_of test region_item p.memory (λ r. refl)) ∙ none_of test channel_item p.channels (λ c. refl))
       ∙ found_flat test (λ (s : Subject). bytes_eq s.name subject) (λ s. provided_items s.name (component_by p s.component)) p.subjects n (provided_item n.name x)
       (λ s apart. none_of test (provided_item s.name) (option_map_or (λ c. c.provides) (component_by p s.component) []) (λ y. ap (λ b. b && bytes_eq y.logical logical) apart))
       is
@@ -158,9 +147,9 @@ module _ (p : Source) where
   item_of_device device name d m is here =
       let test : Item → Bool = λ i. same_thing i.thing (device_memory device name) in
       let own : bytes_eq d.name device ≡ true = (find_in (λ (d : Device). bytes_eq d.name device) p.devices d is).1 in
-      none_before test (regions ++ channels ++ brought) devices
+      found_behind test (regions ++ channels ++ brought) devices
       (none_behind test (regions ++ channels) brought (none_brought test (λ s x. refl))
-      ∙ none_before test regions channels (none_of test region_item p.memory (λ r. refl))
+      ∙ found_behind test regions channels (none_of test region_item p.memory (λ r. refl))
       ∙ none_of test channel_item p.channels (λ c. refl))
       ∙ found_flat test (λ (d : Device). bytes_eq d.name device) (λ d. map (device_item d.name) d.memory) p.devices d (device_item d.name m)
       (λ e apart. none_of test (device_item e.name) e.memory (λ y. ap (λ b. b && bytes_eq y.name name) apart))

@@ -9,7 +9,7 @@ use Rattle.std.proofs.lemmas.List.{length-map}
 use Rattle.std.proofs.lemmas.List.Folds.{list_any-append}
 use Rattle.std.proofs.lemmas.Option.{slice_get-map}
 use Rattle.muen_num.specs.Search.{first_in, unless}
-use Rattle.muen_num.proofs.SearchLaws.{option_or-None}
+use Rattle.muen_num.proofs.SearchLaws.{first_in-flat_map, option_or-None}
 use Rattle.policy_lawful.specs.Keeps.{Keeps}
 use Rattle.policy_lawful.specs.Offences.{broken, two}
 use Rattle.policy_lawful.specs.Resolution.{component_in_range, component_named, entry_in_range, entry_named, name_at}
@@ -32,7 +32,7 @@ use Rattle.policy_names.specs.Outline.{outline}
 use Rattle.policy_names.specs.Parts.{names_of_wanted}
 use Rattle.policy_names.specs.Indexes.{StandsFor}
 use Rattle.policy_names.specs.declared.parts.WantedNames.{WantedNames}
-use Rattle.policy_names.proofs.Refusals.{first_in-flat_map, keeps_as}
+use Rattle.policy_names.proofs.Refusals.{keeps_as}
 
 -- ---- an entry
 

@@ -1,8 +1,8 @@
 -- What the indexes of an element rest on.
 use Rattle.std.proofs.lemmas.List.{length-map}
 use Rattle.muen_num.proofs.Lists.{map-map}
-use Rattle.muen_num.proofs.SearchLaws.{first_over-map}
-use Rattle.policy_names.proofs.Refusals.{first_in-flat_map, one_behind_another}
+use Rattle.muen_num.proofs.SearchLaws.{first_in-flat_map, first_over-map}
+use Rattle.policy_names.proofs.Refusals.{one_behind_another}
 
 -- of a list of names among subjects or groups
 pub ruleset names = (map-map, length-map, first_over-map)

@@ -6,7 +6,7 @@ use Rattle.muen_num.specs.Answers.{Explains}
 use Rattle.muen_num.specs.Search.{first_in}
 use Rattle.muen_num.proofs.FirstSteps.{first_step, first_numbered_step}
 use Rattle.std.specs.Prelude.{map, Result, Ok, Err}
-use Rattle.muen_num.proofs.SearchLaws.{first_in-append, first_over-map, option_or-None, option_or_assoc}
+use Rattle.muen_num.proofs.SearchLaws.{first_in-append, first_in-flat_map, first_over-map, option_or-None, option_or_assoc}
 use Rattle.policy_lawful.proofs.Keeps.{explains_first, first_found}
 use Rattle.policy_lawful.specs.Keeps.{Keeps}
 use Rattle.policy_lawful.specs.Offences.{broken}
@@ -49,11 +49,6 @@ pub explains_at_index : {X : Type 0} (number : ℕ) (at : ℕ × X → Option Of
     → Explains NoMemory (broken number (at (i, x))) e → Explains NoMemory (broken number (first_in at (enumerate_from 0 xs))) e
 explains_at_index number at xs i x e within is rest h =
     rw (sym rest ∙ first_numbered_step at xs i x (at (i, x)) within is refl, broken-or number (at (i, x))) (explains_first NoMemory _ _ e h)
-
--- a list that is joined of many is searched one after another
-pub first_in-flat_map : {X Y O : Type 0} (at : Y → Option O) (f : X → List Y) (xs : List X) → first_in at (flat_map f xs) ≡ first_in (λ x. first_in at (f x)) xs
-first_in-flat_map at f [] = refl
-first_in-flat_map at f (x ∷ xs) = first_in-append at (f x) (flat_map f xs) ∙ ap (option_or (first_in at (f x))) (first_in-flat_map at f xs)
 
 -- ---- rule 1, of one kind of names after another
 

@@ -7,7 +7,7 @@ use Rattle.std.proofs.lemmas.Bool.{and_from}
 use Rattle.std.proofs.lemmas.List.{length-map}
 use Rattle.muen_num.specs.Search.{first_in}
 use Rattle.muen_num.proofs.Lists.{map-map}
-use Rattle.muen_num.proofs.SearchLaws.{first_in-append, first_over-map, option_or_assoc}
+use Rattle.muen_num.proofs.SearchLaws.{first_in-append, first_in-flat_map, first_over-map, option_or_assoc}
 use Rattle.policy_lawful.specs.Offences.{broken}
 use Rattle.policy_lawful.specs.Resolution.{component_named, component_in_range, subject_named, subject_in_range, name_at}
 use Rattle.policy_lawful.specs.Rules.{Reference, component_references, device_references, subject_references, undeclared}
@@ -24,7 +24,7 @@ use Rattle.policy_lawful.specs.source.Subject.{Subject}
 use Rattle.policy_names.specs.Outline.{bare_subject, outline}
 use Rattle.policy_names.specs.Indexes.{StandsFor, all_below}
 use Rattle.policy_names.specs.SubjectParts.{SignalsStand, WindowsStand, signals_offence, windows_offence}
-use Rattle.policy_names.proofs.Refusals.{first_in-flat_map, one_behind_another}
+use Rattle.policy_names.proofs.Refusals.{one_behind_another}
 
 pub ruleset as_many = (length-map, one_behind_another)
 

@@ -1,13 +1,13 @@
 -- Rule 17 of a resolved policy is that of its source policy: a subject is told by its name or by its index.
-use Rattle.std.proofs.Common.{◌≡◌, ℕ, ◌+◌, ◌<◌, min, true, cond, List, [], length, map, Some, None, sym, ap, ◌∙◌, arith}
+use Rattle.std.proofs.Common.{◌≡◌, ℕ, ◌+◌, ◌<◌, min, true, cond, List, length, map, Some, None, sym, ap, ◌∙◌, arith}
 use Rattle.std.specs.Prelude.{◌==◌, ◌&&◌, not, nat_lt, slice_get, slice_index, option_map}
 use Rattle.std.specs.List.{find, list_all, count_by, enumerate_from}
 use Rattle.std.specs.Str.{bytes_eq}
 use Rattle.std.proofs.lemmas.Bool.{ltb-true}
 use Rattle.std.proofs.lemmas.Bool.Decides.{nat_tests}
-use Rattle.std.proofs.lemmas.List.{length-map, get_or-map}
+use Rattle.std.proofs.lemmas.List.{length-map}
 use Rattle.std.proofs.lemmas.List.Folds.{list_all-map}
-use Rattle.std.proofs.lemmas.Option.{slice_get_within, get_or_from_slice_get}
+use Rattle.std.proofs.lemmas.Option.{slice_get_within}
 use Rattle.muen_num.specs.Search.{first_in, unless}
 use Rattle.muen_num.proofs.Lists.{find-map, option_map-option_map, sum_by-map}
 use Rattle.muen_num.proofs.SearchLaws.{first_over-map, option_or-None}
@@ -21,6 +21,7 @@ use Rattle.policy_lawful.specs.declared.resolved.Group.{Group as ResolvedGroup}
 use Rattle.policy_lawful.proofs.Indexes.{found_at_index, same_name}
 use Rattle.policy_lawful.proofs.SourceElements.{parts_in_range}
 use Rattle.policy_lawful.proofs.UniqueNames.{subject_names, subjects_unique}
+use Rattle.policy_lawful.proofs.WindowsByIndex.{name_of_subject}
 use Rattle.policy_rules.specs.Groups.{cpu_of_subject, is_member, is_group, group_offence, times_in, member_offence, AreTimes, groups_offence, counted_offence}
 use Rattle.muen_num.proofs.SameAnswers.{first_in-map, first_numbered_same, both_numbered, list_all_same, some_items, sum_by_same}
 
@@ -56,10 +57,6 @@ same_times r k unique within in_range =
     ∙ sum_by_same (λ i. cond (bytes_eq (name_at names i) (name_at names k)) 1 0) (λ i. cond (i == k) 1 0) (λ i. nat_lt i (length r.subjects)) one g.subjects ok in
     sum_by-map (λ g. count_by (λ n. bytes_eq n (name_at names k)) g.subjects) (group_named r) r.scheduling.groups
     ∙ sum_by_same (λ g. count_by (λ n. bytes_eq n (name_at names k)) (map (name_at names) g.subjects)) (λ g. times_among g.subjects k) (group_in_range r) among r.scheduling.groups in_range
-
-name_of_subject : (r : Resolution) (k : ℕ) (s : ResolvedSubject) → slice_get r.subjects k ≡ Some s → name_at (subject_names r) k ≡ s.name
-name_of_subject r k s at =
-    get_or-map (λ x. x.name) r.subjects k s [] (slice_get_within r.subjects k s at) ∙ ap (λ x. x.name) (get_or_from_slice_get r.subjects k s s at)
 
 same_member : (r : Resolution) → repeated (subject_names r) ≡ None → list_all (group_in_range r) r.scheduling.groups ≡ true → (k : ℕ) (s : ResolvedSubject) → slice_get r.subjects k ≡ Some s
     → unless (times_listed (source_of r) s.name == 1) (alone s.name) ≡ member_offence r.scheduling.groups (0 + k, s)

@@ -1,23 +1,16 @@
 -- Names that are looked up, with one name more.
-use Rattle.std.proofs.Common.{◌≡◌, ℕ, ◌+◌, ◌<◌, Bool, true, false, cond, List, [], ◌∷◌, ◌++◌, length, refl, sym, ap, ◌∙◌, get_or, take}
+use Rattle.std.proofs.Common.{◌≡◌, ℕ, ◌+◌, ◌<◌, true, false, cond, List, [], ◌∷◌, ◌++◌, length, refl, sym, ap, ◌∙◌, get_or, take}
 use Rattle.std.specs.Prelude.{◌||◌}
 use Rattle.std.specs.List.{list_any}
 use Rattle.std.specs.Str.{bytes_eq}
 use Rattle.std.specs.Cmp.Lexicographic.{nat_list_eq_equiv}
 use Rattle.std.proofs.lemmas.List.Folds.{list_any-append, list_any_more}
 use Rattle.std.proofs.lemmas.Slice.Eq.{bytes_eq-Decides}
+use Rattle.std.proofs.Math.Bool.{or-false, or-true}
 use Rattle.indexmap.specs.IndexSet.{insert_key}
 use Rattle.policy_lawful.specs.Rules.{is_declared}
 use Rattle.policy_lawful.proofs.NameSets.{declared_is}
 use Rattle.policy_rules.specs.Names.{HasAll}
-
-or_true : (b : Bool) → (b || true) ≡ true
-or_true true = refl
-or_true false = refl
-
-or_false : (b : Bool) → (b || false) ≡ b
-or_false true = refl
-or_false false = refl
 
 -- the first list, searched for a name as a set of names searches, has just the names of the second
 abbrev FindsAll : List (List ℕ) → List (List ℕ) → Type 0
@@ -35,12 +28,12 @@ found_more all names i name h l is n =
             | true ↦ λ t.
                 let same : name ≡ n = (bytes_eq-Decides name n).0 t in
                 let there : had ≡ true = sym (h n) ∙ (ap (λ m. list_any (bytes_eq m) all) (sym same) ∙ e) in
-                there ∙ sym (or_true had)
-            | false ↦ λ t. sym (or_false had)
+                there ∙ sym (or-true had)
+            | false ↦ λ t. sym (or-false had)
           ] refl ∙ sym more)
       | false ↦ λ e.
           list_any-append (bytes_eq n) all (name ∷ [])
-          ∙ ((λ j. h n j || or_false (bytes_eq n name) j) ∙ (ap (λ b. had || b) (nat_list_eq_equiv.symm n name) ∙ sym more))
+          ∙ ((λ j. h n j || or-false (bytes_eq n name) j) ∙ (ap (λ b. had || b) (nat_list_eq_equiv.symm n name) ∙ sym more))
     ] refl
 
 pub all_more : (all names : List (List ℕ)) (i : ℕ) (name : List ℕ) → HasAll all (take i names) → i < length names → name ≡ get_or names i name → HasAll (insert_key bytes_eq all name) (take (i + 1) names)

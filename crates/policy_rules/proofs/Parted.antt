@@ -1,11 +1,12 @@
 -- The windows of a subject in parts: those on what its component provides are on no region, and are counted at the component.
-use Rattle.std.proofs.Common.{◌≡◌, ℕ, suc, ◌+◌, Bool, true, false, List, [], ◌∷◌, ◌++◌, length, map, refl, sym, ap, ◌∙◌, arith, length-append}
+use Rattle.std.proofs.Common.{◌≡◌, ℕ, suc, ◌+◌, false, List, [], ◌∷◌, ◌++◌, length, map, refl, sym, ap, ◌∙◌, arith, length-append}
 use Rattle.std.specs.Prelude.{◌&&◌, ◌||◌}
 use Rattle.std.specs.List.{enumerate_from, filter_map, list_any}
 use Rattle.std.specs.Str.{bytes_eq}
 use Rattle.std.proofs.lemmas.List.{append-nil, length-map}
 use Rattle.std.proofs.lemmas.List.Elements.{filter_map-append}
 use Rattle.std.proofs.lemmas.List.Folds.{list_any-append}
+use Rattle.std.proofs.Math.Bool.{or-false}
 use Rattle.policy_lawful.specs.ByIndex.{provided_at}
 use Rattle.policy_lawful.specs.Resolution.{Resolution}
 use Rattle.policy_lawful.specs.Views.{provided_view, views_of}
@@ -36,10 +37,6 @@ none_writes : (name : List ℕ) (n : ℕ) (xs : List Provided) → list_any (may
 none_writes name n [] = refl
 none_writes name n (x ∷ xs) = none_writes name (n + 1) xs
 
-or_false : (b : Bool) → (b || false) ≡ b
-or_false true = refl
-or_false false = refl
-
 writes_parted : (r : Resolution) (name : List ℕ) (s : Subject) → list_any (may_write name) (views_of r s) ≡ (list_any (may_write name) (front_views r s) || list_any (may_write name) (behind_views r s))
 writes_parted r name s =
     ap (list_any (may_write name)) (sym (in_parts r s))
@@ -47,7 +44,7 @@ writes_parted r name s =
     ∙ ap (λ b. b || list_any (may_write name) (behind_views r s))
     (list_any-append (may_write name) (front_views r s) (given_views r s)
     ∙ ap (λ b. list_any (may_write name) (front_views r s) || b) (none_writes name 0 (provided_at r.components s.component))
-    ∙ or_false (list_any (may_write name) (front_views r s)))
+    ∙ or-false (list_any (may_write name) (front_views r s)))
 
 pub chooser_parted : (r : Resolution) (t : Tau0) (s : Subject) → is_chooser r t s ≡ is_chooser_by t (front_views r s) (behind_views r s) s
 chooser_parted r t s = ap (λ b. bytes_eq s.name t.subject && b) (writes_parted r t.region s)

@@ -6,7 +6,7 @@ use Rattle.std.specs.List.{list_any}
 use Rattle.std.specs.Str.{bytes_eq}
 use Rattle.muen_num.specs.declared.access.AccessKind.TheVariants.{Write}
 use Rattle.muen_num.specs.Search.{unless}
-use Rattle.muen_num.proofs.Lists.{all_true, list_any-map}
+use Rattle.muen_num.proofs.Lists.{all_true, any_same, list_any-map}
 use Rattle.muen_num.proofs.SearchLaws.{option_or-None}
 use Rattle.policy_lawful.specs.Offences.{two}
 use Rattle.policy_lawful.specs.Resolution.{IsResolved, Resolution, source_of, subject_named, subject_in_range}
@@ -21,7 +21,6 @@ use Rattle.policy_lawful.specs.Views.{thing_shown, view_window, views_of}
 use Rattle.policy_lawful.specs.declared.view.Shown.{Shown}
 use Rattle.policy_lawful.specs.declared.view.Shown.TheVariants.{Memory, Channel, Provided, Device, State}
 use Rattle.policy_lawful.specs.declared.view.View.{View}
-use Rattle.policy_lawful.proofs.RegionsByIndex.{any_same}
 use Rattle.policy_lawful.proofs.WindowsByIndex.{windows_by_index}
 use Rattle.policy_rules.specs.Tau0.{chooser_offence, is_chooser, is_on_named, is_own_region, may_write}
 

@@ -10,10 +10,11 @@ use Rattle.std.specs.Str.{bytes_eq}
 use Rattle.std.proofs.lemmas.Bool.{and_parts}
 use Rattle.std.proofs.lemmas.List.Folds.{find-append, list_any-append}
 use Rattle.std.proofs.lemmas.Option.{slice_get_within}
-use Rattle.muen_num.proofs.Lists.{find-map, list_any-map, option_map-option_map}
+use Rattle.muen_num.proofs.Lists.{any_same, find-map, list_any-map, option_map-option_map}
 use Rattle.muen_num.proofs.SameAnswers.{first_numbered_same}
 use Rattle.muen_num.specs.Search.{first_after, first_in, unless}
 use Rattle.muen_num.specs.declared.access.AccessKind.TheVariants.{Write}
+use Rattle.muen_num.proofs.Options.{map_either}
 use Rattle.policy_lawful.specs.Offences.{two}
 use Rattle.policy_lawful.specs.Resolution.{IsResolved, Resolution, source_of, subject_named, subject_in_range}
 use Rattle.policy_lawful.specs.Rules.{is_declared, is_sharer, maps, offence_8, other_than, sharing_offence, stranger, writes, writing_offence}
@@ -25,7 +26,7 @@ use Rattle.policy_lawful.specs.source.Region.{Region}
 use Rattle.policy_lawful.specs.source.Subject.{Subject as NamedSubject}
 use Rattle.policy_lawful.specs.Views.{is_on_region, views_of}
 use Rattle.policy_lawful.specs.declared.view.View.{View}
-use Rattle.policy_lawful.proofs.RegionsByIndex.{any_same, maps_at, writes_at}
+use Rattle.policy_lawful.proofs.RegionsByIndex.{maps_at, writes_at}
 use Rattle.policy_lawful.proofs.NameSets.{declared_is}
 use Rattle.policy_rules.specs.Names.{HasAll}
 use Rattle.policy_rules.specs.Writers.{HasUsers, added, fault_at, not_shared, other_among, sharing_fault, stranger_among, user_of, users_fault, users_of, uses_of, with_user}
@@ -46,10 +47,6 @@ every_find test other same (x ∷ xs) = ap (λ b. cond b (Some x) (find test xs)
 same_after : {X O : Type 0} (at by : List X → X → Option O) → ((before : List X) (x : X) → at before x ≡ by before x) → (before xs : List X) → first_after at before xs ≡ first_after by before xs
 same_after at by same before [] = refl
 same_after at by same before (x ∷ xs) = λ i. option_or (same before x i) (same_after at by same (before ++ x ∷ []) xs i)
-
-map_either : {X Y : Type 0} (f : X → Y) (a b : Option X) → option_map f (option_or a b) ≡ option_or (option_map f a) (option_map f b)
-map_either f None b = refl
-map_either f (Some x) b = refl
 
 -- a test that asks for the same thing besides of each
 any_besides : {X : Type 0} (test : X → Bool) (c : Bool) (xs : List X) → list_any (λ x. test x && c) xs ≡ (list_any test xs && c)

@@ -1,19 +1,15 @@
 -- What the subject at an index sees by itself.
-use Rattle.std.proofs.Common.{◌≡◌, ℕ, ◌+◌, ◌<◌, List, [], length, get_or, Option, Some, refl, sym, ap, ◌∙◌, subst, arith}
+use Rattle.std.proofs.Common.{◌≡◌, ℕ, ◌+◌, ◌<◌, List, [], length, get_or, Option, Some, sym, ap, ◌∙◌, arith}
 use Rattle.std.specs.Prelude.{slice_get}
 use Rattle.std.specs.Option.{option_map_or}
 use Rattle.std.specs.List.{enumerate_from}
-use Rattle.std.proofs.lemmas.Option.{slice_get_read}
 use Rattle.muen_num.specs.Search.{first_in}
 use Rattle.muen_num.proofs.SameAnswers.{first_numbered_same}
+use Rattle.muen_num.proofs.Lists.{read_at}
 use Rattle.policy_lawful.specs.Resolution.{Resolution}
 use Rattle.policy_lawful.specs.declared.resolved.Subject.{Subject}
 use Rattle.policy_lawful.specs.declared.view.View.{View}
 use Rattle.policy_views.specs.Parts.{behind_at, behind_views, front_at, front_views}
-
--- what stands in a list at an index, where it was read
-read_at : {X : Type 0} (xs ys : List X) (k : ℕ) (x : X) → ys ≡ xs → k < length ys → x ≡ get_or ys k x → slice_get xs k ≡ Some x
-read_at xs ys k x same within is = subst (λ zs. slice_get zs k ≡ Some x) same (slice_get_read ys (length ys) k x refl within is)
 
 front_there : (r : Resolution) (k : ℕ) (s : Subject) → slice_get r.subjects k ≡ Some s → front_at r k ≡ front_views r s
 front_there r k s at = ap (λ o. option_map_or (front_views r) o []) at

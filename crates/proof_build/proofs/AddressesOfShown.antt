@@ -18,13 +18,16 @@ use Rattle.image_emit.specs.Made.{IsMade, Made, image_of, policy_of}
 use Rattle.image_emit.proofs.ByNumber.{region_spans_length}
 use Rattle.proof_build.proofs.PagesThere.{page_there}
 use Rattle.image_emit.proofs.SpansOfKernel.{placed_of}
-use Rattle.image_emit.proofs.SpansAt.{at_number, region_at}
+use Rattle.image_emit.proofs.SpansAt.{region_at}
 use Rattle.image_soundness.specs.Memory.{memory_of}
 use Rattle.image_pack.specs.declared.parts.SpanPart.{SpanPart}
 use Rattle.machine_layout.specs.Memory.{is_there, page_of}
-use Rattle.muen_num.proofs.Lists.{get_right}
+use Rattle.muen_num.proofs.Lists.{get_right, numbered_at}
+use Rattle.muen_num.proofs.Options.{from_some}
+use Rattle.muen_num.proofs.Pairs.{other_at}
 use Rattle.muen_num.specs.declared.limits.TheConstants.{GUEST_END, PAGE}
 use Rattle.muen_num.specs.declared.tag.TagPart.TheVariants.{State as StatePart}
+use Rattle.region_alloc.proofs.OwnRegions.{region_at as memory_at}
 use Rattle.policy_lawful.specs.Rules.{is_guest, is_page_aligned, is_page_size}
 use Rattle.policy_lawful.specs.declared.resolved.Subject.{Subject}
 use Rattle.policy_lawful.specs.source.Device.{Device as SomeDevice}
@@ -36,8 +39,8 @@ use Rattle.span_emit.specs.SpansOf.{spans_of}
 use Rattle.subject_emit.specs.Mapped.{brought_before, kernel_first, mapped, mapped_windows, shown_address}
 use Rattle.subject_emit.specs.Shows.{shown_size}
 use Rattle.subject_emit.proofs.KeptSizes.{guests_granted}
-use Rattle.subject_emit.proofs.Numbered.{channel_at, kernel_at_index, memory_at, provided_at_index}
-use Rattle.subject_emit.proofs.Pieces.{at_piece, from_some, other_at}
+use Rattle.subject_emit.proofs.Numbered.{channel_at, kernel_at_index, provided_at_index}
+use Rattle.subject_emit.proofs.Pieces.{at_piece}
 use Rattle.subject_emit.proofs.AddressesFit.{shown_at}
 use Rattle.subject_emit.proofs.ShownViews.{granted_shown}
 use Rattle.expand_kernel.specs.ByIndex.{channel_region, own_region, provided_region}
@@ -79,7 +82,7 @@ module _ (m : Made) (h : IsMade m) where
         ap (slice_get (spans_of m.placed)) number
             ∙ get_right front (device_spans (length regions) devices) j
             ∙ slice_get-map device_span (enumerate_from (length regions) (memories_of devices)) j
-            ∙ ap (option_map device_span) (at_number (length regions) (memories_of devices) j (d.name, x) here),
+            ∙ ap (option_map device_span) (numbered_at (length regions) (memories_of devices) j (d.name, x) here),
       )
 
   -- ---- what the subject at an index is shown

@@ -13,26 +13,26 @@ use Rattle.policy_lawful.specs.ByIndex.{provided_at}
 use Rattle.expand_kernel.specs.declared.region.Region.{Region}
 use Rattle.image_emit.specs.Made.{IsMade, Made, image_of, policy_of, subject_part, subject_parts}
 use Rattle.proof_build.proofs.Contents.{IsRegionOf, addresses_enough, regions_of_things, spans_of_memory, spans_of_regions, thing_spans_are, with_content}
-use Rattle.proof_build.proofs.FirstIndexes.{IsFirstAt, at_left, beside_first, first_left, first_mapped, first_named, first_piece, first_right, none_joined, none_mapped, none_pieces, other_before}
+use Rattle.proof_build.proofs.FirstIndexes.{IsFirstAt, beside_first, first_left, first_mapped, first_named, first_piece, first_right, none_joined, none_mapped, none_pieces, other_before}
 use Rattle.proof_build.proofs.NamedViews.{shown_name, view_called}
 use Rattle.proof_build.proofs.PiecesOfLists.{zip_joined}
 use Rattle.proof_build.proofs.AddressesKept.{lies_at}
 use Rattle.image_emit.proofs.SpansOfKernel.{placed_of}
 use Rattle.image_emit.proofs.RegionSizes.{first_regions}
-use Rattle.image_emit.proofs.SpansAt.{at_number, zip_at}
-use Rattle.proof_build.proofs.ThingBytes.{provided_unique}
 use Rattle.proof_build.proofs.ThingsInOrder.{memory_thing, memory_things, provided_things, region_things, things_are}
 use Rattle.image_soundness.specs.Memory.{Span, address_at}
 use Rattle.image_soundness.specs.Sound.{address_of, addresses_of_things, thing_spans}
 use Rattle.image_pack.specs.declared.parts.SpanPart.{SpanPart}
 use Rattle.image_pack.specs.declared.parts.SubjectPart.{SubjectPart}
-use Rattle.muen_num.proofs.Lists.{get_right, map-map}
+use Rattle.muen_num.proofs.Lists.{at_left, get_right, map-map, numbered_at}
+use Rattle.muen_num.proofs.Options.{from_some}
+use Rattle.muen_num.proofs.Pairs.{other_at, zipped_at}
+use Rattle.muen_num.proofs.Lookups.{same_self}
 use Rattle.policy_lawful.specs.Resolution.{Resolution, name_at, source_of, subject_named}
 use Rattle.policy_lawful.specs.Rules.{logical_names, repeated}
 use Rattle.policy_lawful.specs.declared.resolved.ComponentUse.{ComponentUse}
 use Rattle.policy_lawful.specs.declared.resolved.Subject.{Subject}
-use Rattle.policy_lawful.proofs.Indexes.{same_self}
-use Rattle.policy_lawful.proofs.UniqueNames.{logical_unique, parts_unique, subjects_unique, unique}
+use Rattle.policy_lawful.proofs.UniqueNames.{logical_unique, parts_unique, provided_unique, subjects_unique, unique}
 use Rattle.policy_lawful.specs.Thing.{Thing, channel, device_memory, provided, region, same_thing, state}
 use Rattle.policy_lawful.specs.source.Component.{Component}
 use Rattle.policy_lawful.specs.source.Device.{Device as SourceDevice}
@@ -48,7 +48,7 @@ use Rattle.span_emit.specs.Spans.{device_span, memories_of, region_span}
 use Rattle.subject_emit.specs.Mapped.{brought_before, kernel_first, shown_address}
 use Rattle.subject_emit.specs.Shows.{brought_to}
 use Rattle.subject_emit.proofs.Numbered.{kernel_at_index}
-use Rattle.subject_emit.proofs.Pieces.{at_piece, from_some, other_at}
+use Rattle.subject_emit.proofs.Pieces.{at_piece}
 
 -- ---- the addresses of all things
 
@@ -284,11 +284,11 @@ module _ (m : Made) (h : IsMade m) where
   state_at other s at =
       let g = other_at (AreGrantsOf r) r.subjects m.placed.expanded.grants other s h.expansion.grants at in
       let t = other_at (AreTables r) r.subjects m.events other s h.events at in
-      let both : slice_get (zip m.placed.expanded.grants m.events) other ≡ Some (g.0, t.0) = zip_at m.placed.expanded.grants m.events other g.0 t.0 g.1 t.1 in
+      let both : slice_get (zip m.placed.expanded.grants m.events) other ≡ Some (g.0, t.0) = zipped_at m.placed.expanded.grants m.events other g.0 t.0 g.1 t.1 in
       let all = zip r.subjects (zip m.placed.expanded.grants m.events) in
-      let one : slice_get all other ≡ Some (s, (g.0, t.0)) = zip_at r.subjects (zip m.placed.expanded.grants m.events) other s (g.0, t.0) at both in
+      let one : slice_get all other ≡ Some (s, (g.0, t.0)) = zipped_at r.subjects (zip m.placed.expanded.grants m.events) other s (g.0, t.0) at both in
       let first : 0 + other ≡ other = omega arith in
-      let numbered : slice_get (enumerate_from 0 all) other ≡ Some (other, (s, (g.0, t.0))) = at_number 0 all other (s, (g.0, t.0)) one ∙ ap (λ k. Some (k, (s, (g.0, t.0)))) first in
+      let numbered : slice_get (enumerate_from 0 all) other ≡ Some (other, (s, (g.0, t.0))) = numbered_at 0 all other (s, (g.0, t.0)) one ∙ ap (λ k. Some (k, (s, (g.0, t.0)))) first in
       slice_get-map (λ (q : SubjectPart). address_at (image_of m) q.state) (subject_parts m) other
       ∙ ap (option_map (λ (q : SubjectPart). address_at (image_of m) q.state)) (slice_get-map (subject_part m.placed) (enumerate_from 0 all) other ∙ ap (option_map (subject_part m.placed)) numbered)
       ∙ ap Some (state_address other s at)

@@ -1,5 +1,5 @@
 -- The MSR area of each subject has an entry for each granted MSR, with the value 0.
-use Rattle.std.proofs.Common.{◌≡◌, ℕ, zero, suc, ◌+◌, ◌-◌, ◌%◌, ◌^◌, ◌<◌, All, true, List, [], ◌∷◌, ◌++◌, length, map, get_or, take, drop, replicate, refl, sym, ap, ap₂, ◌∙◌, subst, arith, append_assoc, length-append}
+use Rattle.std.proofs.Common.{◌≡◌, ℕ, suc, ◌+◌, ◌-◌, ◌%◌, ◌^◌, ◌<◌, All, true, List, [], ◌∷◌, ◌++◌, length, map, get_or, take, drop, replicate, refl, sym, ap, ap₂, ◌∙◌, subst, arith, append_assoc}
 use Rattle.std.proofs.Math.Seq.{split_at}
 use Rattle.std.specs.Prelude.{◌&&◌, ◌||◌, nat_le}
 use Rattle.std.specs.List.{flat_map, list_all}
@@ -10,7 +10,6 @@ use Rattle.std.proofs.lemmas.List.{length-map, length-take-le, map-append}
 use Rattle.std.proofs.lemmas.List.Concat.{flat_map-append}
 use Rattle.std.proofs.lemmas.List.Elements.{All-append, All-map, All-nil}
 use Rattle.std.proofs.lemmas.List.Sorted.{IsPermutation-refl}
-use Rattle.std.proofs.lemmas.List.Sums.{sum_by-cons}
 use Rattle.std.proofs.lemmas.Option.{get_or_from_slice_get, slice_get_within}
 use Rattle.expand_kernel.specs.Resources.{Msr, msr_grant, msrs_in, msrs_of}
 use Rattle.image_emit.specs.Made.{IsMade, Made, image_of, policy_of}
@@ -24,10 +23,11 @@ use Rattle.machine_layout.specs.Exits.{AreaEntry, area_bytes, area_index, area_v
 use Rattle.subject_emit.specs.Area.{area_of, count_of, entries_of, entry_of, size_of}
 use Rattle.subject_emit.specs.Msrs.{is_covered}
 use Rattle.muen_num.proofs.Lists.{map-map}
-use Rattle.muen_num.proofs.NumbersBelow.{length_numbers}
+use Rattle.muen_num.proofs.NumbersBelow.{length_numbers, same_below}
 use Rattle.muen_num.specs.Range.{numbers_below}
 use Rattle.muen_num.specs.declared.limits.TheConstants.{HIGH_MSR_FIRST, HIGH_MSR_LAST, LOW_MSR_LAST, PAGE}
 use Rattle.muen_num.specs.declared.tag.TagPart.TheVariants.{Msrs as MsrsPart}
+use Rattle.msrbm_emit.proofs.AreaLaws.{length-area_of}
 use Rattle.machine_layout.specs.PageFields.{padded}
 use Rattle.policy_lawful.specs.Resolution.{Resolution, source_of, subject_named}
 use Rattle.policy_lawful.specs.declared.resolved.Subject.{Subject}
@@ -36,15 +36,6 @@ use Rattle.policy_lawful.specs.resources.MsrGrant.{MsrGrant}
 use Rattle.policy_lawful.specs.source.Msrs.{Msrs}
 use Rattle.subject_emit.specs.Mapped.{kernel_first}
 use Rattle.subject_emit.proofs.KeptMsrs.{msrs_covered}
-
--- ---- numbers in order
-
-mapped_below : {X : Type 0} (f g : ℕ → X) (n : ℕ) → ((k : ℕ) → k < n → f k ≡ g k) → map f (numbers_below n) ≡ map g (numbers_below n)
-mapped_below f g zero h = refl
-mapped_below f g (suc n) h =
-    let rest = mapped_below f g n (λ k l. h k (omega (arith, l))) in
-    let last = h n (omega arith) in
-    map-append f (numbers_below n) (n ∷ []) ∙ (λ i. rest i ++ last i ∷ []) ∙ sym (map-append g (numbers_below n) (n ∷ []))
 
 -- ---- what is read of an area
 
@@ -87,7 +78,7 @@ indices_of (m ∷ ms) h =
     let n : ℕ = m.end + 1 - m.start in
     map-append (λ (e : AreaEntry). e.index % 2 ^ 32) (map own (numbers_below n)) (area_of ms)
     ∙ ap₂ (λ a b. a ++ b)
-    (map-map (λ (e : AreaEntry). e.index % 2 ^ 32) own (numbers_below n) ∙ mapped_below (λ k. (m.start + k) % 2 ^ 32) (λ k. m.start + k) n (λ k l. small m k both.0 l))
+    (map-map (λ (e : AreaEntry). e.index % 2 ^ 32) own (numbers_below n) ∙ same_below (λ k. (m.start + k) % 2 ^ 32) (λ k. m.start + k) n (λ k l. small m k both.0 l))
     (indices_of ms both.1)
 
 indices_in : (xs : List Msrs) → map (λ (m : Msr). m.index) (flat_map msrs_in xs) ≡ flat_map (λ (m : MsrGrant). map (λ k. m.start + k) (numbers_below (m.end + 1 - m.start))) (map msr_grant xs)
@@ -104,14 +95,6 @@ all_zero (m ∷ ms) =
     (All-map (λ (e : AreaEntry). e.value ≡ 0) (λ k. entry_of (m.start + k)) (numbers_below (size_of m)) (λ i d l. refl))
     (all_zero ms)
 
-many_of : (ms : List MsrGrant) → length (area_of ms) ≡ count_of ms
-unfolding area_of entries_of count_of
-many_of [] = refl
-many_of (m ∷ ms) =
-    length-append (entries_of m) (area_of ms)
-    ∙ ap₂ (λ a b. a + b) (length-map (numbers_below (size_of m)) (λ k. entry_of (m.start + k)) ∙ length_numbers (size_of m)) (many_of ms)
-    ∙ sym (sum_by-cons size_of m ms)
-
 -- ---- of a subject
 
 module _ (r : Resolution) (s : Subject) (ms : List MsrGrant) (bytes : List ℕ) (granted : ms ≡ map msr_grant s.msrs) (covered : list_all is_covered ms ≡ true) (held : bytes ≡ padded PAGE (area_bytes (area_of ms))) where
@@ -125,7 +108,7 @@ module _ (r : Resolution) (s : Subject) (ms : List MsrGrant) (bytes : List ℕ) 
   indices : map (area_index bytes) (numbers_below (count_of ms)) ≡ map (λ (m : Msr). m.index) (msrs_of (subject_named r s))
   unfolding msrs_of
   indices =
-      (λ i. map (area_index (area_is i)) (numbers_below (sym (many_of ms) i)))
+      (λ i. map (area_index (area_is i)) (numbers_below (sym (length-area_of ms) i)))
       ∙ looked_up (area_index (area_bytes (area_of ms) ++ zeros_behind)) (λ (e : AreaEntry). e.index % 2 ^ 32) (area_of ms)
       (λ n e at. index_read (area_of ms) zeros_behind n e (slice_get_within (area_of ms) n e at) ∙ ap (λ (e : AreaEntry). e.index % 2 ^ 32) (get_or_from_slice_get (area_of ms) n e e at))
       ∙ indices_of ms covered
@@ -142,7 +125,7 @@ module _ (r : Resolution) (s : Subject) (ms : List MsrGrant) (bytes : List ℕ) 
 
   zero_at : (n : ℕ) → n < count_of ms → area_value bytes n ≡ 0
   zero_at n l =
-      let within : n < length (area_of ms) = omega (arith, l, many_of ms) in
+      let within : n < length (area_of ms) = omega (arith, l, length-area_of ms) in
       ap (λ (b : List ℕ). area_value b n) area_is
       ∙ value_read (area_of ms) zeros_behind n (entry_of 0) within
       ∙ ap (λ v. v % 2 ^ 64) (all_zero ms n (entry_of 0) within)

@@ -87,14 +87,14 @@ in_range : (start end index : ℕ) → (nat_le start index && nat_lt index (star
 in_range start end index = grind (arith, nat_tests)
 
 -- that of one range
-one_range : (x : Msrs) (index : ℕ) (write : Bool) → list_any (λ (m : Msr). (m.index == index) && (if write then m.write else m.read)) (msrs_in x) ≡ (has_msr (msr_grant x) index && allows (msr_grant x) write)
+pub one_range : (x : Msrs) (index : ℕ) (write : Bool) → list_any (λ (m : Msr). (m.index == index) && (if write then m.write else m.read)) (msrs_in x) ≡ (has_msr (msr_grant x) index && allows (msr_grant x) write)
 one_range x index write =
     let ok : Bool = if write then x.rights.write else x.rights.read in
     list_any-map (λ (m : Msr). (m.index == index) && (if write then m.write else m.read)) (λ k. record { index = x.start + k; read = x.rights.read; write = x.rights.write }) (numbers_below (x.end + 1 - x.start))
     ∙ numbered x.start index ok (x.end + 1 - x.start)
     ∙ ap (λ b. b && ok) (in_range x.start x.end index)
 
-msr_granted : (ranges : List Msrs) (index : ℕ) (write : Bool) → list_any (λ (m : Msr). (m.index == index) && (if write then m.write else m.read)) (flat_map msrs_in ranges) ≡ is_msr_granted (map msr_grant ranges) index write
+pub msr_granted : (ranges : List Msrs) (index : ℕ) (write : Bool) → list_any (λ (m : Msr). (m.index == index) && (if write then m.write else m.read)) (flat_map msrs_in ranges) ≡ is_msr_granted (map msr_grant ranges) index write
 unfolding is_msr_granted
 msr_granted [] index write = refl
 msr_granted (x ∷ xs) index write =

@@ -6,18 +6,15 @@ use Rattle.std.proofs.lemmas.Bool.{cases_Bool, eqb-true}
 use Rattle.std.proofs.lemmas.Bool.Decides.{nat_tests}
 use Rattle.std.proofs.lemmas.List.Elements.{filter-append}
 use Rattle.std.proofs.lemmas.List.Folds.{list_any-append}
+use Rattle.std.proofs.Math.Bool.{or-false}
 use Rattle.expand_kernel.specs.Resources.{has_port, port_ranges_of, ports_of}
 use Rattle.muen_num.specs.Range.{numbers_below}
 use Rattle.muen_num.specs.declared.limits.TheConstants.{LAST_PORT}
 use Rattle.policy_lawful.specs.source.Source.{Source}
 use Rattle.policy_lawful.specs.source.Subject.{Subject}
 
-or_false : (b : Bool) → (b || false) ≡ b
-or_false true = refl
-or_false false = refl
-
 picked : (f : ℕ → Bool) (n x : ℕ) → list_any (λ y. y == x) (filter f (n ∷ [])) ≡ (f n && (n == x))
-picked f n x = elim (f n) as (λ b. list_any (λ y. y == x) (cond b (n ∷ []) []) ≡ (b && (n == x))) [ true ↦ or_false (n == x) | false ↦ refl ]
+picked f n x = elim (f n) as (λ b. list_any (λ y. y == x) (cond b (n ∷ []) []) ≡ (b && (n == x))) [ true ↦ or-false (n == x) | false ↦ refl ]
 
 at_same : (n : ℕ) (b : Bool) → (nat_lt n n && b || (b && (n == n))) ≡ (nat_lt n (suc n) && b)
 at_same n b =
@@ -30,7 +27,7 @@ at_other : (n x : ℕ) (a b : Bool) → (n == x) ≡ false → (nat_lt x n && a 
 at_other n x a b other =
     let less : nat_lt x (suc n) ≡ nat_lt x n = grind (arith, nat_tests) in
     let c : Bool = nat_lt x n && a in
-    rw (other, less) (elim b as (λ b. (c || (b && false)) ≡ c) [ true ↦ or_false c | false ↦ or_false c ])
+    rw (other, less) (elim b as (λ b. (c || (b && false)) ≡ c) [ true ↦ or-false c | false ↦ or-false c ])
 
 last_number : (f : ℕ → Bool) (n x : ℕ) → (nat_lt x n && f x || list_any (λ y. y == x) (filter f (n ∷ []))) ≡ (nat_lt x (suc n) && f x)
 last_number f n x =

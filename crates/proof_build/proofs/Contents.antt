@@ -3,22 +3,23 @@ use Rattle.std.proofs.Common.{◌≡◌, ℕ, suc, ◌+◌, ◌*◌, ◌/◌, �
 use Rattle.std.specs.Prelude.{replicate, slice_get, slice_index_or}
 use Rattle.std.specs.List.{AllZip, enumerate_from, filter, flat_map, zip}
 use Rattle.std.proofs.lemmas.List.{map-append}
-use Rattle.std.proofs.lemmas.List.Elements.{All-append, All-cons, All-from_recursion, All-head, All-map, All-nil, All-tail, filter-append}
+use Rattle.std.proofs.lemmas.List.Elements.{All-append, All-from_recursion, All-head, All-map, All-tail, filter-append}
 use Rattle.std.proofs.lemmas.Option.{get_or_from_slice_get, slice_get_within}
 use Rattle.expand_kernel.specs.ByIndex.{brought_at, channel_region, kernel_for, kernel_for_each, own_region, provided_region}
 use Rattle.policy_lawful.specs.ByIndex.{provided_at}
 use Rattle.expand_kernel.specs.declared.region.Region.{Region}
 use Rattle.image_emit.specs.Made.{IsMade, Made, content_at, image_of, kernel_bytes, policy_of, region_bytes, thing_bytes}
 use Rattle.image_emit.proofs.ByNumber.{as_many_addresses, by_number_is}
-use Rattle.image_emit.proofs.ContentLengths.{region_kind, whole_regions, whole_size}
-use Rattle.proof_build.proofs.PiecesOfLists.{all_pieces, filter_map_same, flat_map_at, map_pieces, zip_append, zip_map_both, zip_pieces}
+use Rattle.image_emit.proofs.ContentLengths.{whole_regions, whole_size}
+use Rattle.proof_build.proofs.PiecesOfLists.{flat_map_at, zip_append, zip_map_both, zip_pieces}
+use Rattle.image_emit.proofs.PlanDevices.{kept_memories}
 use Rattle.image_emit.proofs.RegionSizes.{first_regions, last_regions, regions_are}
 use Rattle.proof_build.proofs.ThingBytes.{memory_bytes_are, memory_sizes_are, region_bytes_are, region_sizes_are}
 use Rattle.proof_build.proofs.ThingsInOrder.{memory_thing, memory_things, provided_things, region_things, things_are}
 use Rattle.image_soundness.specs.Memory.{Span}
 use Rattle.image_soundness.specs.Sound.{AreContents, IsSpanOf, is_kernel, kind_of, thing_spans}
 use Rattle.image_pack.specs.declared.parts.SpanPart.{SpanPart}
-use Rattle.muen_num.proofs.Lists.{get_left, map-map}
+use Rattle.muen_num.proofs.Lists.{all_flat, all_front, filter-map, get_left, map-flat_map, map-map}
 use Rattle.muen_num.specs.declared.limits.TheConstants.{PAGE}
 use Rattle.policy_lawful.specs.Resolution.{source_of}
 use Rattle.policy_lawful.specs.Contents.{Held, initial_bytes}
@@ -28,13 +29,8 @@ use Rattle.policy_lawful.specs.source.Source.{Source}
 use Rattle.span_emit.specs.Spans.{device_span, memories_of, region_span, region_spans, span_kind}
 use Rattle.span_emit.specs.SpansOf.{spans_of}
 use Rattle.policy_lawful.proofs.KeptAddresses.{IsPhysical}
-use Rattle.policy_lawful.proofs.KeptRules.{rules_of}
-use Rattle.span_emit.proofs.KeptDevices.{devices_physical}
 use Rattle.span_emit.proofs.KeptRegions.{IsWhole}
-
-all_front : {X : Type 0} (P : X → Type 0) (xs ys : List X) → All P (xs ++ ys) → All P xs
-all_front P [] ys h = All-nil P
-all_front P (x ∷ xs) ys h = All-cons P x xs (All-head P x (xs ++ ys) h) (all_front P xs ys (All-tail P x (xs ++ ys) h))
+use Rattle.span_emit.proofs.RegionSpans.{no_device}
 
 -- ---- which spans they are
 
@@ -66,14 +62,14 @@ devices_kept n (x ∷ xs) = ap (λ ss. device_span (n, x) ∷ ss) (devices_kept 
 brought_kept : (m : Made) → All (IsKept true) (flat_map (brought_at (policy_of m).components) (policy_of m).subjects)
 unfolding brought_at
 brought_kept m =
-    all_pieces (IsKept true) (brought_at (policy_of m).components)
+    all_flat (IsKept true) (brought_at (policy_of m).components)
     (λ s. All-map (IsKept true) (provided_region s.name) (provided_at (policy_of m).components s.component) (λ k d l. refl))
     (policy_of m).subjects
 
 last_kept : (m : Made) → All (IsKept false) (last_regions m)
 unfolding kernel_for_each
 last_kept m =
-    all_pieces (IsKept false) kernel_for (λ e. All-from_recursion (IsKept false) (kernel_for e) (refl, (refl, (refl, (refl, (refl, tt))))))
+    all_flat (IsKept false) kernel_for (λ e. All-from_recursion (IsKept false) (kernel_for e) (refl, (refl, (refl, (refl, (refl, tt))))))
     (zip (policy_of m).subjects m.placed.expanded.grants)
 
 -- of each region that isn't the kernel's
@@ -102,7 +98,7 @@ thing_spans_are m h =
     let memory = spans_of_memory m in
     let kept = front_kept 0 (first_regions m) (last_regions m) m.placed.addresses (first_kept m) (last_kept m) in
     ap (filter (λ (e : Span). not (is_kernel e.0.kind))) (by_number_is m h)
-    ∙ filter_map_same (λ (e : Span). not (is_kernel e.0.kind)) (with_content m) (spans_of m.placed)
+    ∙ filter-map (λ (e : Span). not (is_kernel e.0.kind)) (with_content m) (spans_of m.placed)
     ∙ ap (map (with_content m)) (
     filter-append keeps (region_spans m.placed.expanded.regions m.placed.addresses) memory
     ∙ ap (λ ys. filter keeps (region_spans ys m.placed.addresses) ++ filter keeps memory) (regions_are m h)
@@ -143,7 +139,7 @@ module _ (files : Held) (p : Source) where
     tag = of.tag;
     kind = of.kind;
     size = size ∙ ap Some (sym (whole_size y.size whole.pages));
-    bytes = ap (λ d. cond d (replicate (PAGE * (y.size / PAGE)) 0) held) (region_kind y.kind) ∙ has ∙ is;
+    bytes = ap (λ d. cond d (replicate (PAGE * (y.size / PAGE)) 0) held) (no_device y.kind) ∙ has ∙ is;
   }
 
   region_spans_have : (look : ℕ → List ℕ) (n : ℕ) (ts : List Thing) (ys : List Region) (ps : List ℕ) (bs : List (List ℕ)) → AllZip IsRegionOf ts ys → length ys ≤ length ps
@@ -205,7 +201,7 @@ region_sizes m h =
     let of_memory : map size memory ≡ map (λ x. Some x.size) r.memory = map-map size own_region r.memory in
     let of_channels : map size channels ≡ map (λ c. Some c.size) r.channels = map-map size channel_region r.channels in
     let of_brought : map size brought ≡ flat_map (λ s. map (λ x. Some x.size) (provided_at r.components s.component)) r.subjects =
-    map_pieces size (brought_at r.components) r.subjects
+    map-flat_map size (brought_at r.components) r.subjects
     ∙ flat_map_at (λ s. map size (brought_at r.components s)) (λ s. map (λ x. Some x.size) (provided_at r.components s.component)) r.subjects
     (λ k s at. map-map size (provided_region s.name) (provided_at r.components s.component)) in
     region_sizes_are r h.resolved
@@ -221,10 +217,6 @@ first_whole m h = all_front IsWhole (first_regions m) (last_regions m) (subst (A
 looked : (m : Made) (k : ℕ) (b : List ℕ) → slice_get m.things k ≡ Some b → slice_index_or (region_bytes m) k [] ≡ b
 looked m k b at = get_or_from_slice_get (region_bytes m) k b [] (get_left m.things (flat_map kernel_bytes m.pages) k (slice_get_within m.things k b at) ∙ at)
 
-physical : (m : Made) → IsMade m → All (λ x. IsPhysical x.1) (memories_of (policy_of m).devices)
-unfolding source_of
-physical m h = devices_physical (source_of (policy_of m)) (rules_of h.lawful).rule_4
-
 -- **the contents**: the spans that aren't the kernel's are the things of the policy
 pub contents : (files : Held) (m : Made) → IsMade m → m.things ≡ thing_bytes files (policy_of m) → AreContents (source_of (policy_of m)) files (image_of m)
 contents files m h held =
@@ -235,7 +227,7 @@ contents files m h held =
     region_spans_have files p look 0 (region_things r) (first_regions m) m.placed.addresses m.things (regions_of_things m) (addresses_enough m h) (held ∙ region_bytes_are files r h.resolved) (region_sizes m h) (first_whole m h)
     (λ k b at. let number : 0 + k ≡ k = omega arith in ap look number ∙ looked m k b at) in
     let memory : AllZip (IsSpanOf p files) (memory_things r) (map (with_content m) (spans_of_memory m)) =
-    memory_spans_have files p look (length m.placed.expanded.regions) (memories_of r.devices) (memory_bytes_are files r h.resolved) (memory_sizes_are r h.resolved) (physical m h) in
+    memory_spans_have files p look (length m.placed.expanded.regions) (memories_of r.devices) (memory_bytes_are files r h.resolved) (memory_sizes_are r h.resolved) (kept_memories m h) in
     subst (λ ts. AllZip (IsSpanOf p files) ts (thing_spans (image_of m))) (sym (things_are r h.resolved))
     (subst (AllZip (IsSpanOf p files) (region_things r ++ memory_things r)) (sym (thing_spans_are m h ∙ map-append (with_content m) (spans_of_regions m) (spans_of_memory m)))
     (zip_append (IsSpanOf p files) (region_things r) (map (with_content m) (spans_of_regions m)) (memory_things r) (map (with_content m) (spans_of_memory m)) regions memory))

@@ -7,7 +7,7 @@ use Rattle.std.specs.Str.{bytes_eq}
 use Rattle.std.proofs.lemmas.Bool.{or_parts}
 use Rattle.std.proofs.lemmas.List.{length-map}
 use Rattle.std.proofs.lemmas.Option.{slice_get_within}
-use Rattle.muen_num.proofs.Lists.{get_left, list_any-map, position-map}
+use Rattle.muen_num.proofs.Lists.{list_any-map, position-map}
 use Rattle.policy_lawful.specs.Resolution.{name_at}
 use Rattle.policy_lawful.specs.Rules.{repeated}
 use Rattle.policy_lawful.proofs.Indexes.{position_is, same_name}
@@ -124,6 +124,3 @@ beside_first {X} test (x ∷ xs) (p ∷ ps) (suc k) a h at =
       | true ↦ λ e. absurd (omega (arith, e))
       | false ↦ λ e. beside_first test xs ps k a (record { at = omega (arith, e); within = omega (arith, h.within) }) at
     ] h.at
-
-pub at_left : {X : Type 0} (xs ys : List X) (k : ℕ) (x : X) → slice_get xs k ≡ Some x → slice_get (xs ++ ys) k ≡ Some x
-at_left xs ys k x at = get_left xs ys k (slice_get_within xs k x at) ∙ at

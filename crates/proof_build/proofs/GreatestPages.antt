@@ -11,6 +11,7 @@ use Rattle.ept_emit.specs.declared.window.Leaf.{Leaf}
 use Rattle.ept_emit.specs.declared.window.Leaf.TheVariants.{Small, Large, Huge}
 use Rattle.ept_emit.specs.Emitted.{IsGreatestSize, eptp_of}
 use Rattle.ept_emit.specs.Entries.{level_of}
+use Rattle.ept_emit.proofs.Walked.{level_low}
 use Rattle.event_emit.specs.declared.event_tables.EventTables.{EventTables}
 use Rattle.expand_kernel.specs.Grants.{is_lower}
 use Rattle.expand_kernel.specs.granted.Grants.{Grants}
@@ -55,11 +56,6 @@ agree_below guest address Huge (suc zero) e l = omega (arith, e)
 agree_below guest address Huge (suc (suc zero)) e l = sym e
 agree_below guest address Huge (suc (suc (suc n))) e l = absurd (omega (arith, l))
 
-low_leaf : (leaf : Leaf) → level_of leaf ≤ 2
-low_leaf Small = omega arith
-low_leaf Large = omega arith
-low_leaf Huge = omega arith
-
 -- the level is that of the greatest page at which they agree
 allowed : (guest address level : ℕ) → level ≤ 2 → guest % entry_size level ≡ address % entry_size level → level ≤ level_of (leaf_for guest address)
 allowed guest address zero l e = omega arith
@@ -99,7 +95,7 @@ module _ (m : Made) (h : IsMade m) (k : ℕ) (s : Subject) (g : Grants) (t : Eve
         level = w.level;
         is = w.is;
         fits = record {
-          small = (let few = low_leaf leaf in let is = w.allowed in omega (arith, few, is));
+          small = (let few = level_low leaf in let is = w.allowed in omega (arith, few, is));
           agrees = agree_below v.guest to leaf w.level (fits_leaf v.guest to aligned.1 aligned.0) w.allowed;
           begins = w.inside.begins;
           ends = w.inside.ends;

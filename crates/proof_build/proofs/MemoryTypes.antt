@@ -5,6 +5,7 @@ use Rattle.std.specs.List.{Contains, find}
 use Rattle.std.specs.Option.{IfSome, option_map_or}
 use Rattle.std.specs.Str.{bytes_eq}
 use Rattle.std.proofs.lemmas.Option.{slice_get_within}
+use Rattle.muen_num.proofs.Options.{from_some}
 use Rattle.ept_emit.specs.Emitted.{eptp_of}
 use Rattle.ept_emit.specs.Entries.{type_of}
 use Rattle.ept_emit.specs.declared.window.Window.{Window as MappedWindow}
@@ -36,7 +37,6 @@ use Rattle.proof_build.proofs.WalksByWindow.{found_contained}
 use Rattle.subject_emit.specs.Mapped.{mapped, shown_caching}
 use Rattle.subject_emit.specs.Pages.{tables_at}
 use Rattle.subject_emit.specs.declared.subject_pages.SubjectPages.{SubjectPages}
-use Rattle.subject_emit.proofs.Pieces.{from_some}
 
 -- ---- what is shown
 

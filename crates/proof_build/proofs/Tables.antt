@@ -20,7 +20,7 @@ use Rattle.image_pack.specs.declared.parts.SpanPart.{SpanPart}
 use Rattle.machine_layout.specs.Walks.{addresses_read}
 use Rattle.muen_num.specs.declared.limits.TheConstants.{GUEST_END, PAGE}
 use Rattle.muen_num.specs.declared.tag.TagPart.TheVariants.{Ept}
-use Rattle.policy_lawful.proofs.Indexes.{same_self}
+use Rattle.muen_num.proofs.Lookups.{same_self}
 use Rattle.policy_lawful.specs.Resolution.{source_of}
 use Rattle.policy_lawful.specs.declared.resolved.Subject.{Subject}
 use Rattle.proof_build.specs.Built.{is_in_tables_of}

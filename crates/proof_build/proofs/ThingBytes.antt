@@ -8,17 +8,18 @@ use Rattle.std.specs.Str.{bytes_eq}
 use Rattle.std.proofs.lemmas.List.{map-append}
 use Rattle.policy_lawful.specs.ByIndex.{provided_at}
 use Rattle.image_emit.specs.Made.{thing_bytes}
-use Rattle.proof_build.proofs.PiecesOfLists.{flat_map_at, found_by_name, map_at, map_pieces}
+use Rattle.proof_build.proofs.PiecesOfLists.{flat_map_at, map_at}
 use Rattle.proof_build.proofs.ThingsInOrder.{component_is, memory_thing, memory_things, provided_things, region_things, used_component}
-use Rattle.muen_num.proofs.Lists.{find-map, map-map}
+use Rattle.muen_num.proofs.Lists.{find-map, map-flat_map, map-map}
 use Rattle.policy_lawful.specs.Resolution.{IsResolved, Resolution, source_of, subject_named}
 use Rattle.policy_lawful.specs.Rules.{logical_names, repeated}
 use Rattle.policy_lawful.specs.declared.resolved.ComponentUse.{ComponentUse}
 use Rattle.policy_lawful.specs.declared.resolved.Subject.{Subject}
-use Rattle.policy_lawful.proofs.UniqueNames.{logical_unique, parts_unique, subjects_unique, unique, unique_parts}
+use Rattle.policy_lawful.proofs.UniqueNames.{parts_unique, provided_unique, subjects_unique, unique, unique_logical}
 use Rattle.policy_lawful.specs.Contents.{Held, content_bytes, initial_bytes}
 use Rattle.policy_lawful.specs.Thing.{Item, Thing, channel, channel_item, declared_size, device_item, device_memory, item_of, provided, provided_item, region, region_item}
 use Rattle.policy_lawful.proofs.Items.{item_of_channel, item_of_device, item_of_provided, item_of_region}
+use Rattle.policy_lawful.proofs.WindowsByIndex.{found_by_name}
 use Rattle.policy_lawful.specs.source.Channel.{Channel}
 use Rattle.policy_lawful.specs.source.Component.{Component}
 use Rattle.policy_lawful.specs.source.Content.{Content}
@@ -29,14 +30,6 @@ use Rattle.policy_lawful.specs.source.Provided.{Provided}
 use Rattle.policy_lawful.specs.source.Region.{Region}
 use Rattle.policy_lawful.specs.source.Source.{Source}
 use Rattle.span_emit.specs.Spans.{memories_of}
-
--- the logical names of what a component brings along are unique
-pub provided_unique : (c : Component) → repeated (logical_names c) ≡ None → repeated (map (λ x. x.logical) c.provides) ≡ None
-provided_unique c h =
-    let provides = map (λ x. x.logical) c.provides in
-    let memory = map (λ x. x.logical) c.memory in
-    let channels = map (λ x. x.logical) c.channels in
-    (unique_parts provides memory (unique_parts (provides ++ memory) channels h).0).0
 
 -- which index has a component that brings something along
 provided_found : (r : Resolution) (o : Option ComponentUse) → ((k : ℕ) (c : Component) → slice_get r.components k ≡ Some c → repeated (logical_names c) ≡ None)
@@ -98,19 +91,15 @@ module _ {A : Type 0} (made : ℕ → Content → A) (none : A) (r : Resolution)
       find-map (λ t. bytes_eq t.name s.name) (subject_named r) r.subjects
       ∙ ap (option_map (subject_named r)) (found_by_name (λ (s : Subject). s.name) r.subjects (subjects_unique r q.names) k s at)
 
-  component_names : (k : ℕ) (c : Component) → slice_get r.components k ≡ Some c → repeated (logical_names c) ≡ None
-  unfolding source_of
-  component_names k c at = logical_unique (source_of r) k c q.names at
-
   provided_one : (k : ℕ) (s : Subject) → slice_get r.subjects k ≡ Some s → (j : ℕ) (x : Provided) → slice_get (provided_at r.components s.component) j ≡ Some x → look (provided s.name x.logical) ≡ made x.size x.content
   provided_one k s at j x here =
-      let c = provided_found r s.component component_names j x here in
+      let c = provided_found r s.component (unique_logical r q) j x here in
       look_of (provided s.name x.logical) (provided_item s.name x)
       (item_of_provided (source_of r) s.name x.logical (subject_named r s) c.0 x (subject_found k s at) (component_is r q k s at ∙ c.1.0) c.1.1)
 
   of_provided : map look (flat_map (provided_things r.components) r.subjects) ≡ flat_map (λ s. map (λ x. made x.size x.content) (provided_at r.components s.component)) r.subjects
   of_provided =
-      map_pieces look (provided_things r.components) r.subjects
+      map-flat_map look (provided_things r.components) r.subjects
       ∙ flat_map_at (λ s. map look (provided_things r.components s)) (λ s. map (λ x. made x.size x.content) (provided_at r.components s.component)) r.subjects
       (λ k s at.
       map-map look (λ x. provided s.name x.logical) (provided_at r.components s.component)
@@ -136,13 +125,13 @@ module _ {A : Type 0} (made : ℕ → Content → A) (none : A) (r : Resolution)
   -- of the memory of devices
   of_devices : map (λ x. made x.1.size Zero) (memories_of r.devices) ≡ map look (memory_things r)
   of_devices =
-      map_pieces (λ (x : List ℕ × DeviceMemory). made x.1.size Zero) (λ d. map (λ m. (d.name, m)) d.memory) r.devices
+      map-flat_map (λ (x : List ℕ × DeviceMemory). made x.1.size Zero) (λ d. map (λ m. (d.name, m)) d.memory) r.devices
       ∙ flat_map_at (λ d. map (λ (x : List ℕ × DeviceMemory). made x.1.size Zero) (map (λ m. (d.name, m)) d.memory)) (λ d. map (λ (x : List ℕ × DeviceMemory). look (memory_thing x)) (map (λ m. (d.name, m)) d.memory)) r.devices
       (λ k d at.
       map-map (λ (x : List ℕ × DeviceMemory). made x.1.size Zero) (λ m. (d.name, m)) d.memory
       ∙ map_at (λ m. made m.size Zero) (λ m. look (device_memory d.name m.name)) d.memory (λ j m here. sym (memory_one k d at j m here))
       ∙ sym (map-map (λ (x : List ℕ × DeviceMemory). look (memory_thing x)) (λ m. (d.name, m)) d.memory))
-      ∙ sym (map_pieces (λ (x : List ℕ × DeviceMemory). look (memory_thing x)) (λ d. map (λ m. (d.name, m)) d.memory) r.devices)
+      ∙ sym (map-flat_map (λ (x : List ℕ × DeviceMemory). look (memory_thing x)) (λ d. map (λ m. (d.name, m)) d.memory) r.devices)
       ∙ sym (map-map look memory_thing (memories_of r.devices))
 
 -- ---- bytes

@@ -6,8 +6,8 @@ use Rattle.std.specs.List.{flat_map}
 use Rattle.std.proofs.lemmas.Bool.{and_parts, ltb-true}
 use Rattle.std.proofs.lemmas.List.Folds.{flat_map-map}
 use Rattle.policy_lawful.specs.ByIndex.{provided_at}
-use Rattle.proof_build.proofs.PiecesOfLists.{map_pieces, flat_map_at}
-use Rattle.muen_num.proofs.Lists.{map-map, passes_at}
+use Rattle.proof_build.proofs.PiecesOfLists.{flat_map_at}
+use Rattle.muen_num.proofs.Lists.{map-flat_map, map-map, passes_at}
 use Rattle.policy_lawful.specs.Resolution.{IsResolved, Resolution, component_named, component_in_range, source_of, subject_named, subject_in_range}
 use Rattle.policy_lawful.specs.declared.resolved.ComponentUse.{ComponentUse}
 use Rattle.policy_lawful.specs.declared.resolved.Subject.{Subject}
@@ -81,7 +81,7 @@ module _ (r : Resolution) (q : IsResolved r) where
   memories_all : (ds : List Device) → flat_map (λ d. map (λ m. device_memory d.name m.name) d.memory) ds ≡ map memory_thing (memories_of ds)
   memories_all ds =
       flat_map_at (λ d. map (λ m. device_memory d.name m.name) d.memory) (λ d. map memory_thing (map (λ m. (d.name, m)) d.memory)) ds (λ k d at. sym (map-map memory_thing (λ m. (d.name, m)) d.memory))
-      ∙ sym (map_pieces memory_thing (λ d. map (λ m. (d.name, m)) d.memory) ds)
+      ∙ sym (map-flat_map memory_thing (λ d. map (λ m. (d.name, m)) d.memory) ds)
 
   pub things_are : things_of (source_of r) ≡ region_things r ++ memory_things r
   unfolding source_of

@@ -1,10 +1,9 @@
 -- The walks for a subject's guest addresses go exactly where its windows lead.
-use Rattle.std.proofs.Common.{◌≡◌, ℕ, ◌+◌, ◌-◌, ◌≤◌, Bool, true, false, List, map, Option, Some, None, refl, sym, ap, ◌∙◌, subst, arith}
+use Rattle.std.proofs.Common.{◌≡◌, ℕ, ◌+◌, ◌-◌, Bool, true, false, List, map, Option, Some, None, refl, sym, ap, ◌∙◌, subst}
 use Rattle.std.specs.Prelude.{◌&&◌, nat_le, nat_lt, option_map, slice_get, if◌then◌else◌}
 use Rattle.std.specs.List.{find}
 use Rattle.std.specs.List.Sorted.{IsPermutation}
 use Rattle.std.proofs.lemmas.List.Sorted.{IsPermutation-map}
-use Rattle.std.proofs.lemmas.Bool.{and_parts, leb-true, ltb-true}
 use Rattle.std.proofs.lemmas.Option.{get_or_from_slice_get, slice_get_within}
 use Rattle.ept_emit.specs.Emitted.{holds as is_in, translation, translation_in, window_at}
 use Rattle.expand_kernel.specs.Grants.{AreGrantsOf, is_lower}
@@ -22,6 +21,7 @@ use Rattle.image_soundness.specs.Memory.{memory_of}
 use Rattle.image_soundness.specs.Sound.{ForEachSubject, HasWalks, led, address_of}
 use Rattle.machine_layout.specs.declared.walk.Walk.TheVariants.{At, Violation}
 use Rattle.muen_num.proofs.Lists.{find-map, passes_at}
+use Rattle.muen_num.proofs.Numbers.{not_both}
 use Rattle.muen_num.specs.declared.access.AccessKind.{AccessKind}
 use Rattle.policy_lawful.specs.Resolution.{source_of, subject_named, subject_in_range}
 use Rattle.policy_lawful.specs.declared.resolved.Subject.{Subject}
@@ -40,14 +40,8 @@ use Rattle.subject_emit.proofs.SamePages.{apart_mapped}
 abbrev pub on_view : ℕ → View → Bool
 on_view addr v = nat_le v.guest addr && nat_lt addr (v.guest + v.size)
 
-not_both : (addr a m b n : ℕ) → a + m ≤ b → (nat_le a addr && nat_lt addr (a + m)) ≡ true → (nat_le b addr && nat_lt addr (b + n)) ≡ true → ⊥
-not_both addr a m b n apart p q =
-    let high = ltb-true addr (a + m) (and_parts (nat_le a addr) (nat_lt addr (a + m)) p).1 in
-    let low = leb-true b addr (and_parts (nat_le b addr) (nat_lt addr (b + n)) q).0 in
-    omega (arith, apart, high, low)
-
 -- a byte where there is the right, and the rights that were found where there isn't
-by_rights : (address : Thing → ℕ) (b : Bool) (x : Thing) (to offset : ℕ) (rights : Rights) → address x ≡ to → (if b then At (to + offset) else Violation (rights_bits rights)) ≡ led address (if b then byte x offset else violation (Some rights))
+pub by_rights : (address : Thing → ℕ) (b : Bool) (x : Thing) (to offset : ℕ) (rights : Rights) → address x ≡ to → (if b then At (to + offset) else Violation (rights_bits rights)) ≡ led address (if b then byte x offset else violation (Some rights))
 by_rights address true x to offset rights e = ap (λ n. At (n + offset)) (sym e)
 by_rights address false x to offset rights e = refl
 

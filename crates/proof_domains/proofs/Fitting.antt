@@ -22,12 +22,11 @@ use Rattle.policy_lawful.specs.Windows.{Access, byte, violation}
 use Rattle.policy_lawful.specs.source.Region.{Region}
 use Rattle.policy_lawful.specs.source.Source.{Source}
 use Rattle.proof_build.specs.Built.{HasSpans}
-use Rattle.proof_runs.proofs.DmaLines.{numbered_found}
 use Rattle.proof_runs.proofs.DomainWindows.{lands}
-use Rattle.proof_runs.proofs.SameInputs.{found_number}
 use Rattle.proof_runs.specs.Fit.{Fit, place_of}
 use Rattle.dma_emit.specs.Placed.{IsPlaced, Placement}
 use Rattle.proof_domains.proofs.Places.{placed_there}
+use Rattle.muen_num.proofs.Lookups.{at_position, found_number}
 
 module _ (x : Placement) (placed : IsPlaced x) (files : Held) (i : Image) (keeps : KeepsConditions i) (sound : IsSound (source_of x.expanded.lawful) files i) (spans : HasSpans (source_of x.expanded.lawful) i) where
   abbrev p : Source
@@ -39,7 +38,7 @@ module _ (x : Placement) (placed : IsPlaced x) (files : Held) (i : Image) (keeps
   region_there r found = by (position (λ s. bytes_eq s.name r.name) p.memory) refl
     where
       by : (o : Option ℕ) → position (λ s. bytes_eq s.name r.name) p.memory ≡ o → option_map_or (slice_index x.addresses) o 0 ≡ address_of p i (region r.name)
-      by (Some k) e = get_or_from_slice_get x.addresses k (address_of p i (region r.name)) 0 (placed_there x placed files i keeps sound spans k r (numbered_found (λ s. bytes_eq s.name r.name) p.memory k e ∙ found))
+      by (Some k) e = get_or_from_slice_get x.addresses k (address_of p i (region r.name)) 0 (placed_there x placed files i keeps sound spans k r (at_position (λ s. bytes_eq s.name r.name) p.memory k e ∙ found))
       by None e = absurd (false≢true (ap is_some (sym e) ∙ (found_number (λ s. bytes_eq s.name r.name) p.memory ∙ ap is_some found)))
 
   same_place : (device : List ℕ) (addr : ℕ) (a : Access Thing) → dma_access p device addr Write ≡ a → placed_at x a ≡ place_of (address_of p i) a

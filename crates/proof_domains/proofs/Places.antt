@@ -3,6 +3,7 @@ use Rattle.std.proofs.Common.{◌≡◌, ◌∙◌, ℕ, zero, suc, ◌+◌, ◌
 use Rattle.std.specs.Prelude.{not, option_map, slice_get}
 use Rattle.std.specs.List.{enumerate_from, flat_map}
 use Rattle.std.proofs.lemmas.Option.{slice_get-map}
+use Rattle.std.proofs.lemmas.Map.Keys.{any_passes_from_place}
 use Rattle.dma_emit.specs.Regions.{kernel_regions_of, regions_of}
 use Rattle.dma_tables.specs.ImageConditions.{KeepsConditions}
 use Rattle.dma_tables.specs.parts.Image.{Image}
@@ -15,7 +16,6 @@ use Rattle.policy_lawful.specs.Thing.{channel, component_by, device_memory, regi
 use Rattle.policy_lawful.specs.source.Region.{Region as SourceRegion}
 use Rattle.policy_lawful.specs.source.Source.{Source}
 use Rattle.proof_build.specs.Built.{HasSpans}
-use Rattle.proof_start.proofs.ListFacts.{any_at, from_some, other_at, same_at, zipped_at}
 use Rattle.proof_start.proofs.OnceFacts.{thing_once}
 use Rattle.proof_start.proofs.SpansOfThings.{listed_span}
 use Rattle.dma_emit.specs.Placed.{IsPlaced, Placement}
@@ -24,24 +24,17 @@ use Rattle.proof_start.proofs.KeyLaws.{same_thing_self}
 use Rattle.dma_emit.specs.ByIndex.{channel_region, own_region, provided_regions}
 use Rattle.policy_lawful.proofs.Items.{provided_by, things_are}
 use Rattle.dma_emit.proofs.ByKind.{regions_are}
+use Rattle.muen_num.proofs.Options.{from_some, one_value}
+use Rattle.muen_num.proofs.Pairs.{other_at, zipped_at}
+use Rattle.muen_num.proofs.Lists.{at_left, numbered_at}
 
 -- ---- lists
 
-front_at : {X : Type 0} (xs ys : List X) (k : ℕ) (x : X) → slice_get xs k ≡ Some x → slice_get (xs ++ ys) k ≡ Some x
-front_at [] ys k x e = absurd (cc)
-front_at (y ∷ xs) ys zero x e = e
-front_at (y ∷ xs) ys (suc k) x e = front_at xs ys k x e
-
 front_of_four : {X : Type 0} (xs a b c : List X) (k : ℕ) (x : X) → slice_get xs k ≡ Some x → slice_get (xs ++ a ++ b ++ c) k ≡ Some x
-front_of_four xs a b c k x e = front_at (xs ++ a ++ b) c k x (front_at (xs ++ a) b k x (front_at xs a k x e))
+front_of_four xs a b c k x e = at_left (xs ++ a ++ b) c k x (at_left (xs ++ a) b k x (at_left xs a k x e))
 
 mapped_at : {X Y : Type 0} (f : X → Y) (xs : List X) (k : ℕ) (x : X) → slice_get xs k ≡ Some x → slice_get (map f xs) k ≡ Some (f x)
 mapped_at f xs k x e = slice_get-map f xs k ∙ ap (option_map f) e
-
-numbered_at : {X : Type 0} (n : ℕ) (xs : List X) (k : ℕ) (x : X) → slice_get xs k ≡ Some x → slice_get (enumerate_from n xs) k ≡ Some (n + k, x)
-numbered_at n [] k x e = absurd (cc)
-numbered_at n (y ∷ xs) zero x e = let same : y ≡ x = cc in let none : n ≡ n + 0 = omega arith in ap (λ z. Some (n, z)) same ∙ ap (λ m. Some (m, x)) none
-numbered_at n (y ∷ xs) (suc k) x e = let more : n + 1 + k ≡ n + suc k = omega arith in numbered_at (n + 1) xs k x e ∙ ap (λ m. Some (m, x)) more
 
 -- where an element and all before it pass, it stays where it is
 record Passes {X : Type 0} (test : X → Bool) (xs : List X) (k : ℕ) : Type 0 where
@@ -97,7 +90,7 @@ module _ (x : Placement) (placed : IsPlaced x) (files : Held) (i : Image) (keeps
       let listed : slice_get (region_spans (regions_of p) spans.addresses) k ≡ Some s =
       mapped_at region_span (enumerate_from 0 (zip (regions_of p) spans.addresses)) k (0 + k, (own_region r, address))
       (numbered_at 0 (zip (regions_of p) spans.addresses) k (own_region r, address) (zipped_at (regions_of p) spans.addresses k (own_region r) address region among)) in
-      let whole : slice_get (map (λ (e : Span). e.0) (by_number i)) k ≡ Some s = ap (λ ss. slice_get ss k) spans.spans ∙ front_at (region_spans (regions_of p) spans.addresses) (device_spans (length (regions_of p)) p.devices) k s listed in
+      let whole : slice_get (map (λ (e : Span). e.0) (by_number i)) k ≡ Some s = ap (λ ss. slice_get ss k) spans.spans ∙ at_left (region_spans (regions_of p) spans.addresses) (device_spans (length (regions_of p)) p.devices) k s listed in
       let found = from_some (λ (e : Span). e.0) (slice_get (by_number i) k) s (sym (slice_get-map (λ (e : Span). e.0) (by_number i) k) ∙ whole) in
       record {
         address = address;
@@ -126,8 +119,8 @@ module _ (x : Placement) (placed : IsPlaced x) (files : Held) (i : Image) (keeps
   placed_there k r e =
       let a = is_at k r e in
       let thing = thing_at k r e in
-      let span = listed_span p files i keeps sound (region r.name) (any_at (λ y. same_thing y (region r.name)) (things_of p) k (region r.name) thing (same_thing_self (region r.name))) in
+      let span = listed_span p files i keeps sound (region r.name) (any_passes_from_place (λ y. same_thing y (region r.name)) (things_of p) k (region r.name) thing (same_thing_self (region r.name))) in
       let number : span.number ≡ k = thing_once p placed.lawful (region r.name) span.number k span.listed thing in
       let here : slice_get (thing_spans i) k ≡ Some a.span = kept_in_front (λ (e : Span). not (is_kernel e.0.kind)) (by_number i) k (in_front k r e) ∙ a.here in
-      let same : span.span ≡ a.span = same_at (slice_get (thing_spans i) k) span.span a.span (ap (slice_get (thing_spans i)) (sym number) ∙ span.numbered) here in
+      let same : span.span ≡ a.span = one_value (slice_get (thing_spans i) k) span.span a.span (ap (slice_get (thing_spans i)) (sym number) ∙ span.numbered) here in
       a.placed_at ∙ ap Some (sym (span.address ∙ ap (λ (e : Span). e.0.address) same ∙ a.lies))

@@ -7,8 +7,8 @@ use Rattle.std.proofs.lemmas.List.{length-append, length-drop, take-append-drop}
 use Rattle.binary_form.specs.declared.fault.Field.{Field}
 use Rattle.binary_form.specs.declared.fault.FormFault.{FormFault}
 use Rattle.binary_form.specs.declared.fault.FormFault.TheVariants.{Short, Bad}
-use Rattle.binary_form.specs.Form.{◌>>=◌, Form, IsSettled, absent, byte, byte_at, bytes_of, bytes_at, coded, coded_at, coded_in, done, each, each_at, either, extended, field, gap, gap_at, items, items_at, left_of, longer, number, number_at, only, present}
-use Rattle.binary_form.proofs.Leaves.{err_is, field_stays, ok_is, ok_not_err}
+use Rattle.binary_form.specs.Form.{◌>>=◌, Form, absent, byte, byte_at, bytes_of, bytes_at, coded, coded_at, coded_in, done, each, each_at, either, field, gap, gap_at, items, items_at, left_of, number, number_at, only, present}
+use Rattle.binary_form.proofs.Leaves.{coded_stays, err_is, ok_is, ok_not_err}
 use Rattle.proof_faults.proofs.Readers.{HasMore, IsAmong, IsLocal, Reader, given, given_local, same_local, then, then_local}
 
 -- ---- a field of n bytes
@@ -37,10 +37,6 @@ in_err title left behind (Some y) e h = absurd (ok_not_err (y, behind) e h)
 in_not_short : {A : Type 0} (name : Field) (left : ℕ) (behind : List ℕ) (o : Option A) (s : ℕ) → coded_in name left behind o ≡ Err (Short s) → ⊥
 in_not_short title left behind None s h = absurd cc
 in_not_short title left behind (Some y) s h = absurd cc
-
-in_stays : {A : Type 0} (name : Field) (left n : ℕ) (behind more : List ℕ) (o : Option A) → coded_in name (left + n) (behind ++ more) o ≡ extended (longer more) n (coded_in name left behind o)
-in_stays title left n behind more None = refl
-in_stays title left n behind more (Some x) = refl
 
 -- the field begins so many bytes before the end where these are too few
 short_is : {A : Type 0} (n : ℕ) (decode : List ℕ → Option A) (name : Field) (bytes : List ℕ) (s : ℕ) → coded_at n decode name bytes ≡ Err (Short s) → (length bytes < n) × (s ≡ length bytes)
@@ -71,13 +67,6 @@ coded_err {A} room n decode title suits bytes e h =
           subst (λ d. (left_of d ≡ length bytes) × IsAmong (length bytes) d × ((s : ℕ) → s < n → HasMore room s d)) (sym f.1)
           (refl, (omega (arith, fit.0, le), omega arith), λ s low. omega (arith, low, fit.1))
     ]
-
-coded_stays : {A : Type 0} (n : ℕ) (decode : List ℕ → Option A) (name : Field) (bytes more : List ℕ) → IsSettled (coded_at n decode name bytes)
-    → coded_at n decode name (bytes ++ more) ≡ extended (longer more) (length more) (coded_at n decode name bytes)
-unfolding coded_at
-coded_stays n decode name bytes more settled =
-    field_stays (longer more) n (λ left front rest. coded_in name left rest (decode front)) bytes more
-    (λ front rest. in_stays name (length bytes) (length more) rest more (decode front)) settled
 
 pub coded_local : {A : Type 0} (room : Field → ℕ) (n : ℕ) (decode : List ℕ → Option A) (name : Field) → Suits room n decode name → IsLocal room (coded_at n decode name)
 coded_local room n decode name suits = record {

@@ -10,6 +10,7 @@ use Rattle.binary_form.specs.declared.fault.FormFault.TheVariants.{Short, Bad, T
 use Rattle.binary_form.specs.Form.{◌>>=◌, Form, IsSettled, extended, left_of, longer, whole}
 use Rattle.binary_form.specs.Faults.{located, located_in, unpacked}
 use Rattle.binary_form.proofs.Leaves.{bind_err, bind_ok, err_is, ok_is, ok_not_err, test_err, test_ok}
+use Rattle.binary_form.proofs.Theorem.{located_ok}
 use Rattle.proof_faults.proofs.Readers.{IsAmong, IsLocal, read_on}
 
 -- ---- the fault of a whole file
@@ -27,10 +28,6 @@ failing w = Err w
 located_err : {A : Type 0} (total : ℕ) (r : Result A FormFault) (w : ImageFault) → located_in total r ≡ Err w → (e : FormFault) × (r ≡ Err e) × (w ≡ located total e)
 located_err total (Ok x) w e = absurd cc
 located_err total (Err d) w e = (d, refl, cc)
-
-located_ok : {A : Type 0} (total : ℕ) (r : Result A FormFault) (x : A) → located_in total r ≡ Ok x → r ≡ Ok x
-located_ok total (Ok y) x e = cc
-located_ok total (Err s) x e = absurd cc
 
 bad_is : (total : ℕ) (e : FormFault) (at : ℕ) (name : Field) → fault.Bad at name ≡ located total e → (left : ℕ) × (e ≡ Bad left name) × (at ≡ total - left)
 bad_is total (Short left) at title h = absurd cc

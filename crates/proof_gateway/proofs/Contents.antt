@@ -1,5 +1,5 @@
 -- The bytes at the start of what the windows of members show: the same whatever `black` is.
-use Rattle.std.proofs.Common.{◌≡◌, ℕ, Bool, true, false, List, [], ◌∷◌, ◌++◌, map, refl, sym, ap, subst, ◌∙◌, inl, inr, true≢false}
+use Rattle.std.proofs.Common.{◌≡◌, ℕ, true, false, List, [], ◌∷◌, ◌++◌, map, refl, sym, ap, subst, ◌∙◌, inl, inr, true≢false}
 use Rattle.std.specs.Prelude.{Option, Some, None, codes}
 use Rattle.std.specs.List.{AllByRecursion, find, flat_map, list_any}
 use Rattle.std.specs.Option.{option_map_or}
@@ -7,11 +7,10 @@ use Rattle.std.proofs.lemmas.Bool.{cases_Bool}
 use Rattle.policy_lawful.specs.Contents.{Held, content_bytes, initial_bytes}
 use Rattle.policy_lawful.specs.Thing.{Item, Thing, channel, channel_item, component_by, device_items, item_of, items_of, placed_items, provided, provided_items, region, region_item, same_thing, state, things_of}
 use Rattle.policy_lawful.specs.Windows.{Window, windows_of}
-use Rattle.policy_lawful.specs.source.Content.{Content}
-use Rattle.policy_lawful.specs.source.Content.TheVariants.{Zero, Fill, Inline, File}
 use Rattle.policy_lawful.specs.source.Mapping.{Mapping}
 use Rattle.policy_lawful.specs.source.Region.{Region}
 use Rattle.policy_lawful.specs.source.Source.{Source}
+use Rattle.policy_lawful.proofs.NoFiles.{in_no_file, same_content}
 use Rattle.subject_model.proofs.KeyLaws.{same_things}
 use Rattle.subject_model.proofs.StartLists.{made_of}
 use Rattle.subject_model.specs.Alone.{thing_in}
@@ -20,17 +19,6 @@ use Rattle.proof_gateway.specs.Gateway.{with_black, plain, keys, slots, cipher}
 use Rattle.proof_gateway.proofs.Members.{OfMembers}
 
 -- ---- of what is declared of a thing
-
--- no file is read for this content
-abbrev in_no_file : Content → Bool
-in_no_file (File name offset most) = false
-in_no_file _ = true
-
-same_content : (f g : Held) (size : ℕ) (c : Content) → in_no_file c ≡ true → content_bytes f size c ≡ content_bytes g size c
-same_content f g size Zero h = refl
-same_content f g size (Fill b) h = refl
-same_content f g size (Inline bytes) h = refl
-same_content f g size (File name offset most) h = absurd (true≢false (sym h))
 
 bytes_of_item : (p : Source) (f : Held) (x : Thing) (i : Item) → item_of p x ≡ Some i → initial_bytes p f x ≡ content_bytes f i.size i.content
 unfolding initial_bytes

@@ -1,8 +1,7 @@
 -- Systems that are alike stay so where one of them changes nothing that members have or see.
-use Rattle.std.proofs.Common.{◌≡◌, ℕ, true, List, sym, ap, subst, ◌∙◌}
+use Rattle.std.proofs.Common.{◌≡◌, ℕ, List, sym, ap, subst, ◌∙◌}
 use Rattle.std.specs.Prelude.{◌==◌}
 use Rattle.std.specs.List.{list_any}
-use Rattle.std.specs.Str.{bytes_eq}
 use Rattle.subject_model.specs.Resources.{ports_of}
 use Rattle.policy_lawful.specs.Contents.{Held}
 use Rattle.policy_lawful.specs.Thing.{state}
@@ -10,7 +9,7 @@ use Rattle.policy_lawful.specs.Windows.{windows_of}
 use Rattle.policy_lawful.specs.source.Source.{Source}
 use Rattle.policy_lawful.specs.source.Subject.{Subject}
 use Rattle.subject_model.specs.DeviceRecord.{DeviceRecord}
-use Rattle.policy_flows.specs.Flows.{is_member}
+use Rattle.policy_flows.proofs.Closures.{same_member}
 use Rattle.subject_model.specs.Alone.{own_of, thing_in}
 use Rattle.subject_model.specs.System.{System, is_shown, named, subject_named}
 use Rattle.proof_isolation.specs.Agree.{Agree}
@@ -54,9 +53,6 @@ alike_left p q members y w z change h = λ s member is.
       shown = λ x e. sym (a.shown x e) ∙ b.shown x e;
       ports = λ n e. sym (a.ports n e) ∙ b.ports n e;
     }
-
-pub same_member : (members : List (List ℕ)) (s z : Subject) → s.name ≡ z.name → is_member members s ≡ true → is_member members z ≡ true
-same_member members s z same h = ap (λ n. list_any (λ name. bytes_eq name n) members) (sym same) ∙ h
 
 module _ (p q : Source) (members : List (List ℕ)) (f g : Held) (r t : DeviceRecord) (ends : ℕ) (agree : Agree members p q f g r t ends) where
   pub alike_right : (y z w : System) → AreAlike q q members z w → AreAlike p q members y z → AreAlike p q members y w

@@ -5,7 +5,7 @@ use Rattle.std.specs.List.{count_by, list_all, list_any, sum_by}
 use Rattle.std.specs.Str.{bytes_eq}
 use Rattle.std.proofs.lemmas.Bool.{and_from, and_parts, eqb-true, leb-true}
 use Rattle.std.proofs.lemmas.Slice.Eq.{bytes_eq-Decides}
-use Rattle.muen_num.proofs.Members.{In, any_in, filter_in, map_in, passes_in}
+use Rattle.muen_num.proofs.Members.{In, any_in, filter_in, flat_in, map_in, passes_in}
 use Rattle.muen_num.proofs.SearchLaws.{all_pass, none_both, unless_none}
 use Rattle.muen_num.specs.Search.{first_in}
 use Rattle.muen_num.specs.declared.access.AccessKind.TheVariants.{Write}
@@ -27,7 +27,7 @@ use Rattle.policy_lawful.specs.source.Source.{Source}
 use Rattle.policy_lawful.specs.source.Subject.{Subject}
 use Rattle.policy_flows.specs.Flows.{by_change, by_channel, by_event, by_memory, by_plan, by_sight, flows_to, is_region}
 use Rattle.subject_model.proofs.KeyLaws.{same_thing_self}
-use Rattle.proof_isolation.proofs.Counts.{flat_in, one_counted, passing_counted, single, two_counted}
+use Rattle.proof_isolation.proofs.Counts.{one_counted, passing_counted, single, two_counted}
 use Rattle.proof_isolation.proofs.Windows.{IsOn, OnChannel, OnDevice, window_is}
 
 -- ---- the kinds of flows

@@ -1,17 +1,12 @@
 -- Lists of which one element alone is counted.
-use Rattle.std.proofs.Common.{◌≡◌, ℕ, zero, suc, ◌+◌, ◌≤◌, Bool, true, false, cond, List, [], ◌∷◌, length, Some, None, refl, sym, ap, subst, ◌∙◌, inl, inr, arith}
+use Rattle.std.proofs.Common.{◌≡◌, ℕ, ◌+◌, ◌≤◌, Bool, true, false, cond, List, [], ◌∷◌, length, Some, None, refl, sym, ap, subst, ◌∙◌, inl, inr, arith}
 use Rattle.std.specs.Prelude.{◌&&◌, ◌||◌, nat_lt, not, position, slice_get}
-use Rattle.std.specs.List.{count_by, flat_map, list_any, position_or_len, sum_by}
+use Rattle.std.specs.List.{count_by, list_any, position_or_len, sum_by}
 use Rattle.std.proofs.lemmas.Bool.{and_parts, lt-ltb, or_cases}
 use Rattle.std.proofs.lemmas.Option.{slice_get_within}
 use Rattle.std.proofs.lemmas.List.Sums.{sum_by-cons}
-use Rattle.muen_num.proofs.Members.{In, left_in, right_in}
-
--- an element of what one makes
-pub flat_in : {X Y : Type 0} (f : X → List Y) (xs : List X) (x : X) (y : Y) → In x xs → In y (f x) → In y (flat_map f xs)
-flat_in f [] x y h k = absurd h
-flat_in f (z ∷ zs) x y (inl same) k = left_in (f z) (flat_map f zs) y (subst (λ x. In y (f x)) (sym same) k)
-flat_in f (z ∷ zs) x y (inr h) k = right_in (f z) (flat_map f zs) y (flat_in f zs x y h k)
+use Rattle.muen_num.proofs.Members.{In}
+use Rattle.muen_num.proofs.Lookups.{only_index as first_index}
 
 -- of a list of one
 pub single : {X : Type 0} (xs : List X) (a b : X) → length xs ≡ 1 → In a xs → In b xs → a ≡ b
@@ -103,28 +98,6 @@ same_index {X} p q f g counts marks (x ∷ xs) few scarce both =
           | inl e ↦ let here = marks x (and_parts (p x) (q x) e).1 in omega (arith, here, sum)
           | inr k ↦ let later = some_second p q g marks xs k in omega (arith, later, sum)
         ]
-
--- what stands at an index is an element
-pub in_at : {X : Type 0} (xs : List X) (k : ℕ) (x : X) → slice_get xs k ≡ Some x → In x xs
-in_at [] k x at = absurd (cc (at))
-in_at (y ∷ ys) zero x at = inl (cc (at))
-in_at (y ∷ ys) (suc k) x at = inr (in_at ys k x at)
-
--- where a test passes once at most, it passes first wherever it passes
-first_index : {X : Type 0} (test : X → Bool) (f : X → ℕ) → ((x : X) → test x ≡ true → 1 ≤ f x) → (xs : List X) (k : ℕ) (x : X) → sum_by f xs ≤ 1 → slice_get xs k ≡ Some x → test x ≡ true → position_or_len test xs ≡ k
-first_index test f counts [] k x few at passes = absurd (cc (at))
-first_index test f counts (y ∷ ys) zero x few at passes =
-    let same : y ≡ x = cc (at) in
-    ap (λ b. cond (not b) (1 + position_or_len test ys) 0) (ap test same ∙ passes)
-first_index {X} test f counts (y ∷ ys) (suc k) x few at passes =
-    let sum : sum_by f (y ∷ ys) ≡ f y + sum_by f ys = sum_by-cons f y ys in
-    let fewer : sum_by f ys ≤ 1 = omega (arith, sum, few) in
-    let later : position_or_len test ys ≡ k = first_index test f counts ys k x fewer at passes in
-    let some : 1 ≤ sum_by f ys = one_counted f ys x (in_at ys k x at) (counts x passes) in
-    elim (test y) as (λ b. test y ≡ b → cond (not b) (1 + position_or_len test ys) 0 ≡ suc k) [
-      | true ↦ λ e. let here : 1 ≤ f y = counts y e in absurd (omega (arith, here, some, sum, few))
-      | false ↦ λ _. omega (arith, later)
-    ] refl
 
 pub only_index : {X : Type 0} (test : X → Bool) (f : X → ℕ) → ((x : X) → test x ≡ true → 1 ≤ f x) → (xs : List X) (k : ℕ) (x : X) → sum_by f xs ≤ 1 → slice_get xs k ≡ Some x → test x ≡ true → position test xs ≡ Some k
 only_index test f counts xs k x few at passes =

@@ -13,6 +13,7 @@ use Rattle.subject_model.specs.DeviceRecord.{DeviceRecord}
 use Rattle.subject_model.specs.Run.{Turned}
 use Rattle.subject_model.specs.TurnLine.{TurnLine}
 use Rattle.policy_flows.specs.Flows.{IsClosed, is_member}
+use Rattle.policy_flows.proofs.Closures.{same_member}
 use Rattle.subject_model.specs.Alone.{own_of, solo_turn}
 use Rattle.subject_model.specs.System.{System, inbox_of, subject_named, system_turn}
 use Rattle.proof_views.specs.Members.{AreListed, HasTurn}
@@ -21,7 +22,7 @@ use Rattle.proof_views.proofs.LinesOfViews.{find_other}
 use Rattle.proof_views.proofs.OwnLines.{named_so, not_of}
 use Rattle.proof_isolation.specs.Agree.{Agree, own_slot}
 use Rattle.proof_isolation.specs.Alike.{AreAlike, is_active}
-use Rattle.proof_isolation.proofs.Alike.{alike_left, alike_right, same_cpu, same_member, same_name}
+use Rattle.proof_isolation.proofs.Alike.{alike_left, alike_right, same_cpu, same_name}
 use Rattle.proof_isolation.proofs.BothTurns.{turns_both}
 use Rattle.proof_isolation.proofs.OutsiderTurns.{outsiders_turn}
 use Rattle.proof_isolation.proofs.Turners.{has_its_turn, has_turner, turn_is, turn_of, turner, turner_acts, turner_has}

@@ -19,13 +19,14 @@ use Rattle.policy_lawful.specs.source.Subject.{Subject}
 use Rattle.subject_model.specs.DeviceRecord.{DeviceRecord, NamedInput, port_input, memory_input, irq_input, dma_input}
 use Rattle.subject_model.specs.Run.{all_taken}
 use Rattle.policy_flows.specs.Flows.{is_member}
+use Rattle.policy_flows.proofs.Closures.{same_member}
 use Rattle.subject_model.proofs.KeyLaws.{names_apart, value_other}
 use Rattle.subject_model.specs.Clock.{irq_reaches, system, takes}
 use Rattle.subject_model.specs.System.{System, subject_named}
 use Rattle.proof_views.proofs.OwnLines.{named_so}
 use Rattle.proof_isolation.specs.Agree.{Agree, WritesTheSame, irq_to, maps_seen, touches}
 use Rattle.proof_isolation.specs.Alike.{AreAlike}
-use Rattle.proof_isolation.proofs.Alike.{alike_left, alike_right, same_member}
+use Rattle.proof_isolation.proofs.Alike.{alike_left, alike_right}
 use Rattle.proof_isolation.proofs.BothRaise.{change_named_alike}
 use Rattle.proof_isolation.proofs.SeenWrites.{line_both, line_outside, write_both, write_outside}
 

@@ -15,6 +15,7 @@ use Rattle.subject_model.specs.DeviceRecord.{DeviceRecord}
 use Rattle.subject_model.specs.Run.{turns}
 use Rattle.subject_model.specs.TurnLine.{TurnLine}
 use Rattle.policy_flows.specs.Flows.{IsClosed, is_member}
+use Rattle.policy_flows.proofs.Closures.{same_member}
 use Rattle.subject_model.specs.Alone.{TurnAnswer, own_of, solo_turn}
 use Rattle.subject_model.specs.Clock.{system}
 use Rattle.subject_model.specs.System.{System, inbox_of, subject_named, system_turn, took, with_own, with_store}
@@ -24,7 +25,7 @@ use Rattle.proof_views.proofs.Kept.{turn_cases}
 use Rattle.proof_views.proofs.Unmoved.{by_raised}
 use Rattle.proof_isolation.specs.Agree.{Agree, holds_member, own_slot}
 use Rattle.proof_isolation.specs.Alike.{AreAlike}
-use Rattle.proof_isolation.proofs.Alike.{alike_left, alike_right, same_member, same_name}
+use Rattle.proof_isolation.proofs.Alike.{alike_left, alike_right, same_name}
 use Rattle.proof_isolation.proofs.CpuTurns.{IsOutside, SameSlots, SameSteps, outside_has, outside_line, steps_both}
 use Rattle.proof_isolation.proofs.OutsiderTurns.{outsiders_turn}
 use Rattle.proof_isolation.proofs.Stores.{by_store}

@@ -31,7 +31,7 @@ use Rattle.subject_model.specs.StatePage.{page_bytes}
 use Rattle.subject_model.specs.SubjectState.{SubjectState}
 use Rattle.subject_model.specs.Slot.{Slot}
 use Rattle.policy_flows.proofs.EventWays.{way_counts}
-use Rattle.policy_flows.specs.Flows.{IsClosed, by_change, by_sight, flows_to, is_member, reaches}
+use Rattle.policy_flows.specs.Flows.{IsClosed, by_change, by_sight, is_member, reaches}
 use Rattle.subject_model.specs.Alone.{Inbox, MsrValues, OwnState, TurnAnswer, own_of, solo_turn, thing_in}
 use Rattle.subject_model.specs.System.{System, answered, inbox_of, is_shown, named, subject_named, system_turn, took, with_own, with_store}
 use Rattle.subject_model.proofs.DeviceWrites.{IsWritable}
@@ -43,9 +43,10 @@ use Rattle.proof_views.proofs.OwnStates.{other_answer}
 use Rattle.proof_views.proofs.SlotCpus.{slot_here}
 use Rattle.proof_views.proofs.Unmoved.{by_raised}
 use Rattle.proof_views.proofs.Untouched.{turn_elsewhere, windows_spare}
+use Rattle.proof_views.proofs.ThingsStay.{stored_through}
 use Rattle.proof_isolation.specs.Alike.{AreAlike, AreAlikeFor}
 use Rattle.proof_isolation.proofs.Conflicts.{BothPages, flows_by, met, none_in}
-use Rattle.proof_isolation.proofs.Outsiders.{Named, by_cpu, no_flow, other_names, raised_active, raised_pends, took_pends, turn_writes}
+use Rattle.proof_isolation.proofs.Outsiders.{Named, by_cpu, no_flow, other_names, raised_active, raised_pends, took_pends}
 use Rattle.proof_isolation.proofs.Stores.{by_store}
 use Rattle.proof_isolation.proofs.Windows.{IsOn, window_is}
 
@@ -77,9 +78,6 @@ module _ (p : Source) (lawful : IsLawful p) (members : List (List ℕ)) (closed 
   apart : u.name ≡ s.name → ⊥
   apart = other_names p members closed u s in_u in_s member outside
 
-  dry : flows_to p u s ≡ true → ⊥
-  dry = no_flow p members closed u s in_u in_s member outside
-
   -- both can't have one of whom the outsider changes the state, and whom the member sees
   not_both : (x : Thing) → BothPages u s x → ⊥
   not_both x both =
@@ -94,14 +92,14 @@ module _ (p : Source) (lawful : IsLawful p) (members : List (List ℕ)) (closed 
   unseen x shown w =
       let v = any_some (λ w. same_thing w.thing x) (windows_of p s) shown in
       let same : w.window.thing ≡ v.one.thing = w.shows ∙ sym (same_things v.one.thing x v.passes) in
-      elim (met p lawful u s in_u in_s apart w.window v.one w.its v.within w.writes same) as (λ _. ⊥) [ inl flows ↦ dry flows | inr both ↦ not_both w.window.thing both ]
+      elim (met p lawful u s in_u in_s apart w.window v.one w.its v.within w.writes same) as (λ _. ⊥) [ inl flows ↦ no_flow p members closed u s in_u in_s member outside flows | inr both ↦ not_both w.window.thing both ]
 
   -- nor is it the outsider's own page
   unwatched : (x : Thing) → is_shown (windows_of p s) x ≡ true → state u.name ≡ x → ⊥
   unwatched x shown is =
       let v = any_some (λ w. same_thing w.thing x) (windows_of p s) shown in
       let on = subst (IsOn p s v.one.rights) (same_things v.one.thing x v.passes ∙ sym is) (window_is p s v.one v.within) in
-      dry (flows_by p u s (inr (inr (inr (inr (inl (any_in (λ m. bytes_eq m.subject u.name) s.monitors on.monitor on.its ((bytes_eq-Decides on.monitor.subject u.name).1 on.of))))))))
+      no_flow p members closed u s in_u in_s member outside (flows_by p u s (inr (inr (inr (inr (inl (any_in (λ m. bytes_eq m.subject u.name) s.monitors on.monitor on.its ((bytes_eq-Decides on.monitor.subject u.name).1 on.of))))))))
 
   store_unseen : (x : Thing) → is_shown (windows_of p s) x ≡ true → (o : Option (Stored Thing)) → IfSome o (λ w. IsWritable (windows_of p u) w.target) → (y : System) → thing_in (with_store o y).things x ≡ thing_in y.things x
   store_unseen x shown None h y = refl
@@ -109,7 +107,7 @@ module _ (p : Source) (lawful : IsLawful p) (members : List (List ℕ)) (closed 
       value_other same_thing w.target x (λ old. over old w.offset w.bytes) y.things (things_apart w.target x (λ e. unseen x shown (subst (IsWritable (windows_of p u)) e h)))
 
   no_event : (w : SourceWay) → reaches (event_of p u w) s.name ≡ true → ⊥
-  no_event w h = dry (flows_by p u s (inr (inr (inl (way_counts p u s w h)))))
+  no_event w h = no_flow p members closed u s in_u in_s member outside (flows_by p u s (inr (inr (inl (way_counts p u s w h)))))
 
   pub outsider_answer : (mine : OwnState) (inbox : Inbox) (y : System) (k : ℕ) (g : Group) → slice_get p.scheduling.groups k ≡ Some g → lists u.name g ≡ true → slice_get y.active k ≡ Some u.name
       → AreAlikeFor p p s y (answered p u (solo_turn (own_of p u) mine inbox) y)
@@ -121,8 +119,8 @@ module _ (p : Source) (lawful : IsLawful p) (members : List (List ℕ)) (closed 
       let taken : System = took u.name a.taken stored in
       let rest = by_raised p u a.raised taken in
       let left = by_store a.stored own in
-      let writes = turn_writes (own_of p u) mine inbox in
-      let spared = windows_spare p s.name u (false_from_ne_true (by_change u s) (λ e. dry (flows_by p u s (inr (inr (inr (inr (inr e)))))))) in
+      let writes = stored_through (own_of p u) mine inbox in
+      let spared = windows_spare p s.name u (false_from_ne_true (by_change u s) (λ e. no_flow p members closed u s in_u in_s member outside (flows_by p u s (inr (inr (inr (inr (inr e)))))))) in
       let stays = other_answer p s u a y apart (turn_elsewhere s (own_of p u) mine inbox spared) in
       let pending = raised_pends p s.name u a.raised taken (λ w _. no_event w) in
       let before = took_pends p s.name u.name a.taken stored apart in

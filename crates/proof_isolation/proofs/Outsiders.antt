@@ -1,18 +1,15 @@
 -- The turn of a subject outside a closed set changes nothing for a member.
-use Rattle.std.proofs.Common.{◌≡◌, ℕ, ◌-◌, ◌≤◌, Bool, true, false, cond, List, length, Option, Some, None, refl, sym, ap, subst, ◌∙◌, inl, inr, arith, true≢false}
+use Rattle.std.proofs.Common.{◌≡◌, ℕ, ◌≤◌, true, false, cond, List, length, Option, Some, None, refl, sym, ap, subst, ◌∙◌, inl, inr, arith, true≢false}
 use Rattle.std.specs.Prelude.{◌==◌, ◌&&◌, nat_lt, not, option_and_then, option_map, slice_get}
 use Rattle.std.specs.List.{All, count_by, find, list_all, list_any, sum_by}
-use Rattle.std.specs.Option.{IfSome, option_map_or}
+use Rattle.std.specs.Option.{option_map_or}
 use Rattle.std.specs.Str.{bytes_eq}
 use Rattle.std.proofs.lemmas.Bool.{and_parts, cases_eq, eqb-true, false_from_ne_true}
 use Rattle.std.proofs.lemmas.Slice.Eq.{bytes_eq-Decides}
-use Rattle.subject_model.specs.Step.{Answer, Stored, step}
-use Rattle.subject_model.specs.reach.Reach.TheVariants.{Reached}
 use Rattle.muen_num.proofs.ChangeLaws.{element_changes, others_stay}
 use Rattle.muen_num.specs.ListChange.{change_at}
 use Rattle.subject_model.specs.Pending.{without}
 use Rattle.muen_num.proofs.Members.{In, all_in, any_some, find_in, passes_in}
-use Rattle.muen_num.specs.declared.access.AccessKind.TheVariants.{Write}
 use Rattle.muen_num.specs.declared.mode.EventMode.{EventMode}
 use Rattle.muen_num.specs.declared.mode.EventMode.TheVariants.{Asap, Async, Own as OwnMode, Switch}
 use Rattle.policy_lawful.proofs.KeptMembers.{MembersKept}
@@ -21,22 +18,14 @@ use Rattle.policy_lawful.specs.MoreRules.{fits_mode, some_group_lists}
 use Rattle.policy_lawful.specs.Rules.{is_group, is_on, subject_cpu, times_listed}
 use Rattle.policy_lawful.specs.Events.{Raised, event_of}
 use Rattle.policy_lawful.specs.Frames.{group_of}
-use Rattle.policy_lawful.specs.Thing.{Thing}
-use Rattle.policy_lawful.specs.Windows.{Window, access_by, byte, holds, violation}
-use Rattle.policy_lawful.specs.Rights.{allows}
 use Rattle.policy_lawful.specs.source.Group.{Group}
 use Rattle.policy_lawful.specs.source.Source.{Source}
 use Rattle.policy_lawful.specs.source.SourceWay.{SourceWay}
 use Rattle.policy_lawful.specs.source.Subject.{Subject}
 use Rattle.policy_flows.specs.Flows.{IsClosed, flows_to, is_member, reaches}
-use Rattle.subject_model.proofs.DeviceWrites.{IsWritable}
 use Rattle.subject_model.proofs.KeyLaws.{names_apart, value_other}
 use Rattle.subject_model.proofs.SystemLaws.{raised_alone}
 use Rattle.subject_model.specs.System.{System, happens, happens_as, named, pends_now, raised_by, took, with_active}
-use Rattle.subject_model.specs.SubjectState.{SubjectState}
-use Rattle.subject_model.specs.Alone.{Inbox, Own, OwnState, alone, reach_by, solo_turn, stepped, unless_delivered, vector_for, waits}
-use Rattle.subject_model.proofs.StepLaws.{step_stored}
-use Rattle.muen_num.proofs.Each.{if_some}
 use Rattle.proof_views.proofs.OwnLines.{listed_passes}
 use Rattle.proof_views.specs.Members.{lists}
 use Rattle.proof_isolation.specs.Alike.{is_active}
@@ -169,31 +158,3 @@ module _ (p : Source) (lawful : IsLawful p) (kept : MembersKept p) (u s : Subjec
   pub raised_active : (way : Option SourceWay) → ((w : SourceWay) → reaches (event_of p u w) s.name ≡ true → ⊥) → (z : System) → z.active ≡ y.active → is_active p (raised_by p u way z) s.name ≡ is_active p y s.name
   raised_active None ne z same = ap (λ active. option_map_or (λ member. bytes_eq member s.name) (option_and_then (λ i. slice_get active i) (group_of p s.name)) false) same
   raised_active (Some way) ne z same = by_raised_event way (event_of p u way) refl (ne way) z same
-
--- ---- what it stores
-
-module _ (own : Own) (mine : OwnState) (inbox : Inbox) where
-  by_window : (addr offset : ℕ) (x : Thing) (o : Option (Window Thing)) → find (λ w. holds w addr) own.windows ≡ o → reach_by Write addr (access_by o addr Write) ≡ Reached x offset → IsWritable own.windows x
-  by_window addr offset x None is h = absurd (cc (h))
-  by_window addr offset x (Some w) is h =
-      elim (allows w.rights Write) as (λ b. allows w.rights Write ≡ b → reach_by Write addr (cond b (byte w.thing (addr - w.guest)) (violation (Some w.rights))) ≡ Reached x offset → IsWritable own.windows x) [
-        | true ↦ λ e k. record { window = w; its = (find_in (λ w. holds w addr) own.windows w is).0; writes = e; shows = cc (k) }
-        | false ↦ λ _ k. absurd (cc (k))
-      ] refl h
-
-  step_writes : IfSome (step (alone own mine.msrs inbox) mine.state).stored (λ w. IsWritable own.windows w.target)
-  step_writes =
-      if_some (λ (w : Stored Thing). IsWritable own.windows w.target) (step (alone own mine.msrs inbox) mine.state).stored
-      (λ w e. let at = step_stored (alone own mine.msrs inbox) mine.state w e in by_window at.addr w.offset w.target (find (λ w. holds w at.addr) own.windows) refl at.looked)
-
-  by_cases : (stopped : Bool) (vector : Option ℕ) (halted : Bool) (st : SubjectState) (traps : List ℕ) (a : Answer Thing) → IfSome a.stored (λ w. IsWritable own.windows w.target)
-      → IfSome (cond stopped (waits st) (unless_delivered st vector (cond halted (waits st) (stepped traps a)))).stored (λ w. IsWritable own.windows w.target)
-  by_cases true vector halted st traps a h = tt
-  by_cases false (Some v) halted st traps a h = tt
-  by_cases false None true st traps a h = tt
-  by_cases false None false st traps a h = h
-
-  pub turn_writes : IfSome (solo_turn own mine inbox).stored (λ w. IsWritable own.windows w.target)
-  unfolding solo_turn
-  turn_writes =
-      by_cases mine.state.stopped (vector_for mine.state inbox) mine.state.halted mine.state own.traps (step (alone own mine.msrs inbox) mine.state) step_writes

@@ -5,7 +5,7 @@ use Rattle.std.specs.List.{find, list_all}
 use Rattle.std.specs.Option.{option_or}
 use Rattle.std.specs.Str.{bytes_eq}
 use Rattle.std.proofs.lemmas.Slice.Eq.{bytes_eq-Decides}
-use Rattle.muen_num.proofs.Members.{In, filter_in, filter_some, find_in, flat_some, map_in, map_some, passes_in}
+use Rattle.muen_num.proofs.Members.{In, at_in, filter_in, filter_some, find_in, flat_in, flat_some, map_in, map_some, passes_in}
 use Rattle.muen_num.proofs.SearchLaws.{all_pass, none_both}
 use Rattle.muen_num.specs.Search.{first_in}
 use Rattle.muen_num.specs.declared.mode.EventMode.{EventMode}
@@ -25,7 +25,6 @@ use Rattle.policy_lawful.specs.source.SourceWay.{SourceWay}
 use Rattle.policy_lawful.specs.source.Subject.{Subject}
 use Rattle.policy_flows.proofs.EventWays.{by_channel_end, by_source, event_is}
 use Rattle.proof_isolation.proofs.Conflicts.{none_in}
-use Rattle.proof_isolation.proofs.Counts.{flat_in, in_at}
 
 -- ---- rule 13
 
@@ -52,7 +51,7 @@ module _ (p : Source) (lawful : IsLawful p) (u : Subject) (in_u : In u p.subject
       by_target ev declared called None at k = absurd (cc (k))
       by_target ev declared called (Some t) at k =
           let same : record { mode = ev.mode; target = t } ≡ e = cc (k) in
-          let to = flat_some (λ q. map (λ x. record { subject = q.name; vector = x.vector }) (filter (λ x. bytes_eq x.event source.event) q.targets)) p.subjects t (in_at (event_targets p source.event) 0 t at) in
+          let to = flat_some (λ q. map (λ x. record { subject = q.name; vector = x.vector }) (filter (λ x. bytes_eq x.event source.event) q.targets)) p.subjects t (at_in (event_targets p source.event) 0 t at) in
           let entry = map_some (λ x. record { subject = to.one.name; vector = x.vector }) (filter (λ x. bytes_eq x.event source.event) to.one.targets) t to.part in
           let target : In to.one.name (targets_of p source.event) =
           flat_in (λ s. map (λ e. s.name) (filter (λ e. bytes_eq e.event source.event) s.targets)) p.subjects to.one to.one.name to.within (map_in (λ (e : EventTarget). to.one.name) (filter (λ e. bytes_eq e.event source.event) to.one.targets) entry.one entry.within) in
@@ -87,7 +86,7 @@ module _ (p : Source) (lawful : IsLawful p) (u : Subject) (in_u : In u p.subject
       by_target c declared called m has None at k = absurd (cc (k))
       by_target c declared called m has (Some t) at k =
           let same : record { mode = m; target = t } ≡ e = cc (k) in
-          let to = flat_some (λ q. map (λ x. record { subject = q.name; vector = x.vector }) (filter (λ x. reads_from x x.role channel_end.channel) (channel_ends p q))) p.subjects t (in_at (channel_targets p channel_end.channel) 0 t at) in
+          let to = flat_some (λ q. map (λ x. record { subject = q.name; vector = x.vector }) (filter (λ x. reads_from x x.role channel_end.channel) (channel_ends p q))) p.subjects t (at_in (channel_targets p channel_end.channel) 0 t at) in
           let entry = map_some (λ x. record { subject = to.one.name; vector = x.vector }) (filter (λ x. reads_from x x.role channel_end.channel) (channel_ends p to.one)) t to.part in
           let kept = filter_some (λ x. reads_from x x.role channel_end.channel) (channel_ends p to.one) entry.one entry.within in
           let reads = reads_only entry.one entry.one.role channel_end.channel kept.1 in

@@ -8,9 +8,9 @@ use Rattle.std.proofs.lemmas.Slice.Eq.{bytes_eq-Decides}
 use Rattle.subject_model.specs.Frames.{slot_in}
 use Rattle.subject_model.specs.Slot.{Slot}
 use Rattle.muen_num.proofs.Members.{In, find_in}
+use Rattle.muen_num.proofs.Lookups.{same_self}
 use Rattle.policy_lawful.proofs.KeptMajors.{majors_kept}
 use Rattle.policy_lawful.proofs.KeptMembers.{members_kept}
-use Rattle.policy_lawful.proofs.Indexes.{same_self}
 use Rattle.policy_lawful.proofs.KeptRules.{rules_of}
 use Rattle.policy_lawful.specs.Lawful.{IsLawful}
 use Rattle.policy_lawful.specs.Frames.{frames_of, group_of}

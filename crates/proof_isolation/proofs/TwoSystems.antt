@@ -13,12 +13,13 @@ use Rattle.subject_model.specs.Resources.{msrs_of}
 use Rattle.subject_model.specs.Frames.{first_frame, frame_at_tick}
 use Rattle.subject_model.specs.frame_at.FrameAt.{FrameAt}
 use Rattle.muen_num.proofs.NumbersBelow.{length_numbers, number_at}
-use Rattle.muen_num.proofs.Members.{In, any_in, any_some, find_in}
+use Rattle.muen_num.proofs.Members.{In, any_in, any_some, find_in, index_in}
 use Rattle.muen_num.specs.Range.{numbers_below}
 use Rattle.muen_num.specs.declared.access.AccessKind.TheVariants.{Write}
 use Rattle.policy_lawful.proofs.KeptMembers.{members_kept}
 use Rattle.policy_lawful.proofs.KeptRules.{rules_of}
 use Rattle.policy_lawful.proofs.UniqueNames.{unique}
+use Rattle.policy_lawful.proofs.WindowsByIndex.{found_by_name}
 use Rattle.policy_lawful.specs.Lawful.{IsLawful}
 use Rattle.policy_lawful.specs.Rules.{major_offence, majors_of, offence_16, tau0_offence, writes}
 use Rattle.policy_lawful.specs.Contents.{Held}
@@ -36,14 +37,13 @@ use Rattle.subject_model.specs.StatePage.{page_bytes, state_in}
 use Rattle.subject_model.specs.States.{started}
 use Rattle.subject_model.specs.Run.{all_taken, begun, run_to, turns}
 use Rattle.policy_flows.specs.Flows.{IsClosed, by_plan, closure_of, is_member}
-use Rattle.policy_flows.proofs.Closures.{closure_is_least}
+use Rattle.policy_flows.proofs.Closures.{closure_is_least, same_member}
 use Rattle.muen_num.proofs.SearchLaws.{none_both, unless_none}
 use Rattle.muen_num.specs.Search.{first_in}
 use Rattle.policy_lawful.specs.Offences.{two}
 use Rattle.proof_isolation.proofs.Conflicts.{flows_by}
 use Rattle.proof_isolation.proofs.Outsiders.{no_flow}
 use Rattle.subject_model.proofs.DeviceWrites.{line_things}
-use Rattle.subject_model.proofs.PolicyFacts.{found_by_name}
 use Rattle.subject_model.proofs.StartLists.{named_map}
 use Rattle.subject_model.specs.Alone.{own_of, thing_in}
 use Rattle.subject_model.specs.Clock.{begins, inputs_at, line_writes, order_at, pick_in, run_of, system, takes, ticks_of_majors}
@@ -55,7 +55,7 @@ use Rattle.proof_views.proofs.Unmoved.{by_irq}
 use Rattle.proof_isolation.specs.Agree.{Agree, AgreeOnFrames, WritesTheSame, chosen, holds_member, is_first, own_slot, plain_frame, touches, unchosen}
 use Rattle.proof_isolation.specs.Alike.{AreAlike, AreAlikeFor, AreSameViews, is_active}
 use Rattle.proof_isolation.specs.TwoSystems.{DependOnMembersAlone}
-use Rattle.proof_isolation.proofs.Alike.{same_cpu, same_entry, same_member, same_name, same_windows}
+use Rattle.proof_isolation.proofs.Alike.{same_cpu, same_entry, same_name, same_windows}
 use Rattle.proof_isolation.proofs.CpuTurns.{SameSlots}
 use Rattle.proof_isolation.proofs.Inboxes.{shown_alike}
 use Rattle.proof_isolation.proofs.MergedInputs.{inputs_both}
@@ -173,14 +173,9 @@ module _ (p : Source) (lawful : IsLawful p) (members : List (List ℕ)) (closed 
       let at = any_some (λ w. same_thing w.thing x && allows w.rights Write) windows h in
       any_in (λ w. same_thing w.thing x) windows at.one at.within (and_parts (same_thing at.one.thing x) (allows at.one.rights Write) at.passes).0
 
-  its_index : (xs : List Subject) (x : Subject) → In x xs → (k : ℕ) × (slice_get xs k ≡ Some x)
-  its_index [] x h = absurd h
-  its_index (y ∷ ys) x (inl same) = (0, ap Some same)
-  its_index (y ∷ ys) x (inr h) = let later = its_index ys x h in (suc later.0, later.1)
-
   -- who has a name is found by it
   itself : (s : Subject) → In s p.subjects → subject_named p s.name ≡ Some s
-  itself s within = let at = its_index p.subjects s within in found_by_name (λ (s : Subject). s.name) p.subjects (unique p (rules_of lawful).rule_1).subjects at.0 s at.1
+  itself s within = let at = index_in p.subjects s within in found_by_name (λ (s : Subject). s.name) p.subjects (unique p (rules_of lawful).rule_1).subjects at.0 s at.1
 
   its_chooser : (t : Tau0) → p.scheduling.tau0 ≡ Some t → Chooser t
   its_chooser t is =

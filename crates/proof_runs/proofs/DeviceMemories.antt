@@ -4,9 +4,13 @@ use Rattle.std.specs.Prelude.{◌==◌, if◌then◌else◌, option_to_list, sli
 use Rattle.std.specs.List.{flat_map}
 use Rattle.std.specs.Str.{bytes_eq}
 use Rattle.std.proofs.lemmas.Bool.{eqb-true, false≢true}
-use Rattle.std.proofs.lemmas.Option.{slice_get-map}
+use Rattle.std.proofs.lemmas.Option.{same_Some, slice_get-map}
 use Rattle.std.proofs.lemmas.Slice.Eq.{bytes_eq-Decides}
+use Rattle.std.proofs.lemmas.Map.Keys.{any_passes_from_place}
 use Rattle.muen_num.proofs.NumbersBelow.{number_at}
+use Rattle.muen_num.proofs.Options.{from_some, one_value}
+use Rattle.muen_num.proofs.Lists.{all_at}
+use Rattle.muen_num.proofs.Pairs.{first_at}
 use Rattle.muen_num.specs.Range.{numbers_below}
 use Rattle.muen_num.specs.declared.limits.TheConstants.{PAGE}
 use Rattle.image_load.specs.Resolving.{NamedMemory, memories_of, memory_of_span, memory_of_window}
@@ -31,7 +35,7 @@ use Rattle.policy_lawful.specs.source.Source.{Source}
 use Rattle.record_text.specs.Bench.{BenchDevice}
 use Rattle.subject_model.proofs.KeyLaws.{same_thing_self}
 use Rattle.proof_start.specs.GroundOf.{ground_of}
-use Rattle.proof_start.proofs.ListFacts.{all_at, any_at, filtered_there, first_at, found_at, from_some, kept_there, same_at, same_some}
+use Rattle.proof_start.proofs.ListFacts.{filtered_there, found_at, kept_there}
 use Rattle.proof_start.proofs.MemoryFacts.{by_its_number, span_with}
 use Rattle.proof_start.proofs.OnceFacts.{thing_once}
 use Rattle.proof_start.proofs.SpansOfThings.{listed_span, thing_by}
@@ -64,9 +68,9 @@ lies_at p files i keeps sound x once other a s here tagged kind =
     let of_thing = first_at (IsSpanOf p files) (things_of p) (thing_spans i) listed.0 e sound.contents listed.1 in
     let same : of_thing.0 ≡ x = thing_by of_thing.0 x (sym of_thing.2.tag ∙ tagged) (sym of_thing.2.kind ∙ kind) in
     let at : slice_get (things_of p) listed.0 ≡ Some x = of_thing.1 ∙ ap Some same in
-    let t = listed_span p files i keeps sound x (any_at (λ y. same_thing y x) (things_of p) listed.0 x at (same_thing_self x)) in
+    let t = listed_span p files i keeps sound x (any_passes_from_place (λ y. same_thing y x) (things_of p) listed.0 x at (same_thing_self x)) in
     let index : listed.0 ≡ t.number = once listed.0 t.number at t.listed in
-    let is : e ≡ t.span = same_at (slice_get (thing_spans i) t.number) e t.span (ap (slice_get (thing_spans i)) (sym index) ∙ listed.1) t.numbered in
+    let is : e ≡ t.span = one_value (slice_get (thing_spans i) t.number) e t.span (ap (slice_get (thing_spans i)) (sym index) ∙ listed.1) t.numbered in
     record { first = t.first ∙ ap (λ (u : Span). u.0.address / 4096) (sym is); pages = t.pages ∙ ap (λ (u : Span). u.0.pages) (sym is) }
 
 -- ---- the window of a memory
@@ -101,7 +105,7 @@ memory_from s name = record { name = name; address = s.address; bytes = PAGE * s
 shows_by : (s : SpanPart) (m : NamedMemory) (b : Bool) (o : Option (List ℕ)) → is_device s.kind ≡ b → part_name s.tag.part ≡ o
     → option_map (memory_from s) (if b then o else None) ≡ Some m → ShowsMemory s m
 shows_by s m true (Some text) kind part h =
-    let e : memory_from s text ≡ m = same_some (memory_from s text) m h in
+    let e : memory_from s text ≡ m = same_Some (memory_from s text) m h in
     record {
       device = kind;
       named = part ∙ ap (λ (u : NamedMemory). Some u.name) e;
@@ -163,7 +167,7 @@ found_tag i keeps n a s here is =
 -- a tag of a device's memory, by its names
 named_tag : (device memory a b name : List ℕ) (t : Tag) → t ≡ thing_tag (device_memory a b) → a ≡ device → part_name t.part ≡ Some name → name ≡ memory → t ≡ thing_tag (device_memory device memory)
 named_tag device memory a b name t e owner part is =
-    let text : b ≡ name = same_some b name (sym (ap (λ (u : Tag). part_name u.part) e) ∙ part) in
+    let text : b ≡ name = same_Some b name (sym (ap (λ (u : Tag). part_name u.part) e) ∙ part) in
     e ∙ ap₂ (λ x y. thing_tag (device_memory x y)) owner (text ∙ is)
 
 whole_pages : (n : ℕ) → n % 4096 ≡ 0 → n ≡ 4096 * (n / 4096)
@@ -188,7 +192,7 @@ memories_of_image p files i keeps sound device memory d m found found_memory =
     let number : s.0.number ≡ w.one.span = eqb-true s.0.number w.one.span at.passes in
     let tag = window_tag p i x.one d x.is w.index w.one w.here in
     let tagged : s.0.tag ≡ thing_tag (device_memory x.one.name tag.0.name) =
-    same_some s.0.tag (thing_tag (device_memory x.one.name tag.0.name)) (sym (found_tag i keeps w.one.span at.index s.0 at.here number) ∙ tag.1) in
+    same_Some s.0.tag (thing_tag (device_memory x.one.name tag.0.name)) (sym (found_tag i keeps w.one.span at.index s.0 at.here number) ∙ tag.1) in
     let memory_name : m.name ≡ memory = (bytes_eq-Decides m.name memory).0 f.passes in
     let is_tag = named_tag device memory x.one.name tag.0.name m.name s.0.tag tagged x.named s.2.named memory_name in
     let aligned = (all_at IsSpan i.spans at.index s.0 keeps.spans.each at.here).aligned in

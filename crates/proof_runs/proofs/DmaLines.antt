@@ -1,17 +1,18 @@
 -- Lines of direct memory access: where tables fit, the machine writes what the system writes.
-use Rattle.std.proofs.Common.{◌≡◌, ◌∙◌, ℕ, suc, ◌+◌, ◌-◌, ◌*◌, ◌/◌, ◌%◌, ◌<◌, ◌≤◌, Bool, true, false, cond, not, List, [], ◌∷◌, ◌++◌, length, map, take, drop, Option, Some, None, find, position, is_some, unwrap_or, refl, sym, ap, ap₂, subst, arith, inl, inr, le-leb, lt-ltb}
+use Rattle.std.proofs.Common.{◌≡◌, ◌∙◌, ℕ, ◌+◌, ◌-◌, ◌*◌, ◌/◌, ◌%◌, ◌<◌, ◌≤◌, Bool, true, false, List, [], ◌∷◌, ◌++◌, length, map, take, drop, Option, Some, None, is_some, unwrap_or, refl, sym, ap, ap₂, subst, arith, inl, inr, le-leb, lt-ltb}
 use Rattle.std.specs.Prelude.{◌&&◌, if◌then◌else◌, nat_le, nat_lt, option_and_then, slice_get}
-use Rattle.std.specs.List.{All, enumerate_from, list_all, position_or_len}
+use Rattle.std.specs.List.{All, enumerate_from, list_all}
 use Rattle.std.proofs.lemmas.Bool.{and_from, and_left, and_right, cases_lt}
 use Rattle.std.proofs.lemmas.List.{append-nil, length-drop, length-take, map-append, take-append-drop}
 use Rattle.std.proofs.lemmas.List.Elements.{All-drop, All-take}
 use Rattle.std.proofs.lemmas.List.Folds.{list_all-append}
+use Rattle.std.proofs.lemmas.Map.Keys.{any_passes_from_place}
 use Rattle.proof_turns.specs.effect.Effect.TheVariants.{Mem as ToMem}
 use Rattle.dma_tables.specs.LineWrites.{one_write, two_writes}
 use Rattle.dma_tables.specs.Lowered.{goes, in_spans, is_in_spans, is_line, landing, left_in_page, line_writes as machine_writes}
 use Rattle.dma_tables.specs.declared.file.DmaFile.{DmaFile}
 use Rattle.dma_tables.proofs.ByPages.{IsByPage, goes_by_page}
-use Rattle.dma_tables.proofs.Lines.{has_two, line_in_one, line_in_two, line_length, numbered_append}
+use Rattle.dma_tables.proofs.Lines.{has_two, line_in_one, line_in_two, line_length}
 use Rattle.proof_start.specs.Words.{IsByte}
 use Rattle.image_pack.specs.ImageConditions.{KeepsConditions}
 use Rattle.image_pack.specs.declared.parts.DevicePart.{DevicePart}
@@ -20,7 +21,7 @@ use Rattle.image_pack.specs.declared.parts.SpanPart.{SpanPart}
 use Rattle.image_soundness.specs.Sound.{IsSound, address_of}
 use Rattle.muen_num.specs.declared.access.AccessKind.TheVariants.{Write}
 use Rattle.muen_num.specs.declared.limits.TheConstants.{PAGE}
-use Rattle.policy_lawful.proofs.Positions.{position_found}
+use Rattle.muen_num.proofs.Lists.{all_at, numbered_append}
 use Rattle.policy_lawful.specs.Contents.{Held}
 use Rattle.policy_lawful.specs.Dma.{dma_access}
 use Rattle.policy_lawful.specs.Thing.{Thing}
@@ -28,25 +29,11 @@ use Rattle.policy_lawful.specs.Windows.{Access, byte, violation}
 use Rattle.policy_lawful.specs.source.Source.{Source}
 use Rattle.proof_runs.proofs.DomainWindows.{lands, next_lands}
 use Rattle.proof_runs.specs.Fit.{place_of, write_by}
-use Rattle.proof_start.proofs.ListFacts.{all_at}
 use Rattle.proof_start.specs.GroundOf.{ground_of}
 use Rattle.proof_turns.specs.Inputs.{AreLine, IsWrite, Part, dropped, each_of, written}
-use Rattle.subject_model.proofs.PolicyFacts.{passes_any}
 use Rattle.subject_model.specs.Clock.{ByteWrite, line_writes, write_to}
 
 -- ---- lists
-
-found_there : {X : Type 0} (test : X → Bool) (xs : List X) → slice_get xs (position_or_len test xs) ≡ find test xs
-found_there test [] = refl
-found_there test (x ∷ xs) =
-    elim (test x) as (λ b. slice_get (x ∷ xs) (cond (not b) (1 + position_or_len test xs) 0) ≡ cond b (Some x) (find test xs)) [
-      | true ↦ refl
-      | false ↦ let next : 1 + position_or_len test xs ≡ suc (position_or_len test xs) = omega arith in ap (slice_get (x ∷ xs)) next ∙ found_there test xs
-    ]
-
--- what has a number is found
-pub numbered_found : {X : Type 0} (test : X → Bool) (xs : List X) (n : ℕ) → position test xs ≡ Some n → slice_get xs n ≡ find test xs
-numbered_found test xs n h = ap (slice_get xs) (sym (position_found test xs n h)) ∙ found_there test xs
 
 module _ (p : Source) (files : Held) (i : Image) (keeps : KeepsConditions i) (sound : IsSound p files i) (tables : Option DmaFile)
     (device : List ℕ) (number : ℕ) (d : DevicePart) (here : slice_get i.devices number ≡ Some d) (named : d.name ≡ device)
@@ -71,7 +58,7 @@ module _ (p : Source) (files : Held) (i : Image) (keeps : KeepsConditions i) (so
       let address : address_of p i x ≡ s.address = l.span.address in
       let within : offset < PAGE * s.pages = l.within in
       let place : ℕ = address_of p i x + offset in
-      passes_any (λ (s : SpanPart). nat_le s.address place && nat_lt place (s.address + PAGE * s.pages)) i.spans l.span.within.index s l.span.within.span
+      any_passes_from_place (λ (s : SpanPart). nat_le s.address place && nat_lt place (s.address + PAGE * s.pages)) i.spans l.span.within.index s l.span.within.span
       (and_from (nat_le s.address place) (nat_lt place (s.address + PAGE * s.pages)) (le-leb s.address place (omega (arith, address))) (lt-ltb place (s.address + PAGE * s.pages) (omega (arith, address, within))))
 
   placed_in : (addr : ℕ) (a : Access Thing) → access addr ≡ a → option_and_then (in_spans i.spans) (place_of (address_of p i) a) ≡ place_of (address_of p i) a

@@ -12,6 +12,7 @@ use Rattle.image_soundness.specs.Sound.{IsSound}
 use Rattle.muen_num.proofs.Each.{found as each_found}
 use Rattle.muen_num.proofs.Lists.{found_among}
 use Rattle.muen_num.proofs.SearchLaws.{all_none, all_pass, none_both}
+use Rattle.muen_num.proofs.Lookups.{found_passes}
 use Rattle.muen_num.specs.Search.{first_in, unless}
 use Rattle.muen_num.specs.declared.access.AccessKind.{AccessKind}
 use Rattle.muen_num.specs.declared.limits.TheConstants.{PAGE}
@@ -29,7 +30,7 @@ use Rattle.policy_lawful.specs.source.Domain.{Domain}
 use Rattle.policy_lawful.specs.source.Mapping.{Mapping}
 use Rattle.policy_lawful.specs.source.Region.{Region}
 use Rattle.policy_lawful.specs.source.Source.{Source}
-use Rattle.subject_model.proofs.PolicyFacts.{found_any, found_passes}
+use Rattle.subject_model.proofs.PolicyFacts.{found_any}
 use Rattle.proof_start.proofs.SpansOfThings.{ThingSpan, listed_span}
 use Rattle.proof_start.proofs.ThingFacts.{region_is_thing}
 use Rattle.proof_start.proofs.WindowFacts.{region_again}

@@ -1,5 +1,5 @@
 -- What a record that was read holds, in names.
-use Rattle.std.proofs.Common.{◌≡◌, ℕ, ◌+◌, ◌<◌, ◌≤◌, ◌^◌, Bool, true, false, List, [], ◌∷◌, Result, Ok, Err, ap, subst, inl, inr, arith}
+use Rattle.std.proofs.Common.{◌≡◌, ℕ, ◌+◌, ◌<◌, ◌≤◌, ◌^◌, Bool, true, false, List, [], ◌∷◌, Ok, Err, subst, inl, inr, arith}
 use Rattle.std.specs.Prelude.{codes, if◌then◌else◌}
 use Rattle.std.specs.List.{All, AllByRecursion}
 use Rattle.std.specs.Str.{bytes_eq}
@@ -14,9 +14,8 @@ use Rattle.record_text.specs.Reading.{Standing, all_ascii, at_start, entry_at, i
 use Rattle.record_text.specs.Steps.{◌>>=◌}
 use Rattle.record_text.specs.Table.{Entry, input_entry, order_entry, end_entry, as_many, cpu_numbers, dma_line, end_line, entry_tick, first_word, five, four, irq_line, kind_of, mem_line, one, order_line, port_line, read_words, three}
 use Rattle.record_text.specs.Words.{hex_bytes, number_below, tick_of, words_of}
-use Rattle.record_text.specs.declared.fault.LineWant.{LineWant}
 use Rattle.record_text.specs.declared.fault.RecordFault.TheVariants.{NoEnd}
-use Rattle.record_text.proofs.Rules.{IsFew, IsRuled, entry_at-Ok, hex_bytes-Ok, hex_bytes-within, number_below-Ok, passed, then_ok}
+use Rattle.record_text.proofs.Rules.{IsFew, IsRuled, entry_at-Ok, hex_bytes-Ok, hex_bytes-within, in_line-Ok, number_below-Ok, passed, then_ok}
 use Rattle.proof_start.specs.Words.{IsByte}
 
 -- ---- what is read are bytes, and of those that a device writes by itself there are a few
@@ -113,10 +112,6 @@ read_words_small cpus (word ∷ words) e h =
         ]
       ]
     ]
-
-in_line-Ok : {X : Type 0} (n : ℕ) (r : Result X LineWant) (x : X) → in_line n r ≡ Ok x → r ≡ Ok x
-in_line-Ok n (Ok y) x h = let same : y ≡ x = cc in ap (λ y. Ok y) same
-in_line-Ok n (Err want) x h = cc
 
 entry_small : (bench : Bench) (s : Standing) (n : ℕ) (line : List ℕ) (e : Entry) → entry_at bench s n line ≡ Ok e → IsSmallEntry e
 unfolding entry_at

@@ -1,14 +1,14 @@
 -- A record that is read for a sound image gives the machine the inputs and the orders that it gives the system.
-use Rattle.std.proofs.Common.{◌≡◌, ℕ, ◌+◌, ◌*◌, ◌<◌, Bool, true, false, cond, not, List, [], ◌∷◌, ◌++◌, length, map, filter, zip, Option, Some, None, is_some, find, position, option_and_then, option_map, unwrap_or, nat_lt, nat_le, refl, sym, ap, ap₂, ◌∙◌, subst, arith, inl, inr, le-leb}
+use Rattle.std.proofs.Common.{◌≡◌, ℕ, ◌+◌, ◌*◌, ◌<◌, Bool, true, false, cond, List, [], ◌∷◌, ◌++◌, length, map, filter, zip, Option, Some, None, is_some, find, position, option_and_then, option_map, unwrap_or, nat_le, refl, sym, ap, ap₂, ◌∙◌, subst, arith, inl, inr, le-leb}
 use Rattle.std.specs.Prelude.{◌==◌, ◌&&◌, ◌≤◌, if◌then◌else◌, option_to_list, slice_get, slice_index_or}
-use Rattle.std.specs.List.{All, AllZip, cons_option, filter_map, flat_map, list_any, position_or_len}
+use Rattle.std.specs.List.{All, AllZip, cons_option, filter_map, flat_map, list_any}
 use Rattle.std.specs.Option.{option_map_or}
 use Rattle.std.specs.Str.{bytes_eq}
 use Rattle.std.proofs.lemmas.Bool.{and_from, cases_Bool, false≢true, leb-true}
-use Rattle.std.proofs.lemmas.Bool.Decides.{nat_tests}
 use Rattle.std.proofs.lemmas.List.Elements.{All-head, All-tail}
-use Rattle.std.proofs.lemmas.Slice.Eq.{bytes_eq-Decides}
 use Rattle.muen_num.proofs.Lists.{find-map, list_any-map}
+use Rattle.muen_num.proofs.Options.{is_some-option_map, some_if}
+use Rattle.muen_num.proofs.Lookups.{at_position, found_number, same_names}
 use Rattle.muen_num.specs.Range.{numbers_below}
 use Rattle.muen_num.specs.declared.limits.TheConstants.{PAGE}
 use Rattle.subject_model.specs.Clock.{inputs_at, line_writes, order_at}
@@ -57,7 +57,7 @@ use Rattle.proof_start.specs.Words.{IsByte}
 use Rattle.proof_turns.specs.Inputs.{AreInput, AreLine, SameIrq, nobody, somebody}
 use Rattle.proof_turns.proofs.Groups.{joined}
 use Rattle.image_soundness.specs.Bench.{devices_of}
-use Rattle.proof_runs.proofs.DmaLines.{line_alike, numbered_found}
+use Rattle.proof_runs.proofs.DmaLines.{line_alike}
 use Rattle.proof_runs.proofs.RecordFacts.{IsReadFor, IsSmall}
 use Rattle.proof_runs.specs.Fit.{Fit, place_of, write_by}
 
@@ -133,25 +133,6 @@ same_bench i keeps = ap (λ ds. record { cpus = i.header.cpus; devices = ds }) (
 
 -- ---- what is on the bench is what has an index
 
-some_if : {X : Type 0} (b : Bool) (x : X) → is_some (if b then Some x else None) ≡ b
-some_if true x = refl
-some_if false x = refl
-
-some-map : {X Y : Type 0} (f : X → Y) (o : Option X) → is_some (option_map f o) ≡ is_some o
-some-map f None = refl
-some-map f (Some x) = refl
-
-found_index : {X : Type 0} (p : X → Bool) (xs : List X) → nat_lt (position_or_len p xs) (length xs) ≡ is_some (find p xs)
-found_index p [] = refl
-found_index p (x ∷ xs) =
-    elim (p x) as (λ b. nat_lt (cond (not b) (1 + position_or_len p xs) 0) (length (x ∷ xs)) ≡ is_some (cond b (Some x) (find p xs))) [
-      | true ↦ grind (arith, nat_tests)
-      | false ↦ let e : nat_lt (1 + position_or_len p xs) (length (x ∷ xs)) ≡ nat_lt (position_or_len p xs) (length xs) = grind (arith, nat_tests) in e ∙ found_index p xs
-    ]
-
-pub found_number : {X : Type 0} (p : X → Bool) (xs : List X) → is_some (position p xs) ≡ is_some (find p xs)
-found_number p xs = some_if (nat_lt (position_or_len p xs) (length xs)) (position_or_len p xs) ∙ found_index p xs
-
 port_known : (spans : List SpanPart) (port value : ℕ) (o : Option DevicePart) → option_map_or (has_port port) (option_map (bench_device_of spans) o) false ≡ is_some (option_and_then (port_input_of port value) o)
 port_known spans port value None = refl
 port_known spans port value (Some d) =
@@ -174,8 +155,8 @@ irq_known : (spans : List SpanPart) (irq : List ℕ) (o : Option DevicePart) →
 irq_known spans irq None = refl
 irq_known spans irq (Some d) =
     ap is_some (find-map (λ name. bytes_eq name irq) (λ (q : IrqPart). q.name) d.irqs)
-    ∙ some-map (λ (q : IrqPart). q.name) (find (λ q. bytes_eq q.name irq) d.irqs)
-    ∙ sym (some-map (λ (q : IrqPart). raised q.target) (find (λ q. bytes_eq q.name irq) d.irqs))
+    ∙ is_some-option_map (λ (q : IrqPart). q.name) (find (λ q. bytes_eq q.name irq) d.irqs)
+    ∙ sym (is_some-option_map (λ (q : IrqPart). raised q.target) (find (λ q. bytes_eq q.name irq) d.irqs))
 
 device_found : (i : Image) (device : List ℕ) → find (λ d. bytes_eq d.name device) (image_bench i).devices ≡ option_map (bench_device_of i.spans) (device_called device i)
 device_found i device = find-map (λ d. bytes_eq d.name device) (bench_device_of i.spans) i.devices
@@ -187,9 +168,9 @@ known_is i (memory_input device memory offset bytes) =
 known_is i (irq_input device irq) = ap (λ o. option_map_or (has_irq irq) o false) (device_found i device) ∙ irq_known i.spans irq (device_called device i)
 known_is i (dma_input device addr bytes) =
     ap is_some (device_found i device)
-    ∙ some-map (bench_device_of i.spans) (device_called device i)
+    ∙ is_some-option_map (bench_device_of i.spans) (device_called device i)
     ∙ sym (found_number (λ (d : DevicePart). bytes_eq d.name device) i.devices)
-    ∙ sym (some-map (λ number. Dma number addr bytes) (position (λ d. bytes_eq d.name device) i.devices))
+    ∙ sym (is_some-option_map (λ number. Dma number addr bytes) (position (λ d. bytes_eq d.name device) i.devices))
 
 -- ---- where the devices' memory lies, and whom their interrupts reach
 
@@ -340,9 +321,6 @@ module _ (g : Ground) (i : Image) (tables : Option DmaFile) where
 
 -- ---- whom interrupts reach, where devices and subjects are the policy's
 
-same_name : (a b : List ℕ) → bytes_eq a b ≡ true → a ≡ b
-same_name a b h = (bytes_eq-Decides a b).0 h
-
 -- what was found has what stands beside it, and passes
 record IsBeside {A B : Type 0} (R : A → B → Type 0) (p : B → Bool) (y : B) : Type 0 where
   other : A
@@ -417,8 +395,8 @@ has_targets g i keeps devices names are device irq d q found found_irq =
     let Q : Irq → IrqPart → Type 0 = λ a b. IsIrqOf g.policy x.other a b × (b.name ≡ a.name) in
     let irqs : AllZip Q x.other.irqs d.irqs = both_mapped (IsIrqOf g.policy x.other) (λ a. a.name) (λ b. b.name) x.other.irqs d.irqs is.irqs (ap irqs_of is.may) in
     let y = beside Q (λ q. bytes_eq q.name irq) x.other.irqs d.irqs q irqs found_irq in
-    let device_name : x.other.name ≡ device = sym (ap name_of is.may) ∙ same_name d.name device x.passes in
-    let irq_name : y.other.name ≡ irq = sym y.related.1 ∙ same_name q.name irq y.passes in
+    let device_name : x.other.name ≡ device = sym (ap name_of is.may) ∙ same_names d.name device x.passes in
+    let irq_name : y.other.name ≡ irq = sym y.related.1 ∙ same_names q.name irq y.passes in
     let of_device = all_found (IsDevice i) (λ d. bytes_eq d.name device) i.devices d keeps.devices found in
     let of_irq = all_found (IsIrq i.header.subjects) (λ q. bytes_eq q.name irq) d.irqs q of_device.irqs found_irq in
     let count = keeps.counts.subjects in
@@ -450,7 +428,7 @@ module _ (p : Source) (files : Held) (i : Image) (keeps : KeepsConditions i) (so
   line_of device addr bytes number d here found small few =
       let R : SourceDevice → DevicePart → Type 0 = λ a b. IsDeviceOf p i a b × FitsDevice p i tables a in
       let x = beside R (λ d. bytes_eq d.name device) p.devices i.devices d (with_each_of (IsDeviceOf p i) (FitsDevice p i tables) p.devices i.devices sound.plan_and_events.devices fit) found in
-      let named : d.name ≡ device = same_name d.name device x.passes in
+      let named : d.name ≡ device = same_names d.name device x.passes in
       let other : x.other.name ≡ device = sym (ap name_of x.related.0.may) ∙ named in
       line_alike p files i keeps sound tables device number d here named (subst (λ name. (a : ℕ) → write_by tables name a ≡ place_of (address_of p i) (dma_access p name a Write)) other x.related.1) addr bytes (is_a_line bytes few) small
 
@@ -459,7 +437,7 @@ module _ (p : Source) (files : Held) (i : Image) (keeps : KeepsConditions i) (so
   lines_of device addr bytes number at small few = by (slice_get i.devices number) refl
     where
       found : slice_get i.devices number ≡ device_called device i
-      found = numbered_found (λ d. bytes_eq d.name device) i.devices number at
+      found = at_position (λ d. bytes_eq d.name device) i.devices number at
 
       by : (o : Option DevicePart) → slice_get i.devices number ≡ o → AreLine (ground_of p i) (unwrap_or (machine_writes (goes tables i number) addr bytes) []) (line_writes p device addr bytes)
       by (Some d) e = line_of device addr bytes number d e (sym found ∙ e) small few

@@ -22,6 +22,9 @@ use Rattle.vmx_machine.specs.Walks.{walk_of}
 use Rattle.muen_num.specs.Range.{numbers_below}
 use Rattle.muen_num.specs.declared.access.AccessKind.{AccessKind}
 use Rattle.muen_num.specs.declared.limits.TheConstants.{GUEST_END, PAGE}
+use Rattle.muen_num.proofs.Options.{from_some}
+use Rattle.muen_num.proofs.Lists.{all_at}
+use Rattle.muen_num.proofs.Pairs.{both_at, zipped_both}
 use Rattle.policy_lawful.specs.Contents.{Held}
 use Rattle.policy_lawful.specs.Thing.{Thing, state, same_thing, things_of}
 use Rattle.policy_lawful.specs.Windows.{Access, access_of, byte, violation, windows_of}
@@ -31,7 +34,7 @@ use Rattle.proof_turns.specs.Ground.{page_and_offset}
 use Rattle.vmx_machine.specs.Machine.{look_in, msr_exits_in, page_at, ports_exit, reach_by as reach_by_walk}
 use Rattle.vmx_machine.specs.declared.control.Control.{Control}
 use Rattle.proof_start.specs.GroundOf.{ground_of}
-use Rattle.proof_start.proofs.ListFacts.{all_at, both_at, filtered_at, found_at, from_some, kept_at, zipped_both}
+use Rattle.proof_start.proofs.ListFacts.{filtered_at, found_at, kept_at}
 use Rattle.proof_start.proofs.MemoryFacts.{same_memory, span_by}
 use Rattle.proof_start.proofs.PageFacts.{io_page_there, msr_page_there, second_io_page_there}
 

@@ -8,11 +8,13 @@ use Rattle.std.proofs.lemmas.Bool.{and_parts, eqb-true, ltb-true}
 use Rattle.std.proofs.lemmas.List.{length-map}
 use Rattle.std.proofs.lemmas.List.Folds.{list_all-append}
 use Rattle.std.proofs.lemmas.Slice.Eq.{bytes_eq-Decides}
-use Rattle.expand_grants.proofs.Elements.{first_there, lengths_same, none_there, some-map}
+use Rattle.expand_grants.proofs.Elements.{first_there, lengths_same, none_there}
 use Rattle.policy_lawful.proofs.EachPasses.{all_some}
 use Rattle.policy_lawful.proofs.KeptRules.{rules_of}
 use Rattle.muen_num.proofs.Lists.{found_among, list_any-map, passes_at}
 use Rattle.muen_num.proofs.SearchLaws.{all_pass, none_append, none_both, unless_none}
+use Rattle.muen_num.proofs.Lookups.{found_passes}
+use Rattle.muen_num.proofs.Options.{is_some-option_map}
 use Rattle.muen_num.specs.Search.{first_in}
 use Rattle.muen_num.specs.declared.limits.TheConstants.{MOST_CALLS}
 use Rattle.subject_model.specs.Alone.{has_trap}
@@ -30,7 +32,7 @@ use Rattle.policy_lawful.specs.source.Source.{Source}
 use Rattle.policy_lawful.specs.source.SourceWay.{SourceWay}
 use Rattle.policy_lawful.specs.source.SourceWay.TheVariants.{Call, Trap}
 use Rattle.policy_lawful.specs.source.Subject.{Subject}
-use Rattle.subject_model.proofs.PolicyFacts.{found_any, found_index, found_passes}
+use Rattle.subject_model.proofs.PolicyFacts.{found_any, found_index}
 
 -- ---- the numbers of calls and traps
 
@@ -202,7 +204,7 @@ module _ (p : Source) (lawful : IsLawful p) where
       elim (find (λ e. bytes_eq e.name name) p.events)
       as (λ o. find (λ e. bytes_eq e.name name) p.events ≡ o → is_some o ≡ true → is_some (option_and_then (λ e. option_map (raised_as e) (slice_get (event_targets p name) 0)) o) ≡ true) [
         | None ↦ λ _ h. absurd (cc)
-        | Some e ↦ λ is _. some-map (raised_as e) (slice_get (event_targets p name) 0) ∙ has_target name e is
+        | Some e ↦ λ is _. is_some-option_map (raised_as e) (slice_get (event_targets p name) 0) ∙ has_target name e is
       ] refl (found_any (λ e. bytes_eq e.name name) p.events ∙ declared)
 
   -- what a trap entry names is raised

@@ -1,7 +1,7 @@
 -- What holds of a policy and a sound image for it as long as the machine runs.
 use Rattle.std.proofs.Common.{◌≡◌, ◌⊎◌, ℕ, zero, suc, ◌*◌, ◌/◌, ◌<◌, ◌≤◌, Option, Some, None, List, [], ◌∷◌, length, refl, sym, ap, ◌∙◌, subst, inl, inr, arith}
 use Rattle.std.specs.Prelude.{is_some, option_map, option_and_then, slice_get, slice_index_or}
-use Rattle.std.specs.List.{All, AllZip}
+use Rattle.std.specs.List.{All}
 use Rattle.std.proofs.lemmas.Bool.{cases_lt}
 use Rattle.image_pack.specs.ImageConditions.{IsEvent, IsSubject as KeepsSubject, KeepsConditions}
 use Rattle.image_pack.specs.declared.parts.EventPart.{EventPart}
@@ -16,6 +16,9 @@ use Rattle.image_soundness.specs.Targets.{entry_event, event_index}
 use Rattle.proof_turns.specs.Kernel.{entry}
 use Rattle.muen_num.specs.declared.access.AccessKind.{AccessKind}
 use Rattle.muen_num.specs.declared.limits.TheConstants.{MOST_CALLS}
+use Rattle.muen_num.proofs.Options.{is_some-option_map, one_value}
+use Rattle.muen_num.proofs.Lists.{all_at, some_below}
+use Rattle.muen_num.proofs.Pairs.{first_at, other_at}
 use Rattle.policy_lawful.specs.Contents.{Held, initial_bytes}
 use Rattle.policy_lawful.specs.Events.{Raised, event_of}
 use Rattle.policy_lawful.specs.Thing.{Thing, region, state}
@@ -30,7 +33,6 @@ use Rattle.proof_turns.specs.Fixed.{IsFixed, Sees, Watches}
 use Rattle.proof_start.specs.GroundOf.{ground_of}
 use Rattle.proof_start.proofs.Aligned.{bitmaps_alike, walks_alike}
 use Rattle.proof_start.proofs.EventFacts.{few_calls, few_traps, traps_are_events}
-use Rattle.proof_start.proofs.ListFacts.{all_at, first_at, other_at, same_at}
 use Rattle.proof_start.proofs.MsrFacts.{in_msr_file}
 use Rattle.proof_start.proofs.PageFacts.{io_kept, msrbm_kept, second_io_kept, tables_kept}
 use Rattle.proof_start.proofs.StateFacts.{no_thing, state_pages}
@@ -56,15 +58,6 @@ entry_is [] n = refl
 entry_is (e ∷ es) zero = refl
 entry_is (e ∷ es) (suc n) = entry_is es n
 
-some_same : {A B : Type 0} (f : A → B) (o : Option A) → is_some o ≡ is_some (option_map f o)
-some_same f None = refl
-some_same f (Some a) = refl
-
-some_below : {X : Type 0} (xs : List X) (n : ℕ) → n < length xs → slice_get xs n ≡ None → ⊥
-some_below [] n h e = omega (arith, h)
-some_below (x ∷ xs) zero h e = absurd (cc (e))
-some_below (x ∷ xs) (suc n) h e = some_below xs n (omega (arith, h)) e
-
 event_below : {m : ℕ} (events : List (Option EventPart)) (k : ℕ) (e : EventPart) → All (IsEvent m) events → entry events k ≡ Some e → e.target < m
 event_below {m = m} events k e all h = by_there (slice_get events k) refl h
   where
@@ -76,9 +69,6 @@ event_below {m = m} events k e all h = by_there (slice_get events k) refl h
 module _ (p : Source) (files : Held) (i : Image) (keeps : KeepsConditions i) (sound : IsSound p files i) where
   abbrev g : Ground
   g = ground_of p i
-
-  subjects : AllZip (IsSubjectOf p) p.subjects i.subjects
-  subjects = subjects_of p files i sound
 
   -- a number names the same subject in both
   same_name : (t : ℕ) → subject_name i t ≡ name_at g t
@@ -126,7 +116,7 @@ module _ (p : Source) (files : Held) (i : Image) (keeps : KeepsConditions i) (so
       in_group = is.in_group;
       calls = λ k. event_at q.calls k kept.1.calls.many (event_of p n (Call k)) (λ l. by_name (slice_index_or q.calls k None) (event_of p n (Call k)) (is.calls k l)) (λ h. few_calls p sound.lawful s n k at h);
       traps = its_traps;
-      trapped = λ k. some_same (raised_of g) (entry q.traps k) ∙ (ap is_some (its_traps k) ∙ traps_are_events p sound.lawful s n k at);
+      trapped = λ k. sym (is_some-option_map (raised_of g) (entry q.traps k)) ∙ (ap is_some (its_traps k) ∙ traps_are_events p sound.lawful s n k at);
       ports = (bitmaps_alike p files i keeps sound n q (control_of i.spans q) s at there control).0;
       msrs = (bitmaps_alike p files i keeps sound n q (control_of i.spans q) s at there control).1;
       walks = λ kind addr low. walks_alike p files i keeps sound n q kind addr low s at there;
@@ -136,10 +126,10 @@ module _ (p : Source) (files : Held) (i : Image) (keeps : KeepsConditions i) (so
     is_subject = record { subject = n; part = q; control = control_of i.spans q; joined = joined_at }
 
   by_subject : (s : ℕ) (n : Subject) → slice_get p.subjects s ≡ Some n → IsSubject g s
-  by_subject s n at = let o = other_at (IsSubjectOf p) p.subjects i.subjects s n subjects at in is_subject s n o.0 at o.1 o.2
+  by_subject s n at = let o = other_at (IsSubjectOf p) p.subjects i.subjects s n (subjects_of p files i sound) at in is_subject s n o.0 at o.1 o.2
 
   by_part : (s : ℕ) (q : SubjectPart) → slice_get i.subjects s ≡ Some q → IsSubject g s
-  by_part s q at = let o = first_at (IsSubjectOf p) p.subjects i.subjects s q subjects at in is_subject s o.0 q o.1 at o.2
+  by_part s q at = let o = first_at (IsSubjectOf p) p.subjects i.subjects s q (subjects_of p files i sound) at in is_subject s o.0 q o.1 at o.2
 
   by_control : (s : ℕ) (c : Control) → slice_get g.setup.controls s ≡ Some c → IsSubject g s
   by_control s c at = let o : Controlled i s c = controlled p i s c at in by_part s o.part o.here
@@ -166,7 +156,7 @@ module _ (p : Source) (files : Held) (i : Image) (keeps : KeepsConditions i) (so
   unfolding ground_of
   sees_page s n x offset w =
       let is = by_subject w.number w.subject w.at in
-      let same : is.subject ≡ w.subject = same_at (slice_get p.subjects w.number) is.subject w.subject is.joined.subject w.at in
+      let same : is.subject ≡ w.subject = one_value (slice_get p.subjects w.number) is.subject w.subject is.joined.subject w.at in
       record {
         number = w.number;
         subject = is.subject;

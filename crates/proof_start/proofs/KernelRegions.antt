@@ -12,6 +12,8 @@ use Rattle.image_soundness.specs.Memory.{address_at}
 use Rattle.image_soundness.specs.Sound.{ForEachSubject, HasWalks, IsSound, IsSubjectOf, address_of, led}
 use Rattle.vmx_machine.specs.walk.Walk.TheVariants.{At}
 use Rattle.muen_num.specs.declared.access.AccessKind.{AccessKind}
+use Rattle.muen_num.proofs.Lists.{all_at}
+use Rattle.muen_num.proofs.Pairs.{both_at, other_at, zipped_both}
 use Rattle.policy_lawful.specs.Contents.{Held, initial_bytes}
 use Rattle.policy_lawful.specs.Thing.{Thing}
 use Rattle.policy_lawful.specs.Windows.{Access, access_of, byte, violation, windows_of}
@@ -21,7 +23,6 @@ use Rattle.subject_model.proofs.PolicyFacts.{names_differ}
 use Rattle.proof_start.specs.GroundOf.{ground_of}
 use Rattle.proof_start.specs.Reaching.{IsInMonitored, IsInThing, ReachesNoKernelRegion}
 use Rattle.proof_start.proofs.Aligned.{address_aligned}
-use Rattle.proof_start.proofs.ListFacts.{all_at, both_at, other_at, zipped_both}
 use Rattle.proof_start.proofs.SpansOfThings.{listed_span}
 use Rattle.proof_start.proofs.StateFacts.{state_at_address}
 use Rattle.proof_start.proofs.WindowFacts.{IsByteOf, IsWatched, sees}

@@ -1,62 +1,18 @@
 -- Elements of lists by their indexes, and what tests, maps and filters tell of them.
 use Rattle.std.proofs.Common.{◌≡◌, ℕ, zero, suc, ◌+◌, ◌<◌, cond, Bool, true, false, List, [], ◌∷◌, map, filter, get_or, Option, Some, None, refl, sym, ap, subst, ◌∙◌, inl, inr}
 use Rattle.std.specs.Prelude.{option_map, slice_get}
-use Rattle.std.specs.List.{All, AllPairs, AllZip, cons_option, enumerate_from, filter_map, find, list_any, zip}
-use Rattle.std.proofs.lemmas.Bool.{cases_Bool, or_cases, or_left, or_right}
-use Rattle.std.proofs.lemmas.Option.{get_or_from_slice_get, slice_get_within}
-
-pub same_some : {A : Type 0} (a b : A) → Some a ≡ Some b → a ≡ b
-same_some a b e = cc (e)
-
-pub same_at : {A : Type 0} (o : Option A) (a b : A) → o ≡ Some a → o ≡ Some b → a ≡ b
-same_at o a b e f = cc (e, f)
-
--- what a map makes of something that is there
-pub from_some : {X Y : Type 0} (f : X → Y) (o : Option X) (y : Y) → option_map f o ≡ Some y → (x : X) × (o ≡ Some x) × (f x ≡ y)
-from_some f None y h = absurd (cc)
-from_some f (Some x) y h = (x, refl, cc)
+use Rattle.std.specs.List.{AllPairs, cons_option, enumerate_from, filter_map, find, list_any, zip}
+use Rattle.std.proofs.lemmas.Bool.{cases_Bool, or_cases}
+use Rattle.std.proofs.lemmas.Option.{get_or_from_slice_get, same_Some, slice_get_within}
+use Rattle.muen_num.proofs.Options.{one_value}
 
 -- ---- what holds of each
-
-pub all_at : {X : Type 0} (P : X → Type 0) (xs : List X) (n : ℕ) (x : X) → All P xs → slice_get xs n ≡ Some x → P x
-all_at P xs n x h at = subst P (get_or_from_slice_get xs n x x at) (h n x (slice_get_within xs n x at))
 
 pub pairs_at : {X : Type 0} (R : X → X → Type 0) (xs : List X) (i j : ℕ) (x y : X) → AllPairs R xs → i < j → slice_get xs i ≡ Some x → slice_get xs j ≡ Some y → R x y
 pairs_at R xs i j x y h less at to =
     subst (λ z. R z y) (get_or_from_slice_get xs i x x at) (subst (R (get_or xs i x)) (get_or_from_slice_get xs j y x to) (h i j x less (slice_get_within xs j y to)))
 
--- elements at an index of two lists of which a relation holds, index by index
-pub both_at : {X Y : Type 0} (R : X → Y → Type 0) (xs : List X) (ys : List Y) (k : ℕ) (x : X) (y : Y) → AllZip R xs ys → slice_get xs k ≡ Some x → slice_get ys k ≡ Some y → R x y
-both_at R [] ys k x y h a b = absurd (cc)
-both_at R (z ∷ zs) [] k x y h a b = absurd h
-both_at R (z ∷ zs) (w ∷ ws) zero x y h a b =
-    let p : z ≡ x = cc in
-    let q : w ≡ y = cc in
-    subst (λ u. R u y) p (subst (R z) q h.0)
-both_at R (z ∷ zs) (w ∷ ws) (suc k) x y h a b = both_at R zs ws k x y h.1 a b
-
--- what stands at an index of the first has something at that index of the second
-pub other_at : {X Y : Type 0} (R : X → Y → Type 0) (xs : List X) (ys : List Y) (k : ℕ) (x : X) → AllZip R xs ys → slice_get xs k ≡ Some x → (y : Y) × (slice_get ys k ≡ Some y) × R x y
-other_at R [] ys k x h a = absurd (cc)
-other_at R (z ∷ zs) [] k x h a = absurd h
-other_at R (z ∷ zs) (w ∷ ws) zero x h a = let p : z ≡ x = cc in (w, refl, subst (λ u. R u w) p h.0)
-other_at R (z ∷ zs) (w ∷ ws) (suc k) x h a = other_at R zs ws k x h.1 a
-
--- and the other way round
-pub first_at : {X Y : Type 0} (R : X → Y → Type 0) (xs : List X) (ys : List Y) (k : ℕ) (y : Y) → AllZip R xs ys → slice_get ys k ≡ Some y → (x : X) × (slice_get xs k ≡ Some x) × R x y
-first_at R [] [] k y h a = absurd (cc)
-first_at R [] (w ∷ ws) k y h a = absurd h
-first_at R (z ∷ zs) [] k y h a = absurd (cc)
-first_at R (z ∷ zs) (w ∷ ws) zero y h a = let p : w ≡ y = cc in (z, refl, subst (R z) p h.0)
-first_at R (z ∷ zs) (w ∷ ws) (suc k) y h a = first_at R zs ws k y h.1 a
-
 -- ---- some element
-
-pub any_at : {X : Type 0} (test : X → Bool) (xs : List X) (n : ℕ) (x : X) → slice_get xs n ≡ Some x → test x ≡ true → list_any test xs ≡ true
-any_at test [] n x at h = absurd (cc)
-any_at test (y ∷ ys) zero x at h =
-    let e : y ≡ x = cc in or_left (test y) (list_any test ys) (subst (λ z. test z ≡ true) (sym e) h)
-any_at test (y ∷ ys) (suc n) x at h = or_right (test y) (list_any test ys) (any_at test ys n x at h)
 
 -- one that passes, and its index
 pub record Passing {X : Type 0} (test : X → Bool) (xs : List X) : Type 0 where
@@ -93,7 +49,7 @@ found_at test (y ∷ ys) x h =
     elim (cases_Bool (test y)) as (λ _. FoundAt test (y ∷ ys) x) [
       | inl t ↦
           let g : Some y ≡ Some x = ap (λ b. cond b (Some y) (find test ys)) (sym t) ∙ h in
-          let e : y ≡ x = same_some y x g in
+          let e : y ≡ x = same_Some y x g in
           record { index = 0; here = g; passes = subst (λ z. test z ≡ true) e t }
       | inr f ↦
           let p = found_at test ys x (ap (λ b. cond b (Some y) (find test ys)) (sym f) ∙ h) in
@@ -117,27 +73,10 @@ pub found_only : {X : Type 0} (test : X → Bool) (xs : List X) (n : ℕ) (x : X
 found_only test xs n x at h only =
     let r = found_some test xs n x at h in
     let p = found_at test xs r.0 r.1 in
-    let e : r.0 ≡ x = same_at (slice_get xs n) r.0 x (ap (slice_get xs) (sym (only p.index r.0 p.here p.passes)) ∙ p.here) at in
+    let e : r.0 ≡ x = one_value (slice_get xs n) r.0 x (ap (slice_get xs) (sym (only p.index r.0 p.here p.passes)) ∙ p.here) at in
     r.1 ∙ ap Some e
 
 -- ---- two lists side by side
-
-pub zipped_at : {X Y : Type 0} (xs : List X) (ys : List Y) (n : ℕ) (x : X) (y : Y) → slice_get xs n ≡ Some x → slice_get ys n ≡ Some y → slice_get (zip xs ys) n ≡ Some (x, y)
-zipped_at [] ys n x y a b = absurd (cc)
-zipped_at (z ∷ zs) [] n x y a b = absurd (cc)
-zipped_at (z ∷ zs) (w ∷ ws) zero x y a b =
-    let p : z ≡ x = cc in
-    let q : w ≡ y = cc in
-    ap (λ u. Some (u, w)) p ∙ ap (λ u. Some (x, u)) q
-zipped_at (z ∷ zs) (w ∷ ws) (suc n) x y a b = zipped_at zs ws n x y a b
-
-pub zipped_both : {X Y : Type 0} (xs : List X) (ys : List Y) (n : ℕ) (e : X × Y) → slice_get (zip xs ys) n ≡ Some e → (slice_get xs n ≡ Some e.0) × (slice_get ys n ≡ Some e.1)
-zipped_both [] ys n e a = absurd (cc)
-zipped_both (z ∷ zs) [] n e a = absurd (cc)
-zipped_both (z ∷ zs) (w ∷ ws) zero e a =
-    let p : (z, w) ≡ e = same_some (z, w) e a in
-    (ap (λ u. Some u.0) p, ap (λ u. Some u.1) p)
-zipped_both (z ∷ zs) (w ∷ ws) (suc n) e a = zipped_both zs ws n e a
 
 -- a search by the first of a pair, with the second changed
 pub found_changed : {X Y Z : Type 0} (test : X → Bool) (f : Y → Z) (xs : List X) (ys : List Y) → find (λ (e : X × Z). test e.0) (zip xs (map f ys)) ≡ option_map (λ (e : X × Y). (e.0, f e.1)) (find (λ (e : X × Y). test e.0) (zip xs ys))
@@ -155,13 +94,13 @@ filtered_at test (y ∷ ys) n x a = by_test (test y) refl (λ n. filtered_at tes
   where
     by_test : (b : Bool) → test y ≡ b → ((n : ℕ) → slice_get (filter test ys) n ≡ Some x → (m : ℕ) × (slice_get ys m ≡ Some x) × (test x ≡ true))
         → (n : ℕ) → slice_get (cond b (y ∷ filter test ys) (filter test ys)) n ≡ Some x → (m : ℕ) × (slice_get (y ∷ ys) m ≡ Some x) × (test x ≡ true)
-    by_test true t later zero h = (0, h, subst (λ z. test z ≡ true) (same_some y x h) t)
+    by_test true t later zero h = (0, h, subst (λ z. test z ≡ true) (same_Some y x h) t)
     by_test true t later (suc n) h = let r = later n h in (suc r.0, r.1, r.2)
     by_test false t later n h = let r = later n h in (suc r.0, r.1, r.2)
 
 pub filtered_there : {X : Type 0} (test : X → Bool) (xs : List X) (m : ℕ) (x : X) → slice_get xs m ≡ Some x → test x ≡ true → (n : ℕ) × (slice_get (filter test xs) n ≡ Some x)
 filtered_there test [] m x a t = absurd (cc)
-filtered_there test (y ∷ ys) zero x a t = let e : test y ≡ true = subst (λ z. test z ≡ true) (sym (same_some y x a)) t in (0, ap (λ b. slice_get (cond b (y ∷ filter test ys) (filter test ys)) 0) e ∙ a)
+filtered_there test (y ∷ ys) zero x a t = let e : test y ≡ true = subst (λ z. test z ≡ true) (sym (same_Some y x a)) t in (0, ap (λ b. slice_get (cond b (y ∷ filter test ys) (filter test ys)) 0) e ∙ a)
 filtered_there test (y ∷ ys) (suc m) x a t = by_test (test y) (filtered_there test ys m x a t)
   where
     by_test : (b : Bool) → (n : ℕ) × (slice_get (filter test ys) n ≡ Some x) → (n : ℕ) × (slice_get (cond b (y ∷ filter test ys) (filter test ys)) n ≡ Some x)
@@ -170,7 +109,7 @@ filtered_there test (y ∷ ys) (suc m) x a t = by_test (test y) (filtered_there 
 
 pub kept_there : {X Y : Type 0} (f : X → Option Y) (xs : List X) (m : ℕ) (x : X) (y : Y) → slice_get xs m ≡ Some x → f x ≡ Some y → (n : ℕ) × (slice_get (filter_map f xs) n ≡ Some y)
 kept_there f [] m x y a h = absurd (cc)
-kept_there f (z ∷ zs) zero x y a h = (0, ap (λ o. slice_get (cons_option o (filter_map f zs)) 0) (ap f (same_some z x a) ∙ h))
+kept_there f (z ∷ zs) zero x y a h = (0, ap (λ o. slice_get (cons_option o (filter_map f zs)) 0) (ap f (same_Some z x a) ∙ h))
 kept_there {X} {Y} f (z ∷ zs) (suc m) x y a h = by_first (f z) (kept_there f zs m x y a h)
   where
     by_first : (o : Option Y) → (n : ℕ) × (slice_get (filter_map f zs) n ≡ Some y) → (n : ℕ) × (slice_get (cons_option o (filter_map f zs)) n ≡ Some y)

@@ -18,12 +18,13 @@ use Rattle.image_pack.specs.declared.parts.SpanPart.{SpanPart}
 use Rattle.image_pack.proofs.ConditionsFit.{conditions_fit}
 use Rattle.vmx_machine.specs.Memory.{Page, page_of}
 use Rattle.muen_num.specs.declared.limits.TheConstants.{PAGE}
+use Rattle.muen_num.proofs.Pairs.{both_at, other_at, zipped_at, zipped_both}
 use Rattle.image_soundness.specs.Frames.{pages_in}
 use Rattle.image_soundness.specs.Spans.{pages_of_spans}
 use Rattle.image_soundness.specs.spans.MemorySpan.{MemorySpan}
 use Rattle.proof_turns.specs.Ground.{part}
 use Rattle.guest_isa.specs.Words.{IsByte}
-use Rattle.proof_start.proofs.ListFacts.{both_at, found_at, found_only, other_at, zipped_at, zipped_both}
+use Rattle.proof_start.proofs.ListFacts.{found_at, found_only}
 use Rattle.proof_start.proofs.SpanFacts.{KernelSpan, number_once}
 
 -- ---- one memory, written twice

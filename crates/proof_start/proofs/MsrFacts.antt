@@ -2,7 +2,7 @@
 use Rattle.std.proofs.Common.{◌≡◌, ℕ, zero, suc, ◌+◌, ◌-◌, ◌<◌, ◌≤◌, inl, inr, Bool, true, false, List, [], ◌∷◌, ◌++◌, map, Some, None, refl, sym, ap, ◌∙◌, arith, subst, true≢false}
 use Rattle.std.specs.Prelude.{◌==◌, ◌&&◌, ◌||◌, is_some, nat_le, if◌then◌else◌, slice_get}
 use Rattle.std.specs.List.{flat_map, list_all, list_any}
-use Rattle.std.proofs.lemmas.Bool.{and_from, and_parts, eqb-true, false_from_ne_true, le-leb, leb-true, ne_eqb, or_cases, or_from, or_left, or_right}
+use Rattle.std.proofs.lemmas.Bool.{and_from, and_parts, eq-eqb, eqb-true, false_from_ne_true, le-leb, leb-true, ne_eqb, or_cases, or_from, or_left, or_right}
 use Rattle.std.proofs.lemmas.Bool.Decides.{nat_tests}
 use Rattle.std.proofs.lemmas.List.{map-append}
 use Rattle.std.proofs.lemmas.List.Folds.{list_all-append, list_all-map, list_any-append}
@@ -76,12 +76,9 @@ all_covered x h =
 distinct_both : (xs ys : List ℕ) → AreDistinct xs → AreDistinct ys → ((i : ℕ) → is_in xs i ≡ true → is_in ys i ≡ false) → AreDistinct (xs ++ ys)
 distinct_both [] ys a b h = b
 distinct_both (x ∷ xs) ys a b h = (
-  list_any-append (λ w. w == x) xs ys ∙ or_from (is_in xs x) (is_in ys x) a.0 (h x (or_left (x == x) (is_in xs x) (same x))),
+  list_any-append (λ w. w == x) xs ys ∙ or_from (is_in xs x) (is_in ys x) a.0 (h x (or_left (x == x) (is_in xs x) (eq-eqb x x refl))),
   distinct_both xs ys a.1 b (λ i e. h i (or_right (x == i) (is_in xs i) e)),
 )
-  where
-    same : (n : ℕ) → (n == n) ≡ true
-    same n = grind (arith, nat_tests)
 
 -- so many numbers from this one on
 numbers_in : (start n i : ℕ) → is_in (map (λ k. start + k) (numbers_below n)) i ≡ true → (start ≤ i) × (i < start + n)

@@ -4,11 +4,13 @@ use Rattle.std.specs.Prelude.{◌==◌, slice_get}
 use Rattle.std.specs.List.{find, list_any}
 use Rattle.std.proofs.lemmas.Bool.{cases_Bool, cases_eq, eq-eqb, eqb-true, ne_eqb}
 use Rattle.std.proofs.lemmas.List.{length-map}
+use Rattle.std.proofs.lemmas.Map.Keys.{any_passes_from_place}
 use Rattle.image_load.specs.Loaded.{page_of_span}
 use Rattle.image_pack.specs.SpanConditions.{AreSpans}
 use Rattle.image_pack.specs.declared.parts.SpanPart.{SpanPart}
-use Rattle.proof_start.proofs.ListFacts.{all_at, any_at, any_passing, pairs_at}
+use Rattle.proof_start.proofs.ListFacts.{any_passing, pairs_at}
 use Rattle.proof_start.proofs.SpanFacts.{first_page_of, found_by}
+use Rattle.muen_num.proofs.Lists.{all_at}
 
 -- a number isn't in the list
 abbrev Out : ℕ → List ℕ → Type 0
@@ -100,7 +102,7 @@ some_number xs h n low =
     elim (cases_Bool (list_any (λ (s : SpanPart). s.number == n) xs)) [
       | inl t ↦ t
       | inr f ↦
-          let out = out_numbers n xs (λ k s at e. let t : true ≡ false = sym (any_at (λ (s : SpanPart). s.number == n) xs k s at (eq-eqb s.number n e)) ∙ f in cc (t)) in
+          let out = out_numbers n xs (λ k s at e. let t : true ≡ false = sym (any_passes_from_place (λ (s : SpanPart). s.number == n) xs k s at (eq-eqb s.number n e)) ∙ f in cc (t)) in
           let distinct = distinct_numbers xs (λ i j s t less at to e. pairs_at (λ u v. u.number ≡ v.number → ⊥) xs i j s t h.differ less at to (sym e)) in
           let below = below_numbers (length xs) xs (λ k s at. all_at (λ u. u.number < length xs) xs k s h.numbered at) in
           let few = few_below (length xs) (n ∷ numbers_of xs) (out, distinct) (low, below) in

@@ -4,10 +4,10 @@ use Rattle.std.specs.Prelude.{⊤, slice_get}
 use Rattle.std.specs.List.{flat_map}
 use Rattle.std.specs.Str.{bytes_eq}
 use Rattle.std.proofs.lemmas.Bool.{eqb-true}
-use Rattle.std.proofs.lemmas.Option.{get_or_from_slice_get, slice_get_within}
-use Rattle.policy_lawful.proofs.Indexes.{same_name, same_self}
+use Rattle.std.proofs.lemmas.Option.{get_or_from_slice_get, same_Some, slice_get_within}
+use Rattle.policy_lawful.proofs.Indexes.{same_name}
 use Rattle.policy_lawful.proofs.KeptRules.{rules_of}
-use Rattle.policy_lawful.proofs.UniqueNames.{logical_unique, parts_unique, unique, unique_parts}
+use Rattle.policy_lawful.proofs.UniqueNames.{logical_unique, parts_unique, provided_unique, unique, unique_parts}
 use Rattle.policy_lawful.specs.Lawful.{IsLawful}
 use Rattle.policy_lawful.specs.Rules.{logical_names, repeated}
 use Rattle.policy_lawful.specs.Thing.{Thing, region, channel, provided, device_memory, state, component_by, things_of}
@@ -15,21 +15,10 @@ use Rattle.policy_lawful.specs.source.Component.{Component}
 use Rattle.policy_lawful.specs.source.ComponentUse.{ComponentUse}
 use Rattle.policy_lawful.specs.source.Device.{Device}
 use Rattle.policy_lawful.specs.source.Source.{Source}
-use Rattle.muen_num.proofs.Members.{In, append_some, flat_some, map_in, map_some}
-use Rattle.proof_start.proofs.ListFacts.{found_at, same_some}
+use Rattle.muen_num.proofs.Members.{In, append_some, at_in, flat_some, index_in, map_in, map_some}
+use Rattle.muen_num.proofs.Lookups.{same_self}
+use Rattle.proof_start.proofs.ListFacts.{found_at}
 use Rattle.policy_lawful.proofs.Items.{provided_by, things_are}
-
--- ---- elements and indexes
-
-in_at : {X : Type 0} (xs : List X) (n : ℕ) (x : X) → slice_get xs n ≡ Some x → In x xs
-in_at [] n x a = absurd (cc)
-in_at (y ∷ ys) zero x a = inl (same_some y x a)
-in_at (y ∷ ys) (suc n) x a = inr (in_at ys n x a)
-
-index_of_one : {X : Type 0} (xs : List X) (x : X) → In x xs → (n : ℕ) × (slice_get xs n ≡ Some x)
-index_of_one [] x i = absurd i
-index_of_one (y ∷ ys) x (inl e) = (0, ap Some e)
-index_of_one (y ∷ ys) x (inr i) = let r = index_of_one ys x i in (suc r.0, r.1)
 
 -- ---- lists in which each element stands once
 
@@ -41,8 +30,8 @@ Once (x ∷ xs) = (In x xs → ⊥) × Once xs
 pub once_at : {X : Type 0} (xs : List X) (x : X) (k l : ℕ) → Once xs → slice_get xs k ≡ Some x → slice_get xs l ≡ Some x → k ≡ l
 once_at [] x k l h a b = absurd (cc)
 once_at (y ∷ ys) x zero zero h a b = refl
-once_at (y ∷ ys) x zero (suc l) h a b = absurd (h.0 (subst (λ z. In z ys) (sym (same_some y x a)) (in_at ys l x b)))
-once_at (y ∷ ys) x (suc k) zero h a b = absurd (h.0 (subst (λ z. In z ys) (sym (same_some y x b)) (in_at ys k x a)))
+once_at (y ∷ ys) x zero (suc l) h a b = absurd (h.0 (subst (λ z. In z ys) (sym (same_Some y x a)) (at_in ys l x b)))
+once_at (y ∷ ys) x (suc k) zero h a b = absurd (h.0 (subst (λ z. In z ys) (sym (same_Some y x b)) (at_in ys k x a)))
 once_at (y ∷ ys) x (suc k) (suc l) h a b = ap suc (once_at ys x k l h.1 a b)
 
 -- names of which none is repeated
@@ -52,7 +41,7 @@ once_names (x ∷ xs) h = (apart, once_names xs (unique_parts (x ∷ []) xs h).1
   where
     apart : In x xs → ⊥
     apart i =
-        let r = index_of_one xs x i in
+        let r = index_in xs x i in
         let e : get_or xs r.0 [] ≡ x = get_or_from_slice_get xs r.0 x [] r.1 in
         let low : r.0 < length xs = slice_get_within xs r.0 x r.1 in
         let same : 0 ≡ suc r.0 = eqb-true 0 (suc r.0) (sym (same_name (x ∷ xs) 0 (suc r.0) h (omega arith) (omega (arith, low))) ∙ ap (bytes_eq x) e ∙ same_self x) in
@@ -122,15 +111,8 @@ provided_whose a b (Some c) (Some d) x i j =
     let e : provided a m.one.logical ≡ provided b n.one.logical = m.image ∙ sym n.image in
     cc (e)
 
-brought_names : (c : Component) → repeated (logical_names c) ≡ None → repeated (map (λ x. x.logical) c.provides) ≡ None
-brought_names c h =
-    let provides = map (λ x. x.logical) c.provides in
-    let memory = map (λ x. x.logical) c.memory in
-    let channels = map (λ x. x.logical) c.channels in
-    (unique_parts provides memory (unique_parts (provides ++ memory) channels h).0).0
-
 brought_once : (subject : List ℕ) (c : Component) → repeated (logical_names c) ≡ None → Once (provided_by subject (Some c))
-brought_once subject c h = once_map (λ x. x.logical) (λ x. provided subject x.logical) c.provides (λ x z e. cc (e)) (once_names (map (λ x. x.logical) c.provides) (brought_names c h))
+brought_once subject c h = once_map (λ x. x.logical) (λ x. provided subject x.logical) c.provides (λ x z e. cc (e)) (once_names (map (λ x. x.logical) c.provides) (provided_unique c h))
 
 provided_once : (p : Source) → IsLawful p → (subject : List ℕ) (used : Option ComponentUse) → Once (provided_by subject (component_by p used))
 provided_once p lawful subject None = tt
@@ -156,7 +138,7 @@ memories_whose d e x i j =
 
 memories_once : (p : Source) → IsLawful p → (d : Device) → In d p.devices → Once (map (λ m. device_memory d.name m.name) d.memory)
 memories_once p lawful d i =
-    let at = index_of_one p.devices d i in
+    let at = index_in p.devices d i in
     once_map (λ m. m.name) (λ m. device_memory d.name m.name) d.memory (λ x z e. cc (e)) (once_names (map (λ m. m.name) d.memory) (parts_unique p at.0 d (rules_of lawful).rule_1 at.1).memory)
 
 -- ---- all things

@@ -18,6 +18,9 @@ use Rattle.vmx_machine.specs.Memory.{page_of}
 use Rattle.vmx_machine.specs.Walks.{addresses_read}
 use Rattle.muen_num.specs.declared.limits.TheConstants.{GUEST_END}
 use Rattle.muen_num.specs.declared.tag.TagPart.TheVariants.{State, Ept, Iobm, Msrbm, Msrs}
+use Rattle.muen_num.proofs.Options.{one_value}
+use Rattle.muen_num.proofs.Lists.{all_at}
+use Rattle.muen_num.proofs.Pairs.{first_at, other_at}
 use Rattle.policy_lawful.specs.Contents.{Held, initial_bytes}
 use Rattle.policy_lawful.specs.Thing.{Thing}
 use Rattle.policy_lawful.specs.source.Source.{Source}
@@ -28,7 +31,7 @@ use Rattle.subject_model.specs.StatePage.{page_bytes}
 use Rattle.subject_model.specs.States.{started}
 use Rattle.vmx_machine.specs.declared.control.Control.{Control}
 use Rattle.proof_start.specs.GroundOf.{HoldsBytes, ground_of, is_kept}
-use Rattle.proof_start.proofs.ListFacts.{all_at, any_passing, first_at, other_at, same_at}
+use Rattle.proof_start.proofs.ListFacts.{any_passing}
 use Rattle.proof_start.proofs.MemoryFacts.{memory_small, numbered_page, numbered_page_long, page_there, same_memory}
 use Rattle.proof_start.proofs.SpanFacts.{HasPage, KernelSpan, kernel_kind, page_in, page_kept}
 use Rattle.proof_start.proofs.SubjectFacts.{control_at, controlled, subject_spans}
@@ -112,7 +115,7 @@ thing_pages p files i keeps sound x j low =
 
 -- a subject's control is that of its part of the image
 pub its_control : (p : Source) (i : Image) (s : ℕ) (q : SubjectPart) (c : Control) → slice_get i.subjects s ≡ Some q → slice_get (ground_of p i).setup.controls s ≡ Some c → control_of i.spans q ≡ c
-its_control p i s q c here at = same_at (slice_get (ground_of p i).setup.controls s) (control_of i.spans q) c (control_at p i s q here) at
+its_control p i s q c here at = one_value (slice_get (ground_of p i).setup.controls s) (control_of i.spans q) c (control_at p i s q here) at
 
 -- the first page of a span that the kernel has for a subject
 first_there : (i : Image) → KeepsConditions i → (code pages n k : ℕ) → 0 < pages → KernelSpan i.spans code pages n → page_of_span i.spans n ≡ k → page_of (loaded_memory i) k ≡ Some (page_at i n 0)

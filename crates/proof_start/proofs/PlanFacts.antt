@@ -1,6 +1,6 @@
 -- The plan of a lawful policy: its entries are of CPUs that are there, and the region that chooses frames is declared.
-use Rattle.std.proofs.Common.{◌≡◌, ℕ, ◌-◌, ◌<◌, ◌≤◌, Bool, true, false, cond, List, [], ◌∷◌, length, map, Option, Some, None, refl, sym, ap, ◌∙◌, arith}
-use Rattle.std.specs.Prelude.{◌==◌, ◌&&◌, ◌||◌, codes, nat_lt, option_and_then, option_map, slice_get}
+use Rattle.std.proofs.Common.{◌≡◌, ℕ, ◌-◌, ◌<◌, ◌≤◌, true, false, cond, List, [], ◌∷◌, length, map, Option, Some, None, refl, sym, ap, ◌∙◌, arith}
+use Rattle.std.specs.Prelude.{◌==◌, ◌&&◌, codes, nat_lt, option_and_then, option_map, slice_get}
 use Rattle.std.specs.List.{find, flat_map, list_all, list_any}
 use Rattle.std.specs.Str.{bytes_eq}
 use Rattle.std.proofs.lemmas.Bool.{and_parts, ltb-true, ne_eqb}
@@ -8,7 +8,7 @@ use Rattle.std.proofs.lemmas.Option.{slice_get-map}
 use Rattle.subject_model.specs.Frames.{slot_in}
 use Rattle.subject_model.specs.frame_at.FrameAt.{FrameAt}
 use Rattle.subject_model.specs.Slot.{frame_slots}
-use Rattle.muen_num.proofs.Lists.{found}
+use Rattle.muen_num.proofs.Lists.{any_first, found}
 use Rattle.muen_num.proofs.SearchLaws.{none_both, unless_none}
 use Rattle.muen_num.specs.Frame.{Frame}
 use Rattle.muen_num.specs.Search.{first_in}
@@ -62,15 +62,6 @@ no_slot ms frame tick =
     by (Some m) = refl
 
 -- ---- the region that chooses frames
-
--- some element passes the first of two tests, where some passes both
-any_first : {X : Type 0} (a b : X → Bool) (xs : List X) → list_any (λ x. a x && b x) xs ≡ true → list_any a xs ≡ true
-any_first a b [] h = absurd (cc)
-any_first a b (x ∷ xs) h =
-    elim (a x) as (λ t. ((t && b x) || list_any (λ y. a y && b y) xs) ≡ true → (t || list_any a xs) ≡ true) [
-      | true ↦ λ _. refl
-      | false ↦ λ k. any_first a b xs k
-    ] h
 
 module _ (p : Source) (lawful : IsLawful p) where
   -- a CPU that isn't there has no slot at any tick

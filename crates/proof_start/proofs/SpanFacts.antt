@@ -4,6 +4,7 @@ use Rattle.std.specs.Prelude.{◌==◌, ◌&&◌, nat_le, nat_lt, slice_get}
 use Rattle.std.specs.List.{find, list_any}
 use Rattle.std.specs.Option.{option_map_or}
 use Rattle.std.proofs.lemmas.Bool.{and_from, and_parts, cases_lt, eq-eqb, eqb-true, le-leb, leb-true, lt-ltb, ltb-true, true≢false}
+use Rattle.std.proofs.lemmas.Map.Keys.{any_passes_from_place}
 use Rattle.image_load.specs.Loaded.{page_of_span}
 use Rattle.image_soundness.specs.Sound.{is_kernel}
 use Rattle.image_pack.specs.Codes.{is_part, part_code}
@@ -13,7 +14,9 @@ use Rattle.image_pack.specs.declared.parts.SpanKind.{SpanKind}
 use Rattle.image_pack.specs.declared.parts.SpanKind.TheVariants.{Own, Channel, Provided, Kernel, Device}
 use Rattle.image_pack.specs.declared.parts.SpanPart.{SpanPart}
 use Rattle.proof_start.specs.GroundOf.{is_kept, is_page_of}
-use Rattle.proof_start.proofs.ListFacts.{all_at, any_at, any_passing, found_only, none_passing, pairs_at, same_at}
+use Rattle.proof_start.proofs.ListFacts.{any_passing, found_only, none_passing, pairs_at}
+use Rattle.muen_num.proofs.Options.{one_value}
+use Rattle.muen_num.proofs.Lists.{all_at}
 
 -- ---- pages of a span
 
@@ -58,7 +61,7 @@ page_once xs h a b s t k at to p q =
 
 pub same_span : (xs : List SpanPart) → AreSpans xs → (a b : ℕ) (s t : SpanPart) (k : ℕ) → slice_get xs a ≡ Some s → slice_get xs b ≡ Some t → HasPage k s → HasPage k t → s ≡ t
 same_span xs h a b s t k at to p q =
-    same_at (slice_get xs b) s t (ap (slice_get xs) (sym (page_once xs h a b s t k at to p q)) ∙ at) to
+    one_value (slice_get xs b) s t (ap (slice_get xs) (sym (page_once xs h a b s t k at to p q)) ∙ at) to
 
 -- ---- spans by number
 
@@ -132,7 +135,7 @@ kernel_kind xs code pages n h k low =
 -- ---- pages of tables and bitmaps
 
 pub page_kept : (xs : List SpanPart) (a : ℕ) (s : SpanPart) (k : ℕ) → slice_get xs a ≡ Some s → is_kept s ≡ true → HasPage k s → list_any (λ t. is_kept t && is_page_of k t) xs ≡ true
-page_kept xs a s k at kept page = any_at (λ t. is_kept t && is_page_of k t) xs a s at (and_from (is_kept s) (is_page_of k s) kept (is_page k s page))
+page_kept xs a s k at kept page = any_passes_from_place (λ t. is_kept t && is_page_of k t) xs a s at (and_from (is_kept s) (is_page_of k s) kept (is_page k s page))
 
 pub page_not_kept : (xs : List SpanPart) → AreSpans xs → (a : ℕ) (s : SpanPart) (k : ℕ) → slice_get xs a ≡ Some s → is_kept s ≡ false → HasPage k s → list_any (λ t. is_kept t && is_page_of k t) xs ≡ false
 page_not_kept xs h a s k at kept page =

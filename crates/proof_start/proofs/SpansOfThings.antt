@@ -3,18 +3,19 @@ use Rattle.std.proofs.Common.{◌≡◌, ℕ, ◌*◌, ◌/◌, ◌<◌, Bool, t
 use Rattle.std.specs.Prelude.{not, option_map, slice_get}
 use Rattle.std.specs.List.{find, list_any, zip}
 use Rattle.std.specs.Option.{option_map_or}
-use Rattle.std.proofs.lemmas.Bool.{false≢true}
+use Rattle.std.proofs.lemmas.Bool.{not-true}
 use Rattle.image_soundness.specs.Memory.{Span, by_number, span_at}
 use Rattle.image_soundness.specs.Sound.{IsSound, IsSpanOf, is_kernel, kind_of, address_of, thing_spans}
 use Rattle.image_pack.specs.ImageConditions.{KeepsConditions}
 use Rattle.image_pack.specs.declared.parts.Image.{Image}
 use Rattle.muen_num.specs.Range.{numbers_below}
+use Rattle.muen_num.proofs.Pairs.{both_at, other_at, zipped_at, zipped_both}
 use Rattle.policy_lawful.specs.Contents.{Held, initial_bytes}
 use Rattle.policy_lawful.specs.Thing.{Thing, region, channel, provided, device_memory, state, same_thing, things_of, thing_tag}
 use Rattle.policy_lawful.specs.source.Source.{Source}
 use Rattle.subject_model.proofs.KeyLaws.{same_things}
 use Rattle.proof_start.specs.GroundOf.{ground_of, pages_in}
-use Rattle.proof_start.proofs.ListFacts.{any_passing, both_at, filtered_at, found_at, found_changed, found_some, kept_at, other_at, zipped_at, zipped_both}
+use Rattle.proof_start.proofs.ListFacts.{any_passing, filtered_at, found_at, found_changed, found_some, kept_at}
 use Rattle.proof_start.proofs.MemoryFacts.{SpanIn, span_by}
 
 -- ---- what a tag and a kind tell
@@ -92,10 +93,6 @@ address_by p i x e h =
     (found_front (λ (e : Thing × ℕ). same_thing e.0 x) (zip (things_of p) (map (λ (e : Span). e.0.address) (thing_spans i))) _ (e.0, e.1.0.address)
     (found_changed (λ y. same_thing y x) (λ (e : Span). e.0.address) (things_of p) (thing_spans i) ∙ ap (option_map (λ (e : Listed). (e.0, e.1.0.address))) h))
 
-not_true : (b : Bool) → not b ≡ true → b ≡ false
-not_true true h = absurd (false≢true h)
-not_true false h = refl
-
 pub span_of_listed : (p : Source) (files : Held) (i : Image) → KeepsConditions i → IsSound p files i → (x : Thing) (e : Listed) → find (λ (e : Listed). same_thing e.0 x) (listed p i) ≡ Some e → ThingSpan p files i x
 unfolding ground_of by_number
 span_of_listed p files i keeps sound x e h =
@@ -112,7 +109,7 @@ span_of_listed p files i keeps sound x e h =
       numbered = both.1;
       within = (span_by i keeps from.0 e.1 from.1).0;
       is = both_at (IsSpanOf p files) (things_of p) (thing_spans i) f.index x e.1 sound.contents at both.1;
-      not_kernel = not_true (is_kernel e.1.0.kind) kept.2;
+      not_kernel = not-true (is_kernel e.1.0.kind) kept.2;
       pages = pages_by p i x ∙ ap (λ o. option_map_or (λ (e : Thing × ℕ). e.1) (option_map (λ (e : Listed). (e.0, e.1.0.pages)) o) 0) h;
       first = ap (λ n. n / 4096) (address_by p i x e h);
       address = address_by p i x e h;

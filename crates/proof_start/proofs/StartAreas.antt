@@ -1,23 +1,23 @@
 -- An area of MSRs at the start: it has each granted MSR once, with the value 0.
-use Rattle.std.proofs.Common.{◌≡◌, ℕ, zero, suc, ◌+◌, ◌*◌, ◌-◌, ◌<◌, ◌≤◌, cond, Bool, true, false, List, [], ◌∷◌, ◌++◌, map, take, drop, Some, refl, sym, ap, subst, ◌∙◌, inl, inr, arith}
+use Rattle.std.proofs.Common.{◌≡◌, ℕ, suc, ◌+◌, ◌*◌, ◌-◌, ◌<◌, ◌≤◌, cond, Bool, true, false, List, [], ◌∷◌, map, take, drop, Some, refl, sym, ap, subst, ◌∙◌, inl, inr, arith}
 use Rattle.std.specs.Prelude.{◌==◌, ◌&&◌, slice_get, if◌then◌else◌}
 use Rattle.std.specs.List.{sum_by}
 use Rattle.std.specs.List.Sorted.{IsPermutation}
 use Rattle.std.proofs.lemmas.Bool.{and_parts, cases_Bool, eq-eqb, eqb-true, false_from_ne_true, or_cases, or_left, or_parts, or_right}
-use Rattle.std.proofs.lemmas.List.{drop-take, map-append, take-take}
+use Rattle.std.proofs.lemmas.List.{drop-take, take-take}
 use Rattle.std.proofs.lemmas.List.Sorted.{list_any-IsPermutation, sum_by-IsPermutation}
 use Rattle.std.proofs.lemmas.List.Sums.{sum_by-cons}
-use Rattle.std.proofs.lemmas.Option.{slice_get-map, slice_get_within}
+use Rattle.std.proofs.lemmas.Option.{same_Some, slice_get-map, slice_get_within}
 use Rattle.subject_model.specs.Alone.{is_in, msr_value}
 use Rattle.expand_grants.specs.Resources.{Msr, is_granted, msrs_of}
 use Rattle.vmx_machine.specs.Exits.{AreaEntry, area_index, area_value}
 use Rattle.vmx_machine.specs.Memory.{le_number}
-use Rattle.muen_num.proofs.NumbersBelow.{length_numbers, number_at}
+use Rattle.muen_num.proofs.NumbersBelow.{length_numbers, number_at, same_below}
+use Rattle.muen_num.proofs.Options.{from_some}
 use Rattle.muen_num.specs.Range.{numbers_below}
 use Rattle.policy_lawful.specs.source.Subject.{Subject}
 use Rattle.proof_turns.specs.Held.{AreDistinct, AreEntries, HasMsr, entry_value, indices}
 use Rattle.vmx_machine.specs.Machine.{entries_in}
-use Rattle.proof_start.proofs.ListFacts.{from_some, same_some}
 
 -- ---- numbers that differ, in another order
 
@@ -92,15 +92,8 @@ numbers_low n k m at =
     let low = slice_get_within (numbers_below n) k m at in
     let long = length_numbers n in
     let l : k < n = omega (arith, low, long) in
-    let e : k ≡ m = same_some k m (sym (number_at n k l) ∙ at) in
+    let e : k ≡ m = same_Some k m (sym (number_at n k l) ∙ at) in
     omega (arith, l, e)
-
-same_below : (f g : ℕ → ℕ) (n : ℕ) → ((k : ℕ) → k < n → f k ≡ g k) → map f (numbers_below n) ≡ map g (numbers_below n)
-same_below f g zero h = refl
-same_below f g (suc n) h =
-    let front = same_below f g n (λ k l. h k (omega (arith, l))) in
-    let last = h n (omega arith) in
-    map-append f (numbers_below n) (n ∷ []) ∙ ap (λ xs. xs ++ f n ∷ []) front ∙ ap (λ x. map g (numbers_below n) ++ x ∷ []) last ∙ sym (map-append g (numbers_below n) (n ∷ []))
 
 -- ---- an area's first page
 

@@ -14,7 +14,8 @@ use Rattle.image_pack.specs.ImageConditions.{IsGroup, KeepsConditions, IsSubject
 use Rattle.image_pack.specs.declared.parts.Image.{Image}
 use Rattle.image_pack.specs.declared.parts.SubjectPart.{SubjectPart}
 use Rattle.image_pack.specs.plan.GroupPart.{GroupPart}
-use Rattle.muen_num.proofs.Lists.{passes_at, there}
+use Rattle.muen_num.proofs.Lists.{all_at, passes_at, there}
+use Rattle.muen_num.proofs.Options.{from_some, one_value}
 use Rattle.policy_lawful.specs.Contents.{Held}
 use Rattle.policy_lawful.specs.Frames.{first_member}
 use Rattle.policy_lawful.specs.source.Source.{Source}
@@ -28,7 +29,6 @@ use Rattle.vmx_machine.specs.Machine.{fresh}
 use Rattle.vmx_machine.specs.MsrFile.{most, zeros}
 use Rattle.vmx_machine.specs.declared.cpu.Cpu.{Cpu}
 use Rattle.proof_start.specs.GroundOf.{ground_of}
-use Rattle.proof_start.proofs.ListFacts.{all_at, from_some, same_at}
 use Rattle.subject_model.proofs.StartLists.{named_map, numbered_at, replicated, replicated_there}
 
 -- ---- sets of vectors
@@ -82,7 +82,7 @@ module _ (p : Source) (files : Held) (i : Image) (keeps : KeepsConditions i) (so
       let is_s = f.2 in
       let q = there i.subjects s (omega (arith, low, many, is_s)) in
       let is = fixed.parts s q.0 q.1 in
-      let same = same_at (slice_get i.subjects s) is.part q.0 is.joined.part q.1 in
+      let same = one_value (slice_get i.subjects s) is.part q.0 is.joined.part q.1 in
       let kept = all_at (IsImageSubject i) (enumerate_from 0 i.subjects) s (s, q.0) keeps.subjects (numbered_at i.subjects s q.0 q.1) in
       let passes = passes_at (λ (e : ℕ × GroupPart). not (e.1.first == s) || (e.0 == q.0.group)) (enumerate_from 0 i.plan.groups) k (k, f.0) kept.first (numbered_at i.plan.groups k f.0 f.1) in
       record { is = is; in_group = ap (λ q. q.group) same ∙ sym (told f.0.first s k q.0.group is_s passes) }
@@ -100,7 +100,7 @@ module _ (p : Source) (files : Held) (i : Image) (keeps : KeepsConditions i) (so
 
 -- ---- CPUs
 
-zeros_long : (n : ℕ) → length (zeros n) ≡ n
+pub zeros_long : (n : ℕ) → length (zeros n) ≡ n
 unfolding zeros
 zeros_long n = length-replicate n 0
 

@@ -1,10 +1,10 @@
 -- The machine that a sound image makes stands, at its start, for the policy's system at its start.
-use Rattle.std.proofs.Common.{◌≡◌, ℕ, ◌+◌, ◌*◌, ◌≤◌, true, false, List, [], length, map, replicate, Option, Some, None, refl, sym, ap, subst, ◌∙◌, inl, inr, arith}
+use Rattle.std.proofs.Common.{◌≡◌, ℕ, ◌+◌, ◌*◌, ◌≤◌, true, false, List, [], length, map, replicate, Option, Some, None, refl, sym, ap, subst, ◌∙◌, arith}
 use Rattle.std.specs.Prelude.{option_map, slice_get, unwrap_or}
 use Rattle.std.specs.List.{All, enumerate_from, list_any}
-use Rattle.std.proofs.lemmas.Bool.{cases_Bool, true≢false}
 use Rattle.std.proofs.lemmas.List.{length-replicate}
 use Rattle.std.proofs.lemmas.List.Elements.{All-replicate}
+use Rattle.std.proofs.lemmas.Map.Keys.{any_passes_from_place}
 use Rattle.subject_model.specs.Alone.{MsrValues, Things, msr_value, thing_in}
 use Rattle.subject_model.specs.System.{Named, first_inputs, first_page, named, start_of, subject_named}
 use Rattle.proof_turns.specs.Devices.{no_inputs, zeros}
@@ -12,13 +12,15 @@ use Rattle.expand_grants.specs.Resources.{msrs_of}
 use Rattle.image_load.specs.Loaded.{memory_of as loaded_memory, setup_of}
 use Rattle.image_soundness.proofs.SoundFacts.{areas_of}
 use Rattle.image_soundness.specs.Memory.{bytes_at, page_at}
-use Rattle.image_soundness.specs.Sound.{HasArea, IsSound, is_kernel}
+use Rattle.image_soundness.specs.Sound.{HasArea, IsSound}
 use Rattle.image_pack.specs.ImageConditions.{KeepsConditions, IsSubject as IsImageSubject}
 use Rattle.image_pack.specs.declared.parts.Image.{Image}
 use Rattle.image_pack.specs.declared.parts.SubjectPart.{SubjectPart}
 use Rattle.proof_turns.specs.Ticks.{live_started}
 use Rattle.vmx_machine.specs.Memory.{page_of}
 use Rattle.muen_num.specs.declared.limits.TheConstants.{LAST_PORT}
+use Rattle.muen_num.proofs.Lists.{all_at}
+use Rattle.muen_num.proofs.Pairs.{both_at}
 use Rattle.policy_lawful.specs.Contents.{Held as HeldFiles, initial_bytes}
 use Rattle.policy_lawful.specs.Thing.{Thing, same_thing, state, things_of}
 use Rattle.policy_lawful.specs.source.Source.{Source}
@@ -36,12 +38,12 @@ use Rattle.vmx_machine.specs.Machine.{entries_in, fresh}
 use Rattle.vmx_machine.specs.declared.control.Control.{Control}
 use Rattle.vmx_machine.specs.declared.cpu.Cpu.{Cpu}
 use Rattle.proof_start.specs.GroundOf.{HoldsBytes, ground_of}
-use Rattle.proof_start.proofs.ListFacts.{all_at, any_at, both_at}
 use Rattle.proof_start.proofs.MsrFacts.{msrs_differ}
 use Rattle.proof_start.proofs.PageFacts.{area_page_there, its_control, small_pages, state_page_there, thing_pages}
-use Rattle.proof_start.proofs.SpansOfThings.{listed_span, thing_span}
+use Rattle.proof_start.proofs.SpansOfThings.{thing_span}
 use Rattle.proof_start.proofs.StartAreas.{area_entries, area_values}
 use Rattle.subject_model.proofs.StartLists.{made_behind, made_of, named_map, numbered_at, replicated, states_map}
+use Rattle.subject_model.proofs.NoPages.{pages_apart}
 use Rattle.proof_start.proofs.StartSets.{cpus_stand, router_stands, same_cpus}
 
 -- ---- ports
@@ -75,26 +77,18 @@ own_by n things msrs h count many page area state_bytes area_page values is has_
   };
 }
 
+-- a thing of the policy has its bytes
+pub thing_started : (p : Source) (files : HeldFiles) (x : Thing) → list_any (λ y. same_thing y x) (things_of p) ≡ true → thing_in (start_of p files).things x ≡ Some (initial_bytes p files x)
+unfolding start_of
+thing_started p files x h = made_of (initial_bytes p files) (things_of p) (map (λ s. (state s.name, first_page s)) p.subjects) x h
+
 module _ (p : Source) (files : HeldFiles) (i : Image) (keeps : KeepsConditions i) (sound : IsSound p files i) where
   -- ---- things
-
-  -- a thing of the policy has its bytes
-  thing_started : (x : Thing) → list_any (λ y. same_thing y x) (things_of p) ≡ true → thing_in (start_of p files).things x ≡ Some (initial_bytes p files x)
-  unfolding start_of
-  thing_started x h = made_of (initial_bytes p files) (things_of p) (map (λ s. (state s.name, first_page s)) p.subjects) x h
-
-  -- no state page is a thing of the policy
-  states_aside : (name : List ℕ) → list_any (λ y. same_thing y (state name)) (things_of p) ≡ false
-  states_aside name =
-      elim (cases_Bool (list_any (λ y. same_thing y (state name)) (things_of p))) [
-        | inl t ↦ let s = listed_span p files i keeps sound (state name) t in absurd (true≢false (sym (ap is_kernel s.is.kind) ∙ s.not_kernel))
-        | inr f ↦ f
-      ]
 
   state_started : (n : Subject) → subject_named p n.name ≡ Some n → thing_in (start_of p files).things (state n.name) ≡ Some (page_bytes (started n.entry))
   unfolding start_of first_page
   state_started n found =
-      made_behind (initial_bytes p files) (things_of p) (map (λ s. (state s.name, first_page s)) p.subjects) (state n.name) (states_aside n.name)
+      made_behind (initial_bytes p files) (things_of p) (map (λ s. (state s.name, first_page s)) p.subjects) (state n.name) (pages_apart p n.name)
       ∙ states_map first_page p.subjects n.name
       ∙ ap (option_map first_page) found
 
@@ -109,7 +103,7 @@ module _ (p : Source) (files : HeldFiles) (i : Image) (keeps : KeepsConditions i
   shown small = record {
     bytes = λ x j low.
         let t = thing_span p files i keeps sound x j low in
-        thing_pages p files i keeps sound x j low ∙ sym (ap (option_map (part j)) (thing_started x (any_at (λ y. same_thing y x) (things_of p) t.number x t.listed (same_thing_self x))));
+        thing_pages p files i keeps sound x j low ∙ sym (ap (option_map (part j)) (thing_started p files x (any_passes_from_place (λ y. same_thing y x) (things_of p) t.number x t.listed (same_thing_self x))));
     kept = λ k kept. refl;
     there = λ k. refl;
     small = small_pages p i small;

@@ -1,5 +1,5 @@
 -- The state pages of subjects, which are no things of the policy, and where they lie.
-use Rattle.std.proofs.Common.{◌≡◌, ℕ, ◌/◌, Bool, true, false, List, [], ◌∷◌, ◌++◌, cond, map, Option, Some, None, refl, sym, ap, ◌∙◌}
+use Rattle.std.proofs.Common.{◌≡◌, ℕ, ◌/◌, List, map, Option, Some, None, refl, sym, ap, ◌∙◌}
 use Rattle.std.specs.Prelude.{option_map, slice_get}
 use Rattle.std.specs.List.{find, zip}
 use Rattle.std.specs.Option.{option_map_or}
@@ -17,10 +17,13 @@ use Rattle.policy_lawful.specs.source.Subject.{Subject}
 use Rattle.subject_model.proofs.KeyLaws.{same_things, same_thing_self, state_names}
 use Rattle.vmx_machine.specs.declared.control.Control.{Control}
 use Rattle.proof_start.specs.GroundOf.{ground_of}
-use Rattle.proof_start.proofs.ListFacts.{found_changed, found_only, from_some, zipped_at, zipped_both}
+use Rattle.proof_start.proofs.ListFacts.{found_changed, found_only}
 use Rattle.proof_start.proofs.MemoryFacts.{by_its_number, span_with}
 use Rattle.proof_start.proofs.SubjectFacts.{controlled, subject_spans}
 use Rattle.proof_start.proofs.SpansOfThings.{Listed, listed, pages_by, span_of_listed}
+use Rattle.muen_num.proofs.Options.{from_some}
+use Rattle.muen_num.proofs.Pairs.{zipped_at, zipped_both}
+use Rattle.muen_num.proofs.Lookups.{found_behind}
 
 -- a state page is no thing of the policy
 not_listed : (p : Source) (files : Held) (i : Image) → KeepsConditions i → IsSound p files i → (name : List ℕ) (o : Option Listed) → find (λ (e : Listed). same_thing e.0 (state name)) (listed p i) ≡ o → o ≡ None
@@ -37,14 +40,6 @@ unfolding ground_of
 no_thing p files i keeps sound name = pages_by p i (state name) ∙ ap (λ o. option_map_or (λ (e : Thing × ℕ). e.1) (option_map (λ (e : Listed). (e.0, e.1.0.pages)) o) 0) (no_state p files i keeps sound name)
 
 -- ---- its address
-
-found_behind : {X : Type 0} (test : X → Bool) (xs ys : List X) → find test xs ≡ None → find test (xs ++ ys) ≡ find test ys
-found_behind test [] ys h = refl
-found_behind test (x ∷ xs) ys h = by_test (test x) (found_behind test xs ys) h
-  where
-    by_test : (b : Bool) → (find test xs ≡ None → find test (xs ++ ys) ≡ find test ys) → cond b (Some x) (find test xs) ≡ None → cond b (Some x) (find test (xs ++ ys)) ≡ find test ys
-    by_test true later h = absurd (cc (h))
-    by_test false later h = later h
 
 -- names that are the same are at one index
 abbrev NamedOnce : Source → Type 0

@@ -4,6 +4,7 @@ use Rattle.std.specs.Prelude.{◌==◌, option_map, slice_get}
 use Rattle.std.specs.List.{list_any}
 use Rattle.std.proofs.lemmas.Bool.{cases_lt, eq-eqb, true≢false}
 use Rattle.std.proofs.lemmas.Option.{slice_get-map}
+use Rattle.std.proofs.lemmas.Map.Keys.{any_passes_from_place}
 use Rattle.image_load.specs.Loaded.{control_of, memory_of}
 use Rattle.image_soundness.specs.Sound.{ShareNoSpan, own_spans, share_a_span}
 use Rattle.image_pack.specs.Codes.{part_code}
@@ -11,10 +12,12 @@ use Rattle.image_pack.specs.ImageConditions.{IsSubject, KeepsConditions}
 use Rattle.image_pack.specs.declared.parts.Image.{Image}
 use Rattle.image_pack.specs.declared.parts.SubjectPart.{SubjectPart}
 use Rattle.muen_num.specs.declared.tag.TagPart.TheVariants.{State, Iobm, Msrbm, Msrs}
+use Rattle.muen_num.proofs.Options.{from_some}
+use Rattle.muen_num.proofs.Lists.{all_at}
 use Rattle.policy_lawful.specs.source.Source.{Source}
 use Rattle.vmx_machine.specs.declared.control.Control.{Control}
 use Rattle.proof_start.specs.GroundOf.{ground_of}
-use Rattle.proof_start.proofs.ListFacts.{all_at, any_at, enumerated_at, from_some, pairs_at}
+use Rattle.proof_start.proofs.ListFacts.{enumerated_at, pairs_at}
 use Rattle.proof_start.proofs.SpanFacts.{KernelSpan, kernel_span}
 
 -- the spans that a subject has for itself
@@ -73,7 +76,7 @@ ground_memory p i = refl
 
 shares : (a b : SubjectPart) (k l n : ℕ) → slice_get (own_spans a) k ≡ Some n → slice_get (own_spans b) l ≡ Some n → share_a_span a b ≡ true
 shares a b k l n at to =
-    any_at (λ n. list_any (λ m. m == n) (own_spans b)) (own_spans a) k n at (any_at (λ m. m == n) (own_spans b) l n to (eq-eqb n n refl))
+    any_passes_from_place (λ n. list_any (λ m. m == n) (own_spans b)) (own_spans a) k n at (any_passes_from_place (λ m. m == n) (own_spans b) l n to (eq-eqb n n refl))
 
 -- no two subjects have a span in common
 pub own_apart : (i : Image) → ShareNoSpan i.subjects → (s t : ℕ) (q r : SubjectPart) (k l n : ℕ) → slice_get i.subjects s ≡ Some q → slice_get i.subjects t ≡ Some r → slice_get (own_spans q) k ≡ Some n → slice_get (own_spans r) l ≡ Some n → s ≡ t

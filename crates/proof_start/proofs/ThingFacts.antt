@@ -7,8 +7,9 @@ use Rattle.std.specs.Str.{bytes_eq}
 use Rattle.std.proofs.lemmas.Bool.{and_from, or_left, or_right}
 use Rattle.std.proofs.lemmas.List.{length-replicate}
 use Rattle.std.proofs.lemmas.List.Folds.{list_any-append}
+use Rattle.std.proofs.lemmas.Map.Keys.{any_passes_from_place}
 use Rattle.muen_num.proofs.Lists.{list_any-map}
-use Rattle.policy_lawful.proofs.Indexes.{same_self}
+use Rattle.muen_num.proofs.Lookups.{same_self}
 use Rattle.policy_lawful.specs.Contents.{Held, content_bytes, initial_bytes, padded}
 use Rattle.policy_lawful.specs.Thing.{Thing, channel, component_by, device_memory, provided, region, same_thing, things_of, Item, channel_item, device_item, item_of, provided_item, region_item}
 use Rattle.policy_lawful.specs.source.Channel.{Channel}
@@ -21,7 +22,6 @@ use Rattle.policy_lawful.specs.source.Provided.{Provided}
 use Rattle.policy_lawful.specs.source.Region.{Region}
 use Rattle.policy_lawful.specs.source.Source.{Source}
 use Rattle.policy_lawful.specs.source.Subject.{Subject}
-use Rattle.subject_model.proofs.PolicyFacts.{passes_any}
 use Rattle.policy_lawful.proofs.Items.{provided_by, item_of_channel, item_of_device, item_of_provided, item_of_region, things_are}
 
 -- ---- which things there are
@@ -76,7 +76,7 @@ module _ (p : Source) where
   any_provided name o c j x is at =
       ap (λ o. list_any (λ y. same_thing y (provided name x.logical)) (provided_by name o)) is
       ∙ list_any-map (λ y. same_thing y (provided name x.logical)) (λ (y : Provided). provided name y.logical) c.provides
-      ∙ passes_any (λ y. same_thing (provided name y.logical) (provided name x.logical)) c.provides j x at
+      ∙ any_passes_from_place (λ y. same_thing (provided name y.logical) (provided name x.logical)) c.provides j x at
       (and_from (bytes_eq name name) (bytes_eq x.logical x.logical) (same_self name) (same_self x.logical))
 
   -- so is a region that a component brings along
@@ -97,7 +97,7 @@ module _ (p : Source) where
       let test : Thing → Bool = λ y. same_thing y (device_memory d.name m.name) in
       let of_device : list_any test (map (λ m. device_memory d.name m.name) d.memory) ≡ true =
       list_any-map test (λ (m : DeviceMemory). device_memory d.name m.name) d.memory
-      ∙ passes_any (λ y. same_thing (device_memory d.name y.name) (device_memory d.name m.name)) d.memory j m in_it
+      ∙ any_passes_from_place (λ y. same_thing (device_memory d.name y.name) (device_memory d.name m.name)) d.memory j m in_it
       (and_from (bytes_eq d.name d.name) (bytes_eq m.name m.name) (same_self d.name) (same_self m.name)) in
       let here : list_any test devices ≡ true = any_flat test (λ (d : Device). map (λ m. device_memory d.name m.name) d.memory) p.devices k d at of_device in
       ap (list_any test) (things_are p) ∙ list_any-append test ((regions ++ channels) ++ brought) devices ∙ or_right (list_any test ((regions ++ channels) ++ brought)) (list_any test devices) here

@@ -4,9 +4,10 @@ use Rattle.std.proofs.Common.{◌≡◌, ℕ, zero, suc, ◌+◌, ◌-◌, ◌%�
 use Rattle.std.specs.Prelude.{◌==◌, ◌&&◌, is_some, nat_le, nat_lt, option_and_then, option_map, slice_get, unwrap_or}
 use Rattle.std.specs.List.{AllByRecursion, filter_map, find, flat_map, list_all, list_any}
 use Rattle.std.specs.Str.{bytes_eq}
-use Rattle.std.proofs.lemmas.Bool.{and_from, and_parts, eqb-true, leb-true, ltb-true}
+use Rattle.std.proofs.lemmas.Bool.{and_parts, eqb-true, leb-true, ltb-true}
 use Rattle.std.proofs.lemmas.List.Folds.{list_all-map}
 use Rattle.std.proofs.lemmas.Slice.Eq.{bytes_eq-Decides}
+use Rattle.std.proofs.lemmas.Map.Keys.{any_passes_from_place}
 use Rattle.subject_model.specs.System.{is_shown}
 use Rattle.muen_num.proofs.Lists.{each_from, found_among, passes_at}
 use Rattle.muen_num.proofs.SearchLaws.{none_both, unless_none}
@@ -14,13 +15,13 @@ use Rattle.muen_num.specs.Search.{first_after, first_in, unless}
 use Rattle.muen_num.specs.declared.access.AccessKind.{AccessKind}
 use Rattle.muen_num.specs.declared.limits.TheConstants.{GUEST_END}
 use Rattle.policy_lawful.proofs.KeptAddresses.{addresses_kept}
-use Rattle.policy_lawful.proofs.Indexes.{same_self}
 use Rattle.policy_lawful.proofs.KeptRules.{rules_of}
-use Rattle.policy_lawful.proofs.UniqueNames.{logical_unique, unique_parts}
+use Rattle.policy_lawful.proofs.UniqueNames.{logical_unique, provided_unique}
+use Rattle.policy_lawful.proofs.WindowsByIndex.{found_by_name}
 use Rattle.policy_lawful.specs.Domains.{is_monitor, monitor_offence, offence_24}
 use Rattle.policy_lawful.specs.Lawful.{IsLawful}
 use Rattle.policy_lawful.specs.Offences.{two}
-use Rattle.policy_lawful.specs.Rules.{is_guest, is_on, is_page_aligned, is_page_size, logical_names, repeated, subject_cpu, window_extent, window_extents}
+use Rattle.policy_lawful.specs.Rules.{is_guest, is_on, is_page_aligned, is_page_size, subject_cpu, window_extent, window_extents}
 use Rattle.policy_lawful.specs.declared.offence.Offence.{Offence}
 use Rattle.policy_lawful.specs.Contents.{Held, initial_bytes}
 use Rattle.policy_lawful.specs.Thing.{Thing, channel, component_by, device_memory, provided, region, same_thing, state, things_of}
@@ -46,7 +47,9 @@ use Rattle.policy_lawful.specs.source.Required.{Required}
 use Rattle.policy_lawful.specs.source.Source.{Source}
 use Rattle.policy_lawful.specs.source.Subject.{Subject}
 use Rattle.muen_num.proofs.Each.{each_append, each_flat, each_some as each_made, if_some}
-use Rattle.subject_model.proofs.PolicyFacts.{found_again, found_any, found_by_name, found_index, found_passes, passes_any}
+use Rattle.muen_num.proofs.Lookups.{found_passes, same_self}
+use Rattle.subject_model.proofs.PolicyFacts.{found_again, found_any, found_index}
+use Rattle.subject_model.proofs.KeyLaws.{same_thing_self}
 use Rattle.proof_start.proofs.ThingFacts.{channel_is_thing, channel_long, device_is_thing, device_long, provided_is_thing, provided_long, region_is_thing, region_long}
 
 -- ---- what holds of each element
@@ -182,13 +185,6 @@ module _ (p : Source) where
   component_index None c h = absurd (cc)
   component_index (Some used) c h = found_index (λ c. bytes_eq c.name used.used) p.components c h
 
-provided_names : (c : Component) → repeated (logical_names c) ≡ None → repeated (map (λ x. x.logical) c.provides) ≡ None
-provided_names c h =
-    let provides = map (λ x. x.logical) c.provides in
-    let memory = map (λ x. x.logical) c.memory in
-    let channels = map (λ x. x.logical) c.channels in
-    (unique_parts provides memory (unique_parts (provides ++ memory) channels h).0).0
-
 -- where none offends after those before it, one at an index doesn't after some
 none_after : {X : Type 0} (at : List X → X → Option Offence) (before xs : List X) (k : ℕ) (x : X) → first_after at before xs ≡ None → slice_get xs k ≡ Some x → (front : List X) × (at front x ≡ None)
 none_after at before [] k x h e = absurd (cc)
@@ -200,7 +196,7 @@ module _ (p : Source) (lawful : IsLawful p) (s : ℕ) (n : Subject) (at : slice_
   on_provided : (c : Component) (j : ℕ) (x : Provided) → component_by p n.component ≡ Some c → slice_get c.provides j ≡ Some x → IsOnThing p (window x.virtual_address x.size x.rights (provided n.name x.logical))
   on_provided c j x used in_it =
       let index = component_index p n.component c used in
-      let names = provided_names c (logical_unique p index.0 c (rules_of lawful).rule_1 index.1) in
+      let names = provided_unique c (logical_unique p index.0 c (rules_of lawful).rule_1 index.1) in
       record {
         declared = provided_is_thing p s n c j x at used in_it;
         bytes = λ files. provided_long p files n.name x.logical n c x (found_again p lawful s n at) used (found_by_name (λ (y : Provided). y.logical) c.provides names j x in_it);
@@ -223,7 +219,7 @@ module _ (p : Source) (lawful : IsLawful p) (s : ℕ) (n : Subject) (at : slice_
               number = index.0;
               subject = t;
               at = index.1;
-              monitored = passes_any (λ (x : Monitor). bytes_eq x.subject t.name) n.monitors j m in_it (ap (bytes_eq m.subject) named ∙ same_self m.subject);
+              monitored = any_passes_from_place (λ (x : Monitor). bytes_eq x.subject t.name) n.monitors j m in_it (ap (bytes_eq m.subject) named ∙ same_self m.subject);
               page = ap state named;
               cpu = eqb-true t.cpu n.cpu k;
               other = λ e.
@@ -316,13 +312,6 @@ pub record IsSeen (p : Source) (s : ℕ) (n : Subject) (addr : ℕ) (x : Thing) 
   pub shown : is_shown (windows_of p n) x ≡ true
   pub aligned : offset % 4096 ≡ addr % 4096
 
-same_itself : (x : Thing) → same_thing x x ≡ true
-same_itself (region a) = same_self a
-same_itself (channel a) = same_self a
-same_itself (provided t a) = and_from (bytes_eq t t) (bytes_eq a a) (same_self t) (same_self a)
-same_itself (device_memory d a) = and_from (bytes_eq d d) (bytes_eq a a) (same_self d) (same_self a)
-same_itself (state a) = same_self a
-
 -- the window that an access is by
 record IsReached (windows : List (Window Thing)) (addr : ℕ) (x : Thing) (offset : ℕ) : Type 0 where
   by : Window Thing
@@ -379,6 +368,6 @@ sees p lawful s n kind addr x offset at h =
     record {
       there = subst (λ x. IsByteOf p x offset ⊎ IsWatched p s n x offset) r.thing
           (byte_of p s n addr offset w inside (each_found (IsOn p s n) (λ w. holds w addr) (windows_of p n) w (each_window p lawful s n at) r.found));
-      shown = passes_any (λ w. same_thing w.thing x) (windows_of p n) index.0 w index.1 (ap (same_thing w.thing) (sym r.thing) ∙ same_itself w.thing);
+      shown = any_passes_from_place (λ w. same_thing w.thing x) (windows_of p n) index.0 w index.1 (ap (same_thing w.thing) (sym r.thing) ∙ same_thing_self w.thing);
       aligned = omega (arith, from, is, whole);
     }

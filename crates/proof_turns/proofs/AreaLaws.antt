@@ -1,5 +1,5 @@
 -- An area of MSRs, as leaving saves it and as entering loads it, and the MSR file.
-use Rattle.std.proofs.Common.{◌≡◌, ◌⊎◌, ℕ, zero, suc, ◌+◌, ◌*◌, ◌/◌, ◌%◌, ◌^◌, ◌<◌, ◌≤◌, true, false, List, [], ◌∷◌, ◌++◌, length, take, drop, get_or, Option, Some, None, refl, sym, ap, ap₂, subst, ◌∙◌, inl, inr, arith}
+use Rattle.std.proofs.Common.{◌≡◌, ◌⊎◌, ℕ, zero, suc, ◌+◌, ◌*◌, ◌%◌, ◌^◌, ◌<◌, ◌≤◌, true, false, List, [], ◌∷◌, ◌++◌, length, take, drop, get_or, Option, Some, None, refl, sym, ap, ap₂, subst, ◌∙◌, inl, inr, arith}
 use Rattle.std.specs.Prelude.{option_map, option_and_then, is_some, slice_get, unwrap_or}
 use Rattle.std.specs.List.{All}
 use Rattle.std.proofs.lemmas.Bool.{cases_eq, eq-eqb, ne_eqb, true≢false, false≢true}
@@ -13,12 +13,14 @@ use Rattle.muen_num.proofs.ChangeLaws.{set_is, length_stays, element_changes, ot
 use Rattle.machine_layout.specs.Exits.{AreaEntry, area_index, area_value}
 use Rattle.machine_layout.specs.Memory.{Page, page_of, is_there, over, le_number, le_bytes}
 use Rattle.machine_layout.proofs.PageLaws.{page_of-change_other, page_of-change_same, is_there-change}
-use Rattle.machine_layout.proofs.StoreLaws.{length-le_bytes, over_apart, length-over, over_itself, le_number-le_bytes}
+use Rattle.machine_layout.proofs.StoreLaws.{over_apart, length-over, over_itself, le_number-le_bytes}
+use Rattle.machine_layout.proofs.PageFieldLaws.{length-le_bytes}
 use Rattle.vmx_machine.specs.Machine.{entries_in, filled, save_value, entry_saved, saved}
 use Rattle.vmx_machine.specs.MsrFile.{slot_of, most, value_in, put_at, with_msr}
 use Rattle.vmx_machine.proofs.StoreWithin.{stored_within}
 use Rattle.subject_model.specs.Alone.{is_in}
 use Rattle.guest_isa.specs.Words.{IsByte, IsWord}
+use Rattle.guest_isa.proofs.StateLaws.{le_bytes_small}
 use Rattle.proof_turns.specs.Held.{FitsFile, AreDistinct, indices, entry_value}
 
 -- ---- the MSR file
@@ -208,13 +210,9 @@ over_all P (x ∷ xs) zero (b ∷ bs) h g =
     All-cons P b (over xs zero bs) (All-head P b bs g) (over_all P xs zero bs (All-tail P x xs h) (All-tail P b bs g))
 over_all P (x ∷ xs) (suc o) bs h g = All-cons P x (over xs o bs) (All-head P x xs h) (over_all P xs o bs (All-tail P x xs h) g)
 
-spelt_small : (n v : ℕ) → All IsByte (le_bytes n v)
-spelt_small zero v = All-nil IsByte
-spelt_small (suc n) v = All-cons IsByte (v % 256) (le_bytes n (v / 256)) (omega arith) (spelt_small n (v / 256))
-
 put_small : (o : Option ℕ) (offset : ℕ) (page : List ℕ) → All IsByte page → All IsByte (put_value o offset page)
 put_small None offset page h = h
-put_small (Some v) offset page h = over_all IsByte page offset (le_bytes 8 v) h (spelt_small 8 v)
+put_small (Some v) offset page h = over_all IsByte page offset (le_bytes 8 v) h (le_bytes_small 8 v)
 
 entries_small : (file is page : List ℕ) → All IsByte page → All IsByte (entries_page file is page)
 entries_small file [] page h = h

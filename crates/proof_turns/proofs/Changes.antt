@@ -11,6 +11,7 @@ use Rattle.policy_lawful.specs.source.Subject.{Subject}
 use Rattle.image_pack.specs.declared.parts.SubjectPart.{SubjectPart}
 use Rattle.muen_num.specs.ListChange.{change_at}
 use Rattle.muen_num.proofs.ChangeLaws.{element_changes}
+use Rattle.muen_num.proofs.Options.{one_value}
 use Rattle.guest_isa.specs.Step.{MsrWrite, Stored}
 use Rattle.guest_isa.specs.Named.{renamed_store}
 use Rattle.subject_model.specs.StatePage.{page_bytes, state_in}
@@ -32,7 +33,7 @@ use Rattle.proof_turns.proofs.AreaLaws.{with_msr_fits, with_msr_other}
 use Rattle.guest_isa.proofs.StateLaws.{over_small}
 use Rattle.subject_model.proofs.KeyLaws.{value_changed, value_other, names_apart, numbers_apart, things_apart, state_names}
 use Rattle.proof_turns.proofs.FrameLaws.{change_elsewhere, thing_changes}
-use Rattle.proof_turns.proofs.Holds.{same_found, not_some, found_before, some_changed, not_on, held_off, held_apart_on, held_same, own_same, each_subject}
+use Rattle.proof_turns.proofs.Holds.{not_some, found_before, some_changed, not_on, held_off, held_apart_on, held_same, own_same, each_subject}
 use Rattle.proof_turns.proofs.Moves.{state_spot}
 
 -- ---- MSR values, by index on both sides
@@ -150,7 +151,7 @@ module _ (g : Ground) (fixed : IsFixed g) where
           (λ t n' r d i ne. own_same n' y.things (change_thing (state n.name) (λ _. page_bytes st) y.things) y.msrs (change_named n.name (with_write m) y.msrs) (held k t r d) (held (with_cpu cpu st m k) t r d)
           (value_other same_thing (state n.name) (state n'.name) (λ _. page_bytes st) y.things (things_apart (state n.name) (state n'.name) (λ e. names_differ t s n' n r q d c i j ne (sym (state_names n.name n'.name e)))))
           (value_other bytes_eq n.name n'.name (with_write m) y.msrs (names_apart n.name n'.name (λ e. names_differ t s n' n r q d c i j ne (sym e))))
-          (held_apart_on (with_entered st m) t d.msrs (page_of k.machine.pages d.state) (page_of k.machine.pages d.msr_area) k.on k.machine.cpus cpu r.cpu (λ who at. not_on t s who (same_found _ who (Some s) at run.on) ne))
+          (held_apart_on (with_entered st m) t d.msrs (page_of k.machine.pages d.state) (page_of k.machine.pages d.msr_area) k.on k.machine.cpus cpu r.cpu (λ who at. not_on t s who (one_value _ who (Some s) at run.on) ne))
           (run.stands.owns t n' r d i (λ e. ne (some_same t s e)))) t m' r d i;
       router = run.stands.router;
       cpus = record {
@@ -235,7 +236,7 @@ module _ (g : Ground) (fixed : IsFixed g) where
   pub watched_away : (k : Live) (cpu s : ℕ) (n : Subject) (q : SubjectPart) (c : Control) (x : Thing) → Joined g s n q c → q.cpu ≡ cpu → slice_get k.on cpu ≡ Some (Some s) → (w : Watches g s n x) → (who : Option ℕ) → slice_get k.on w.part.cpu ≡ Some who → is_on w.number who ≡ false
   watched_away k cpu s n q c x j its on w who at =
       let same : w.part.cpu ≡ cpu = w.joined.cpu ∙ (w.cpu ∙ (sym j.cpu ∙ its)) in
-      not_on w.number s who (same_found _ who (Some s) (ap (slice_get k.on) (sym same) ∙ at) on) w.other
+      not_on w.number s who (one_value _ who (Some s) (ap (slice_get k.on) (sym same) ∙ at) on) w.other
 
   -- ---- a store, of the subject that is on the CPU
   seen_stands : (k : Live) (y : System) (cpu s : ℕ) (n : Subject) (q : SubjectPart) (c : Control) → Joined g s n q c → q.cpu ≡ cpu → slice_get k.on cpu ≡ Some (Some s) → (x : Thing) (offset : ℕ) (new : List ℕ) → offset % 4096 + length new ≤ 4096 → All IsByte new → (offset / 4096 < g.pages x) ⊎ ((offset < 4096) × Watches g s n x) → StandsFor g k y → StandsFor g (with_page_of (g.first x + offset / 4096) (λ old. over old (offset % 4096) new) k) (with_bytes x offset new y)

@@ -8,19 +8,16 @@ use Rattle.std.proofs.lemmas.List.{append-nil, take_all}
 use Rattle.std.proofs.lemmas.Option.{slice_get_past}
 use Rattle.std.proofs.Math.Seq.{drop-length, take-add}
 use Rattle.muen_num.specs.Range.{numbers_below}
-use Rattle.muen_num.specs.declared.mode.EventMode.{EventMode}
-use Rattle.muen_num.specs.declared.mode.EventMode.TheVariants.{Asap, Async, Own as OwnMode, Switch}
 use Rattle.muen_num.specs.ListChange.{change_at}
 use Rattle.machine_layout.specs.Memory.{Page, page_of, over}
 use Rattle.machine_layout.proofs.StoreLaws.{length-over}
 use Rattle.guest_isa.specs.Step.{Stored}
 use Rattle.image_pack.specs.declared.parts.SubjectPart.{SubjectPart}
 use Rattle.frame_clock.specs.Slot.{Slot}
-use Rattle.policy_lawful.specs.Events.{Raised, Target, event_of, irq_of}
+use Rattle.policy_lawful.specs.Events.{Target, irq_of}
 use Rattle.policy_lawful.specs.Frames.{frames_of}
 use Rattle.policy_lawful.specs.Thing.{Thing, device_memory, same_thing, state}
 use Rattle.policy_lawful.specs.source.Source.{Source}
-use Rattle.policy_lawful.specs.source.SourceWay.{SourceWay}
 use Rattle.policy_lawful.specs.source.Subject.{Subject}
 use Rattle.subject_model.specs.DeviceRecord.{NamedInput, port_input, memory_input, irq_input, dma_input}
 use Rattle.frame_clock.specs.Frames.{slot_in}
@@ -34,15 +31,16 @@ use Rattle.vmx_machine.specs.declared.cpu.Entered.{Entered}
 use Rattle.kernel_core.specs.Kernel.{Live}
 use Rattle.kernel_core.specs.Ticks.{all_left, ended}
 use Rattle.subject_model.specs.Alone.{MsrValues, Things, TurnAnswer, own_of, solo_turn, thing_in}
-use Rattle.subject_model.specs.System.{System, answered, change_thing, happens, inbox_of, named, pends_now, raised_by, state_of, subject_named, system_turn, turn_from, turn_in_slot, turn_of_member, turn_of_subject, with_active, with_bytes, with_own, with_store}
+use Rattle.subject_model.specs.System.{System, answered, change_thing, inbox_of, named, state_of, subject_named, system_turn, turn_from, turn_in_slot, turn_of_member, turn_of_subject, with_bytes, with_own, with_store}
 use Rattle.subject_model.specs.Clock.{ByteWrite, begins, irq_reaches, line_writes, system, takes, with_byte, with_each, with_line}
 use Rattle.proof_turns.specs.Ground.{Ground, Joined, part}
 use Rattle.proof_turns.specs.Fixed.{IsFixed}
 use Rattle.proof_turns.specs.Held.{Held, held, is_on, on_pages}
 use Rattle.proof_turns.specs.Stands.{SameEntered, StandsFor}
 use Rattle.subject_model.proofs.KeyLaws.{cases_thing, things_apart, value_changed, value_other}
+use Rattle.subject_model.proofs.SystemLaws.{raised_things}
 use Rattle.proof_turns.proofs.Holds.{held_off, not_some}
-use Rattle.proof_turns.proofs.Moves.{left_by_nobody, left_by_subject, left_pages, left_with, off}
+use Rattle.proof_turns.proofs.Moves.{left_by_nobody, left_by_subject, left_pages, left_with, off, same_live}
 
 -- ---- lists
 
@@ -140,10 +138,6 @@ pub nobody_left : (n : ℕ) (on : List (Option ℕ)) → length on ≡ n → nob
 nobody_left n on h =
     first_left n on (omega (arith, h))
     ∙ (ap (λ i. replicate n None ++ drop i on) (sym h) ∙ (ap (λ xs. replicate n None ++ xs) (drop-length on) ∙ append-nil (replicate n None)))
-
--- lives with the same machine and list
-same_live : (k : Live) (m m' : MachineState) (on on' : List (Option ℕ)) → m ≡ m' → on ≡ on' → ◌≡◌ {A = Live} (record k { machine = m; on = on }) (record k { machine = m'; on = on' })
-same_live k m m' on on' e f = rw (e, f) refl
 
 module _ (g : Ground) (fixed : IsFixed g) where
   -- what is left of a CPU that is there
@@ -266,25 +260,6 @@ bytes_lengths x offset bytes y = change_lengths x (λ old. over old offset bytes
 store_lengths : (w : Option (Stored Thing)) (y : System) → SameLengths y.things (with_store w y).things
 store_lengths None y x away = refl
 store_lengths (Some w) y x away = bytes_lengths w.target w.offset w.bytes y x away
-
--- events change no thing
-active_things : (o : Option ℕ) (name : List ℕ) (y : System) → (with_active o name y).things ≡ y.things
-active_things None name y = refl
-active_things (Some i) name y = refl
-
-happens_things : (p : Source) (o : Option Raised) (y : System) → (happens p o y).things ≡ y.things
-happens_things p None y = refl
-happens_things p (Some e) y = by_mode e.mode
-  where
-    by_mode : (m : EventMode) → (happens p (Some (record { mode = m; target = e.target })) y).things ≡ y.things
-    by_mode Asap = refl
-    by_mode Async = refl
-    by_mode OwnMode = refl
-    by_mode Switch = active_things _ e.target.subject (pends_now e.target y)
-
-raised_things : (p : Source) (n : Subject) (o : Option SourceWay) (y : System) → (raised_by p n o y).things ≡ y.things
-raised_things p n None y = refl
-raised_things p n (Some way) y = happens_things p (event_of p n way) y
 
 answered_lengths : (p : Source) (n : Subject) (a : TurnAnswer) (y : System) → SameLengths y.things (answered p n a y).things
 answered_lengths p n a y x away =

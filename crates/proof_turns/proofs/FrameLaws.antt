@@ -1,11 +1,10 @@
 -- A change of one page that is no table and no bitmap keeps what memory shows, or changes it as the thing is changed.
-use Rattle.std.proofs.Common.{◌≡◌, ◌⊎◌, ℕ, zero, suc, ◌+◌, ◌-◌, ◌*◌, ◌/◌, ◌%◌, ◌^◌, ◌<◌, ◌≤◌, Bool, true, List, [], ◌∷◌, length, take, drop, Option, Some, None, refl, sym, ap, ◌∙◌, inl, inr, arith}
+use Rattle.std.proofs.Common.{◌≡◌, ◌⊎◌, ℕ, zero, suc, ◌+◌, ◌-◌, ◌*◌, ◌/◌, ◌%◌, ◌^◌, ◌<◌, ◌≤◌, Bool, true, List, [], length, take, drop, Option, Some, None, refl, sym, ap, ◌∙◌, inl, inr, arith}
 use Rattle.std.specs.Prelude.{option_map, slice_get, unwrap_or}
 use Rattle.std.specs.List.{All}
 use Rattle.std.specs.Option.{option_map_or}
 use Rattle.std.proofs.lemmas.Bool.{cases_eq, cases_lt, true≢false}
 use Rattle.std.proofs.lemmas.List.{drop-take, take-take, drop-drop}
-use Rattle.std.proofs.lemmas.List.Elements.{All-cons, All-head, All-tail}
 use Rattle.machine_layout.specs.Memory.{Page, page_of, change, over, le_number, load_of}
 use Rattle.machine_layout.proofs.PageLaws.{page_of-change_other, page_of-change_same, is_there-change}
 use Rattle.machine_layout.proofs.StoreLaws.{over_part, over_apart}
@@ -23,6 +22,7 @@ use Rattle.subject_model.specs.Alone.{Things, thing_in}
 use Rattle.subject_model.specs.System.{change_thing}
 use Rattle.proof_turns.specs.Ground.{Ground, Spot, thing_at, IsAt, part}
 use Rattle.guest_isa.specs.Words.{IsByte}
+use Rattle.guest_isa.proofs.StateLaws.{over_small}
 use Rattle.proof_turns.specs.Fixed.{IsFixed}
 use Rattle.proof_turns.specs.Stands.{Shows}
 use Rattle.subject_model.proofs.KeyLaws.{value_changed, value_other, things_apart, cases_thing}
@@ -86,14 +86,6 @@ word_of_part size None page offset h e =
 word_of_part size (Some bytes) page offset h e = rw e (word_in_part size bytes offset h)
 
 -- ---- all are bytes
-
-over_bytes : (old : List ℕ) (offset : ℕ) (new : List ℕ) → All IsByte old → All IsByte new → All IsByte (over old offset new)
-over_bytes [] offset new h g = h
-over_bytes (x ∷ xs) zero [] h g = h
-over_bytes (x ∷ xs) zero (b ∷ bs) h g =
-    All-cons IsByte b (over xs zero bs) (All-head IsByte b bs g) (over_bytes xs zero bs (All-tail IsByte x xs h) (All-tail IsByte b bs g))
-over_bytes (x ∷ xs) (suc o) bs h g =
-    All-cons IsByte x (over xs o bs) (All-head IsByte x xs h) (over_bytes xs o bs (All-tail IsByte x xs h) g)
 
 changed_small : (f : List ℕ → List ℕ) (o : Option (List ℕ)) (page : List ℕ) → ((old : List ℕ) → All IsByte old → All IsByte (f old)) → ((old : List ℕ) → o ≡ Some old → All IsByte old) → option_map f o ≡ Some page → All IsByte page
 changed_small f None page keeps small e = absurd (cc (e))
@@ -175,5 +167,5 @@ module _ (g : Ground) (fixed : IsFixed g) where
         ];
         kept = kept_after pages things k h (thing_at z (o / 4096)) (hz, refl) shows;
         there = λ q. is_there-change pages k h q ∙ shows.there q;
-        small = small_after pages k h (λ old small. over_bytes old (o % 4096) new small bytes) shows.small;
+        small = small_after pages k h (λ old small. over_small old (o % 4096) new small bytes) shows.small;
       }

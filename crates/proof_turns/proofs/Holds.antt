@@ -7,15 +7,13 @@ use Rattle.subject_model.specs.System.{Named, named}
 use Rattle.image_pack.specs.declared.parts.SubjectPart.{SubjectPart}
 use Rattle.muen_num.specs.ListChange.{change_at}
 use Rattle.muen_num.proofs.ChangeLaws.{element_changes, others_stay}
+use Rattle.muen_num.proofs.Options.{is_some-option_map, one_value}
 use Rattle.policy_lawful.specs.Thing.{state}
 use Rattle.policy_lawful.specs.source.Subject.{Subject}
 use Rattle.vmx_machine.specs.declared.control.Control.{Control}
 use Rattle.vmx_machine.specs.declared.cpu.Cpu.{Cpu}
 use Rattle.proof_turns.specs.Ground.{Ground, Joined}
 use Rattle.proof_turns.specs.Held.{Held, IsOwn, held_by, is_on, on_pages}
-
-pub same_found : {A : Type 0} (o : Option A) (a b : A) → o ≡ Some a → o ≡ Some b → a ≡ b
-same_found o a b e f = cc (e, f)
 
 pub not_some : {A : Type 0} (a : A) → None ≡ Some a → ⊥
 not_some a e = cc (e)
@@ -32,14 +30,10 @@ found_before i f xs j x e same other =
     mapped None h k = absurd (cc (h))
     mapped (Some w) h k = k w refl (cc (h))
 
-some_mapped : {A B : Type 0} (f : A → B) (o : Option A) → is_some (option_map f o) ≡ is_some o
-some_mapped f None = refl
-some_mapped f (Some x) = refl
-
 pub some_changed : {X : Type 0} (i : ℕ) (f : X → X) (xs : List X) (j : ℕ) → is_some (slice_get (change_at i f xs) j) ≡ is_some (slice_get xs j)
 some_changed i f xs j =
     elim (cases_eq j i) [
-      | inl e ↦ rw e (ap is_some (element_changes i f xs) ∙ some_mapped f (slice_get xs i))
+      | inl e ↦ rw e (ap is_some (element_changes i f xs) ∙ is_some-option_map f (slice_get xs i))
       | inr ne ↦ ap is_some (others_stay i j f xs ne)
     ]
 
@@ -89,9 +83,9 @@ module _ (g : Ground) where
   each_subject P t m r d i here other s n q c j =
       elim (cases_eq s t) [
         | inl e ↦
-            let em = same_found (slice_get g.policy.subjects s) m n (ap (slice_get g.policy.subjects) e ∙ i.subject) j.subject in
-            let er = same_found (slice_get g.setup.subjects s) r q (ap (slice_get g.setup.subjects) e ∙ i.part) j.part in
-            let ed = same_found (slice_get g.setup.controls s) d c (ap (slice_get g.setup.controls) e ∙ i.control) j.control in
+            let em = one_value (slice_get g.policy.subjects s) m n (ap (slice_get g.policy.subjects) e ∙ i.subject) j.subject in
+            let er = one_value (slice_get g.setup.subjects s) r q (ap (slice_get g.setup.subjects) e ∙ i.part) j.part in
+            let ed = one_value (slice_get g.setup.controls s) d c (ap (slice_get g.setup.controls) e ∙ i.control) j.control in
             subst (λ x. P s n q x) ed (subst (λ x. P s n x d) er (subst (λ x. P s x r d) em (subst (λ x. P x m r d) (sym e) here)))
         | inr ne ↦ other s n q c j ne
       ]

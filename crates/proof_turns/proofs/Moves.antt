@@ -12,6 +12,7 @@ use Rattle.policy_lawful.specs.source.Subject.{Subject}
 use Rattle.image_pack.specs.declared.parts.SubjectPart.{SubjectPart}
 use Rattle.muen_num.specs.ListChange.{change_at}
 use Rattle.muen_num.proofs.ChangeLaws.{element_changes, changes_join}
+use Rattle.muen_num.proofs.Options.{one_value}
 use Rattle.subject_model.specs.StatePage.{page_bytes, state_in}
 use Rattle.subject_model.specs.SubjectState.{SubjectState}
 use Rattle.vmx_machine.specs.Machine.{MachineState, saved, entries_in, put_on, put_off_by, left, left_by, entered, page_at}
@@ -29,11 +30,15 @@ use Rattle.proof_turns.specs.Held.{AreDistinct, entry_value, Held, held_by, held
 use Rattle.proof_turns.specs.Stands.{Shows, HasPages, SameEntered, FitsCpu, FitsEntered, CpusStand, StandsFor, Running}
 use Rattle.proof_turns.proofs.AreaLaws.{saved_elsewhere, saved_there, saved_page, saved_is, length-saved, saved_small, entries_saved, indices_refreshed, refreshed_value, filled_value, entries_fit, filled_fits}
 use Rattle.guest_isa.proofs.StateLaws.{state_law, read_fits, written_bytes}
-use Rattle.proof_turns.proofs.Holds.{same_found, not_some, found_before, some_changed, not_on, held_off, held_apart, held_same, own_same, each_subject}
+use Rattle.proof_turns.proofs.Holds.{not_some, found_before, some_changed, not_on, held_off, held_apart, held_same, own_same, each_subject}
 
 -- memory with the page of a state and of an area written
 abbrev pub left_pages : Control → SubjectState → List ℕ → List Page → List Page
 left_pages d st file pages = saved file d.msr_area (numbers_below d.msrs) (change pages d.state (λ _. page_bytes st))
+
+-- lives with the same machine and list
+pub same_live : (k : Live) (m m' : MachineState) (on on' : List (Option ℕ)) → m ≡ m' → on ≡ on' → ◌≡◌ {A = Live} (record k { machine = m; on = on }) (record k { machine = m'; on = on' })
+same_live k m m' on on' e f = rw (e, f) refl
 
 module _ (g : Ground) (fixed : IsFixed g) where
   pub shows_same : (pages later : List Page) (things : Things) → ((x : Thing) (j : ℕ) → j < g.pages x → page_of later (g.first x + j) ≡ page_of pages (g.first x + j)) → ((k : ℕ) → g.kept k ≡ true → page_of later k ≡ page_of pages k) → ((k : ℕ) → is_there later k ≡ is_there pages k) → ((k : ℕ) (page : List ℕ) → page_of later k ≡ Some page → All IsByte page) → Shows g pages things → Shows g later things
@@ -83,9 +88,9 @@ module _ (g : Ground) (fixed : IsFixed g) where
     left_small : (things : Things) → Shows g pages things → (k : ℕ) (page : List ℕ) → page_of (left_pages d st file pages) k ≡ Some page → All IsByte page
     left_small things shows k page at =
         elim (cases_eq k d.state) [
-          | inl e ↦ subst (All IsByte) (same_found _ _ _ left_state (ap (page_of (left_pages d st file pages)) (sym e) ∙ at)) (written_bytes st)
+          | inl e ↦ subst (All IsByte) (one_value _ _ _ left_state (ap (page_of (left_pages d st file pages)) (sym e) ∙ at)) (written_bytes st)
           | inr ns ↦ elim (cases_eq k d.msr_area) [
-            | inl e ↦ subst (All IsByte) (same_found _ _ _ left_area (ap (page_of (left_pages d st file pages)) (sym e) ∙ at)) (saved_small d.msrs file has.area (shows.small d.msr_area has.area has.area_is))
+            | inl e ↦ subst (All IsByte) (one_value _ _ _ left_area (ap (page_of (left_pages d st file pages)) (sym e) ∙ at)) (saved_small d.msrs file has.area (shows.small d.msr_area has.area has.area_is))
             | inr na ↦ shows.small k page (sym (left_elsewhere k ns na) ∙ at)
           ]
         ]
@@ -180,7 +185,7 @@ module _ (g : Ground) (fixed : IsFixed g) where
       shows = stands.shows;
       pages = stands.pages;
       owns = λ s n q c j but. own_same n y.things y.things y.msrs y.msrs (held k s q c) (held (left_with cpu k.machine.pages k) s q c) refl refl
-          (held_apart (off k.machine.pages) (λ _. None) s c.msrs (page_of k.machine.pages c.state) (page_of k.machine.pages c.msr_area) k.on k.machine.cpus cpu q.cpu (λ who at. (ap (is_on s) (same_found _ who None at nobody), refl)))
+          (held_apart (off k.machine.pages) (λ _. None) s c.msrs (page_of k.machine.pages c.state) (page_of k.machine.pages c.msr_area) k.on k.machine.cpus cpu q.cpu (λ who at. (ap (is_on s) (one_value _ who None at nobody), refl)))
           (stands.owns s n q c j but);
       router = stands.router;
       cpus = left_cpus k.machine.pages k.on k.machine.cpus cpu stands.cpus;
@@ -242,7 +247,7 @@ module _ (g : Ground) (fixed : IsFixed g) where
             (held_same s c.msrs (page_of k.machine.pages c.state) (page_of k.machine.pages c.msr_area) (page_of later c.state) (page_of later c.msr_area) (slice_get (change_at cpu (λ _. None) k.on) q.cpu) (slice_get (change_at cpu (off k.machine.pages) k.machine.cpus) q.cpu)
             (left_elsewhere t m r d i e.state u.file k.machine.pages has c.state (λ x. fixed.apart (state_at s) (state_at t) c.state d.state (c, j.control, refl) (d, i.control, refl) (state_spot s t ne) x) (λ x. fixed.apart (state_at s) (area_at t) c.state d.msr_area (c, j.control, refl) (d, i.control, refl) (λ z. cc (z)) x))
             (left_elsewhere t m r d i e.state u.file k.machine.pages has c.msr_area (λ x. fixed.apart (area_at s) (state_at t) c.msr_area d.state (c, j.control, refl) (d, i.control, refl) (λ z. cc (z)) x) (λ x. fixed.apart (area_at s) (area_at t) c.msr_area d.msr_area (c, j.control, refl) (d, i.control, refl) (area_spot s t ne) x))
-            ∙ held_apart (off k.machine.pages) (λ _. None) s c.msrs (page_of k.machine.pages c.state) (page_of k.machine.pages c.msr_area) k.on k.machine.cpus cpu q.cpu (λ who wat. (not_on s t who (same_found _ who (Some t) wat on) ne, refl)))
+            ∙ held_apart (off k.machine.pages) (λ _. None) s c.msrs (page_of k.machine.pages c.state) (page_of k.machine.pages c.msr_area) k.on k.machine.cpus cpu q.cpu (λ who wat. (not_on s t who (one_value _ who (Some t) wat on) ne, refl)))
             (stands.owns s n q c j (λ x. not_some s x))) s n q c j;
         router = stands.router;
         cpus = left_cpus k.machine.pages k.on k.machine.cpus cpu stands.cpus;
@@ -276,7 +281,7 @@ module _ (g : Ground) (fixed : IsFixed g) where
     its_own = stands.owns s n q c j (λ x. not_some s x)
 
     was_off : held k s q c ≡ on_pages c.msrs (page_of k.machine.pages c.state) (page_of k.machine.pages c.msr_area)
-    was_off = held_off s c.msrs (page_of k.machine.pages c.state) (page_of k.machine.pages c.msr_area) (slice_get k.on q.cpu) (slice_get k.machine.cpus q.cpu) (λ who w. ap (is_on s) (same_found _ who None (ap (slice_get k.on) (sym its) ∙ w) nobody))
+    was_off = held_off s c.msrs (page_of k.machine.pages c.state) (page_of k.machine.pages c.msr_area) (slice_get k.on q.cpu) (slice_get k.machine.cpus q.cpu) (λ who w. ap (is_on s) (one_value _ who None (ap (slice_get k.on) (sym its) ∙ w) nobody))
 
     area_at_hand : page_at k.machine.pages c.msr_area ≡ its_pages.area
     area_at_hand = ap (λ x. unwrap_or x []) its_pages.area_is
@@ -317,7 +322,7 @@ module _ (g : Ground) (fixed : IsFixed g) where
           (λ ne _. absurd (ne e)))
           (λ ne xat. found_before cpu (put_on k.machine.pages c) k.machine.cpus b u there (λ w f _ isw. absurd (ne f)) (λ _ w. stands.cpus.entered b who u xat w));
       fits = λ b u there. found_before cpu (put_on k.machine.pages c) k.machine.cpus b u there
-          (λ w f wat isw. subst FitsCpu isw (subst (λ x. FitsCpu (put_on k.machine.pages c x)) (same_found _ v w at (ap (slice_get k.machine.cpus) (sym f) ∙ wat)) entered_fits))
+          (λ w f wat isw. subst FitsCpu isw (subst (λ x. FitsCpu (put_on k.machine.pages c x)) (one_value _ v w at (ap (slice_get k.machine.cpus) (sym f) ∙ wat)) entered_fits))
           (λ ne w. stands.cpus.fits b u w);
     }
 
@@ -328,7 +333,7 @@ module _ (g : Ground) (fixed : IsFixed g) where
         pages = stands.pages;
         owns = λ t m r d i but. let ne : t ≡ s → ⊥ = λ e. but (ap Some (sym e)) in
             own_same m y.things y.things y.msrs y.msrs (held k t r d) (held (entered_live cpu s c k) t r d) refl refl
-            (held_apart (put_on k.machine.pages c) (λ _. Some s) t d.msrs (page_of k.machine.pages d.state) (page_of k.machine.pages d.msr_area) k.on k.machine.cpus cpu r.cpu (λ who wat. (ap (is_on t) (same_found _ who None wat nobody), not_on t s (Some s) refl ne)))
+            (held_apart (put_on k.machine.pages c) (λ _. Some s) t d.msrs (page_of k.machine.pages d.state) (page_of k.machine.pages d.msr_area) k.on k.machine.cpus cpu r.cpu (λ who wat. (ap (is_on t) (one_value _ who None wat nobody), not_on t s (Some s) refl ne)))
             (stands.owns t m r d i (λ x. not_some t x));
         router = stands.router;
         cpus = entered_cpus;
@@ -378,9 +383,6 @@ module _ (g : Ground) (fixed : IsFixed g) where
   left_is : (cpu : ℕ) (m : MachineState) (u : Cpu) → slice_get m.cpus cpu ≡ Some u → (o : Option Entered) → u.entered ≡ o → left cpu m ≡ record { pages = (put_off_by m.pages u o).pages; cpus = change_at cpu (off m.pages) m.cpus }
   left_is cpu m u at o e = ap (left_by cpu m.pages m.cpus) at ∙ ap (λ x. record { pages = (put_off_by m.pages u x).pages; cpus = change_at cpu (off m.pages) m.cpus }) e
 
-  same_live : (k : Live) (m m' : MachineState) (on on' : List (Option ℕ)) → m ≡ m' → on ≡ on' → ◌≡◌ {A = Live} (record k { machine = m; on = on }) (record k { machine = m'; on = on' })
-  same_live k m m' on on' e f = rw (e, f) refl
-
   goes_on_is : (cpu s : ℕ) (c : Control) (k : Live) (later : List Page) → left cpu k.machine ≡ record { pages = later; cpus = change_at cpu (off k.machine.pages) k.machine.cpus } → entered_live cpu s c (left_with cpu later k) ≡ goes_on cpu s c k
   goes_on_is cpu s c k later e =
       same_live k (entered cpu c (record { pages = later; cpus = change_at cpu (off k.machine.pages) k.machine.cpus })) (entered cpu c (left cpu k.machine)) (change_at cpu (λ _. Some s) (change_at cpu (λ _. None) k.on)) (change_at cpu (λ _. Some s) k.on) (ap (entered cpu c) (sym e)) (changes_join cpu (λ _. None) (λ _. Some s) k.on)
@@ -402,7 +404,7 @@ module _ (g : Ground) (fixed : IsFixed g) where
   switches_by k y stands cpu s n q c j its u at (Some t) (Some e) on is same =
       elim (cases_eq t s) [
         | inl h ↦
-            let mine : same.is.control ≡ c = same_found (slice_get g.setup.controls t) same.is.control c same.is.joined.control (ap (slice_get g.setup.controls) h ∙ j.control) in
+            let mine : same.is.control ≡ c = one_value (slice_get g.setup.controls t) same.is.control c same.is.joined.control (ap (slice_get g.setup.controls) h ∙ j.control) in
             rw (eq-eqb t s h) (stays_runs k y stands cpu s n q c j its (on ∙ ap (λ x. Some (Some x)) h) u at e is (same.control ∙ mine))
         | inr ne ↦
             rw (ne_eqb t s ne)

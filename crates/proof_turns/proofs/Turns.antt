@@ -52,6 +52,7 @@ use Rattle.proof_turns.proofs.SetLaws.{same_delivered}
 use Rattle.machine_layout.proofs.PageFieldLaws.{length-le_bytes}
 use Rattle.guest_isa.proofs.StateLaws.{finished_fits, injected_fits, le_bytes_small, le_number_small}
 use Rattle.subject_model.specs.Resources.{is_granted, msrs_of}
+use Rattle.subject_model.proofs.SystemLaws.{same_byte}
 use Rattle.proof_turns.proofs.AreaLaws.{value_fits}
 use Rattle.guest_isa.proofs.StepLaws.{FitsWorld, IsStored, step_fits, step_msr, step_stored}
 use Rattle.proof_turns.proofs.WorldLaws.{worlds_alike}
@@ -153,9 +154,6 @@ module _ (g : Ground) (fixed : IsFixed g) where
   -- ---- what may be stored
   reach_is : (x : Thing) (offset addr : ℕ) (a : Access Thing) → reach_by Write addr a ≡ Reached x offset → a ≡ byte x offset
   reach_is x offset addr (byte z o) e = same_byte z x o offset e
-    where
-      same_byte : (z x : Thing) (o offset : ℕ) → Reached z o ≡ Reached x offset → byte z o ≡ byte x offset
-      same_byte z x o offset e = cc (e)
   reach_is x offset addr (violation found) e = absurd (cc (e))
 
   in_page : (size : AccessSize) (addr offset : ℕ) → addr % count size ≡ 0 → offset % 4096 ≡ addr % 4096 → offset % 4096 + count size ≤ 4096

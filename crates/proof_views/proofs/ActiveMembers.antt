@@ -10,9 +10,9 @@ use Rattle.subject_model.specs.Step.{Stored}
 use Rattle.muen_num.proofs.ChangeLaws.{element_changes, others_stay}
 use Rattle.muen_num.specs.ListChange.{change_at}
 use Rattle.muen_num.proofs.Lists.{passes_at}
+use Rattle.muen_num.proofs.Lookups.{same_self}
 use Rattle.muen_num.specs.declared.mode.EventMode.{EventMode}
 use Rattle.muen_num.specs.declared.mode.EventMode.TheVariants.{Asap, Async, Own as OwnMode, Switch}
-use Rattle.policy_lawful.proofs.Indexes.{same_self}
 use Rattle.policy_lawful.specs.Rules.{is_group, is_on, subject_cpu}
 use Rattle.policy_lawful.specs.Contents.{Held}
 use Rattle.policy_lawful.specs.Events.{Raised, Target, event_of, irq_of}

@@ -7,7 +7,6 @@ use Rattle.std.specs.Str.{bytes_eq}
 use Rattle.std.proofs.lemmas.Bool.{and_parts, eqb-true, eq-eqb, ltb-true, not-true}
 use Rattle.std.proofs.lemmas.List.Elements.{All-from_recursion, recursion_from_All}
 use Rattle.muen_num.proofs.Lists.{found_among, map-map}
-use Rattle.policy_lawful.proofs.Indexes.{same_self}
 use Rattle.muen_num.specs.Range.{numbers_below}
 use Rattle.policy_lawful.proofs.KeptCpus.{cpus_kept}
 use Rattle.policy_lawful.proofs.KeptMajors.{MajorsKept, majors_kept}
@@ -29,7 +28,8 @@ use Rattle.subject_model.specs.System.{System, idle, inbox_of, line_at, start_of
 use Rattle.subject_model.specs.View.{ran_through, seen_in, through, view_of}
 use Rattle.proof_views.specs.AloneRun.{Arrival, nothing, at_turn, after_tick, alone_in, alone_to, alone_view, before, left_there, own_part, reaching, reaching_at, says_in, started_alone}
 use Rattle.muen_num.proofs.Each.{found, mapped}
-use Rattle.machine_layout.proofs.ExitLaws.{any_below}
+use Rattle.muen_num.proofs.Lookups.{same_self}
+use Rattle.muen_num.proofs.NumbersBelow.{any_below}
 use Rattle.proof_views.specs.Members.{AreListed}
 use Rattle.proof_views.proofs.Arrivals.{IsOther, arrival_cases}
 use Rattle.proof_views.proofs.ActiveMembers.{begun_listed, turn_listed}

@@ -1,16 +1,18 @@
 -- A channel is private memory of its writer: nobody else may change it.
 use Rattle.std.proofs.Common.{◌≡◌, ℕ, Bool, true, false, List, [], ◌∷◌, ◌++◌, length, map, Option, Some, None, refl, sym, ap, subst, ◌∙◌, inl, inr}
 use Rattle.std.specs.Prelude.{◌==◌, ◌&&◌, ◌||◌, filter, nat_le, not, option_and_then, option_map, unwrap_or}
-use Rattle.std.specs.List.{AllByRecursion, cons_option, filter_map, find, flat_map, list_all, list_any}
+use Rattle.std.specs.List.{AllByRecursion, filter_map, find, flat_map, list_all, list_any}
 use Rattle.std.specs.Option.{IfSome}
 use Rattle.std.specs.Str.{bytes_eq}
 use Rattle.std.proofs.lemmas.Bool.{and_from, and_parts, eqb-true, false_from_ne_true, or_from, or_parts}
 use Rattle.std.proofs.lemmas.List.Folds.{list_any-append}
 use Rattle.std.proofs.lemmas.Slice.Eq.{bytes_eq-Decides}
-use Rattle.muen_num.proofs.Each.{chained, each_append, each_flat, each_map, each_some, mapped}
-use Rattle.muen_num.proofs.Lists.{found_among}
-use Rattle.muen_num.proofs.Members.{In, any_some, filter_in, find_in, left_in, map_in, right_in}
+use Rattle.std.proofs.Math.Bool.{and-false}
+use Rattle.muen_num.proofs.Each.{chained, each_append, each_cons, each_flat, each_map, each_some, mapped}
+use Rattle.muen_num.proofs.Lists.{found_among, none_cons}
+use Rattle.muen_num.proofs.Members.{In, any_some, filter_in, find_in, flat_in, map_in}
 use Rattle.muen_num.proofs.SearchLaws.{all_pass}
+use Rattle.muen_num.proofs.Lookups.{found_passes}
 use Rattle.muen_num.specs.declared.access.AccessKind.TheVariants.{Write}
 use Rattle.policy_lawful.proofs.KeptRules.{rules_of}
 use Rattle.policy_lawful.specs.Dma.{domain_windows}
@@ -41,7 +43,6 @@ use Rattle.policy_lawful.specs.source.Region.{Region}
 use Rattle.policy_lawful.specs.source.Required.{Required}
 use Rattle.policy_lawful.specs.source.Source.{Source}
 use Rattle.policy_lawful.specs.source.Subject.{Subject}
-use Rattle.subject_model.proofs.PolicyFacts.{found_passes}
 use Rattle.subject_model.specs.System.{subject_named}
 use Rattle.proof_views.specs.Changes.{are_writable, may_change}
 use Rattle.proof_views.specs.Private.{IsPrivate}
@@ -62,26 +63,13 @@ module _ {X : Type 0} (test : X → Bool) where
   any_none f [] h = tt
   any_none f (y ∷ ys) h = let parts = or_parts (test (f y)) (list_any test (map f ys)) h in (parts.0, any_none f ys parts.1)
 
-  cons_none : (o : Option X) (xs : List X) → list_any test (cons_option o xs) ≡ false → IfSome o (λ x. test x ≡ false) × (list_any test xs ≡ false)
-  cons_none None xs h = (tt, h)
-  cons_none (Some x) xs h = or_parts (test x) (list_any test xs) h
-
   some_none : {Y : Type 0} (f : Y → Option X) (ys : List Y) → list_any test (filter_map f ys) ≡ false → AllByRecursion (λ y. IfSome (f y) (λ x. test x ≡ false)) ys
   some_none f [] h = tt
-  some_none f (y ∷ ys) h = let parts = cons_none (f y) (filter_map f ys) h in (parts.0, some_none f ys parts.1)
-
-each_cons : {X : Type 0} (P : X → Type 0) (o : Option X) (xs : List X) → IfSome o P → AllByRecursion P xs → AllByRecursion P (cons_option o xs)
-each_cons P None xs h all = all
-each_cons P (Some x) xs h all = (h, all)
+  some_none f (y ∷ ys) h = let parts = none_cons test (f y) (filter_map f ys) h in (parts.0, some_none f ys parts.1)
 
 each_made : {X Y : Type 0} (P : X → Type 0) (Q : Y → Type 0) (f : Y → Option X) → ((y : Y) → Q y → IfSome (f y) P) → (ys : List Y) → AllByRecursion Q ys → AllByRecursion P (filter_map f ys)
 each_made P Q f h [] all = tt
 each_made P Q f h (y ∷ ys) all = each_cons P (f y) (filter_map f ys) (h y all.0) (each_made P Q f h ys all.1)
-
-flat_in : {X Y : Type 0} (f : X → List Y) (xs : List X) (x : X) (y : Y) → In x xs → In y (f x) → In y (flat_map f xs)
-flat_in f [] x y i h = absurd i
-flat_in f (z ∷ zs) x y (inl e) h = left_in (f z) (flat_map f zs) y (subst (λ z. In y (f z)) (sym e) h)
-flat_in f (z ∷ zs) x y (inr i) h = right_in (f z) (flat_map f zs) y (flat_in f zs x y i h)
 
 one_alone : {X : Type 0} (xs : List X) → length xs ≡ 1 → (a b : X) → In a xs → In b xs → a ≡ b
 one_alone [] l a b i j = absurd i
@@ -89,10 +77,6 @@ one_alone (x ∷ []) l a b (inl e) (inl g) = sym e ∙ g
 one_alone (x ∷ []) l a b (inl e) (inr j) = absurd j
 one_alone (x ∷ []) l a b (inr i) j = absurd i
 one_alone (x ∷ y ∷ ys) l a b i j = absurd (cc (l))
-
-never : (b : Bool) → (b && false) ≡ false
-never true = refl
-never false = refl
 
 -- ---- the windows of a subject that isn't its writer
 
@@ -107,12 +91,12 @@ module _ (p : Source) (name : List ℕ) where
 
   on_region : (of : List ℕ) (guest : ℕ) (rights : Rights) → IfSome (region_window p of guest rights) Spares
   on_region of guest rights =
-      mapped Spares (λ (r : Region). window guest r.size rights (region r.name)) (λ r. never (allows rights Write)) (find (λ r. bytes_eq r.name of) p.memory)
+      mapped Spares (λ (r : Region). window guest r.size rights (region r.name)) (λ r. and-false (allows rights Write)) (find (λ r. bytes_eq r.name of) p.memory)
 
   on_device : (of : List ℕ) (m : DeviceMapping) → IfSome (device_window p of m) Spares
   on_device of m =
       chained Spares (λ (d : Device). option_map (λ (x : DeviceMemory). window m.virtual_address x.size m.rights (device_memory d.name x.name)) (find (λ x. bytes_eq x.name m.memory) d.memory))
-      (λ d. mapped Spares (λ (x : DeviceMemory). window m.virtual_address x.size m.rights (device_memory d.name x.name)) (λ x. never (allows m.rights Write)) (find (λ x. bytes_eq x.name m.memory) d.memory))
+      (λ d. mapped Spares (λ (x : DeviceMemory). window m.virtual_address x.size m.rights (device_memory d.name x.name)) (λ x. and-false (allows m.rights Write)) (find (λ x. bytes_eq x.name m.memory) d.memory))
       (find (λ d. bytes_eq d.name of) p.devices)
 
   by_role : (role : Role) (of : List ℕ) (guest : ℕ) (c : Channel) → c.name ≡ of → (is_writer role && bytes_eq of name) ≡ false → Spares (window guest c.size (role_rights role) (channel c.name))
@@ -149,7 +133,7 @@ module _ (p : Source) (name : List ℕ) where
       let channels = filter_map (component_channel_window p s) c.channels in
       each_append Spares (provides ++ memory) channels
       (each_append Spares provides memory
-      (each_map Spares (λ (x : Provided). window x.virtual_address x.size x.rights (provided s.name x.logical)) (λ x. never (allows x.rights Write)) c.provides)
+      (each_map Spares (λ (x : Provided). window x.virtual_address x.size x.rights (provided s.name x.logical)) (λ x. and-false (allows x.rights Write)) c.provides)
       (each_some Spares (required_window p s) (on_required s) c.memory))
       (each_made Spares (λ (x : ComponentChannel). IfSome (option_map (end_of x) (entry_of s.component x.logical)) (λ e. is_end e ≡ false)) (component_channel_window p s) (on_its_channel s) c.channels
       (some_none is_end (λ (x : ComponentChannel). option_map (end_of x) (entry_of s.component x.logical)) c.channels h))
@@ -175,7 +159,7 @@ module _ (p : Source) (name : List ℕ) where
       (each_made Spares (λ (c : ChannelUse). is_end (end_by c) ≡ false) (λ (c : ChannelUse). channel_window p c.channel c.virtual_address c.role) (λ c h. on_channel c.channel c.virtual_address c.role h) q.channels (any_none is_end end_by q.channels ends.0)))
       (each_flat Spares (λ (d : DeviceUse). filter_map (device_window p d.device) d.memory) (λ d. each_some Spares (device_window p d.device) (on_device d.device) d.memory) q.devices))
       (on_component q (component_by p q.component) ends.1))
-      (each_map Spares monitor_window (λ (m : Monitor). never (allows m.rights Write)) q.monitors))
+      (each_map Spares monitor_window (λ (m : Monitor). and-false (allows m.rights Write)) q.monitors))
 
   in_domains : (ds : List Domain) → list_any (λ d. are_writable (domain_windows p d) (channel name)) ds ≡ false
   in_domains [] = refl

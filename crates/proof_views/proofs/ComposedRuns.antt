@@ -1,8 +1,8 @@
 -- The joint run is put together of the runs of its subjects alone.
-use Rattle.std.proofs.Common.{◌≡◌, ℕ, zero, suc, Bool, true, false, cond, List, [], ◌∷◌, Option, Some, None, refl, sym, ap, subst, ◌∙◌}
+use Rattle.std.proofs.Common.{◌≡◌, ℕ, zero, suc, true, false, List, [], ◌∷◌, Option, Some, None, refl, sym, ap, subst, ◌∙◌}
 use Rattle.std.specs.Prelude.{◌==◌, IsTrue, not, slice_get}
 use Rattle.std.specs.List.{All, cons_option, find, list_any}
-use Rattle.std.proofs.lemmas.Bool.{and_from, and_parts, eq-eqb, eqb-true, false_from_ne_true, not-true, or_from, or_left, or_parts, or_right, true≢false}
+use Rattle.std.proofs.lemmas.Bool.{and_parts, eq-eqb, eqb-true, false_from_ne_true, not-true, or_left, or_right, true≢false}
 use Rattle.std.proofs.lemmas.List.Elements.{recursion_from_All}
 use Rattle.subject_model.specs.Frames.{slot_in}
 use Rattle.subject_model.specs.Run.{Ran, Turned, after_lines, all_taken, begun, run_to, tick_ran, turns}
@@ -32,6 +32,7 @@ use Rattle.proof_views.proofs.LinesOfViews.{order_distinct}
 use Rattle.proof_views.proofs.MonitorCpus.{MonitorsKept, monitors_kept}
 use Rattle.proof_views.proofs.OwnLines.{found_so, turn_on}
 use Rattle.proof_views.proofs.OwnStates.{IsOwn, begun_stays, others_turn, own_stays}
+use Rattle.proof_views.proofs.TickParts.{before_distinct}
 
 module _ (p : Source) (alone : Subject → ℕ → OwnState) where
   -- ---- a tick up to its turns
@@ -89,29 +90,6 @@ module _ (p : Source) (alone : Subject → ℕ → OwnState) where
         (own s is (or_right (c == s.cpu) (list_any (λ c. c == s.cpu) cs) there))) in
         ap (λ (t : Turned System TurnLine). record { lines = cons_option t.line (turns (composed alone p) tick cs t.state).lines; state = (turns (composed alone p) tick cs t.state).state }) same
         ∙ ap (λ (b : Ran System TurnLine). record { lines = cons_option turned.line b.lines; state = b.state }) rest
-
--- ---- those before a CPU
-
-any_before : (test : ℕ → Bool) (cpu : ℕ) (order : List ℕ) → list_any test order ≡ false → list_any test (before cpu order) ≡ false
-any_before test cpu [] none = refl
-any_before test cpu (c ∷ cs) none =
-    let parts = or_parts (test c) (list_any test cs) none in
-    let later = any_before test cpu cs parts.1 in
-    elim (c == cpu) as (λ b. list_any test (cond b [] (c ∷ before cpu cs)) ≡ false) [
-      | true ↦ refl
-      | false ↦ or_from (test c) (list_any test (before cpu cs)) parts.0 later
-    ]
-
-before_distinct : (cpu : ℕ) (order : List ℕ) → are_distinct order ≡ true → are_distinct (before cpu order) ≡ true
-before_distinct cpu [] once = refl
-before_distinct cpu (c ∷ cs) once =
-    let parts = and_parts (not (list_any (λ m. m == c) cs)) (are_distinct cs) once in
-    let later = before_distinct cpu cs parts.1 in
-    let out = any_before (λ m. m == c) cpu cs (not-true (list_any (λ m. m == c) cs) parts.0) in
-    elim (c == cpu) as (λ b. are_distinct (cond b [] (c ∷ before cpu cs)) ≡ true) [
-      | true ↦ refl
-      | false ↦ and_from (not (list_any (λ m. m == c) (before cpu cs))) (are_distinct (before cpu cs)) (ap not out) later
-    ]
 
 -- ---- a run
 

@@ -16,11 +16,11 @@ use Rattle.policy_lawful.specs.source.Source.{Source}
 use Rattle.policy_lawful.specs.source.Subject.{Subject}
 use Rattle.subject_model.specs.TurnLine.{TurnLine}
 use Rattle.subject_model.specs.TurnAction.{TurnAction}
-use Rattle.subject_model.proofs.PolicyFacts.{found_passes}
 use Rattle.subject_model.specs.Alone.{own_of, solo_turn}
 use Rattle.subject_model.specs.System.{System, inbox_of, line_at, subject_named, system_turn}
 use Rattle.proof_views.specs.Members.{AreListed, HasTurn, lists}
 use Rattle.muen_num.proofs.Each.{mapped}
+use Rattle.muen_num.proofs.Lookups.{found_passes}
 use Rattle.proof_views.proofs.Kept.{turn_cases}
 use Rattle.proof_views.proofs.SlotCpus.{slot_here}
 

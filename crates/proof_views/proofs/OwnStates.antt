@@ -27,6 +27,7 @@ use Rattle.subject_model.specs.System.{System, answered, change_thing, inbox_of,
 use Rattle.subject_model.proofs.DeviceWrites.{line_things, page_stays}
 use Rattle.subject_model.proofs.StartLists.{named_map}
 use Rattle.subject_model.proofs.KeyLaws.{cases_thing, names_apart, things_apart, value_changed, value_other}
+use Rattle.subject_model.proofs.SystemLaws.{stored_elsewhere}
 use Rattle.proof_views.specs.AloneRun.{alters, on_page, started_alone}
 use Rattle.proof_views.specs.Members.{AreListed}
 use Rattle.proof_views.proofs.Kept.{acted, turn_cases}
@@ -62,11 +63,6 @@ pub store_msrs : (o : Option (Stored Thing)) (y : System) → (with_store o y).m
 store_msrs None y = refl
 store_msrs (Some w) y = refl
 
-store_stays : (s : Subject) (o : Option (Stored Thing)) (y : System) → StoresElsewhere s o → thing_in (with_store o y).things (state s.name) ≡ thing_in y.things (state s.name)
-store_stays s None y h = refl
-store_stays s (Some w) y h =
-    value_other same_thing w.target (state s.name) (λ old. over old w.offset w.bytes) y.things (things_apart w.target (state s.name) h)
-
 -- ---- the answer of another subject, and its own
 
 other_msrs : (p : Source) (s q : Subject) (a : TurnAnswer) (y : System) → (q.name ≡ s.name → ⊥) → named (answered p q a y).msrs s.name ≡ named y.msrs s.name
@@ -85,7 +81,7 @@ other_answer p s q a y ne elsewhere =
     let own : System = with_own q.name a.state a.msr y in
     record {
       page = ap (λ things. thing_in things (state s.name)) (by_raised p q a.raised (took q.name a.taken (with_store a.stored own))).things
-          ∙ store_stays s a.stored own elsewhere
+          ∙ stored_elsewhere s a.stored own elsewhere
           ∙ own_page_stays s q a y ne;
       msrs = other_msrs p s q a y ne;
     }
@@ -131,7 +127,7 @@ own_answer p s a y mine h elsewhere =
     let page = page_there (thing_in y.things (state s.name)) mine.state h.state in
     record {
       state = ap (λ things. option_map state_in (thing_in things (state s.name))) rest.things
-          ∙ ap (option_map state_in) (store_stays s a.stored own elsewhere
+          ∙ ap (option_map state_in) (stored_elsewhere s a.stored own elsewhere
           ∙ value_changed same_thing (state s.name) (λ _. page_bytes a.state) y.things
           ∙ ap (option_map (λ _. page_bytes a.state)) page.1);
       msrs = ap (λ ms. named ms s.name) rest.msrs

@@ -1,16 +1,16 @@
 -- The group of a slot is on the CPU that has the slot, in the plan of a lawful policy.
-use Rattle.std.proofs.Common.{◌≡◌, ℕ, ◌-◌, Bool, true, false, cond, List, [], ◌∷◌, Option, Some, None, refl, sym, ap, subst, ◌∙◌}
+use Rattle.std.proofs.Common.{◌≡◌, ℕ, ◌-◌, Bool, true, false, List, [], ◌∷◌, Option, Some, None, refl, sym, ap, subst, ◌∙◌}
 use Rattle.std.specs.Prelude.{◌==◌, ◌&&◌, nat_lt, length, option_and_then, option_map, position, slice_get}
 use Rattle.std.specs.Option.{option_map_or}
-use Rattle.std.specs.List.{cons_option, filter_map, find, flat_map, list_all, position_or_len}
+use Rattle.std.specs.List.{cons_option, filter_map, find, flat_map, list_all}
 use Rattle.std.specs.Str.{bytes_eq}
 use Rattle.std.proofs.lemmas.Bool.{and_from, and_parts, eqb-true}
-use Rattle.std.proofs.lemmas.List.Folds.{find_at}
 use Rattle.std.proofs.lemmas.Option.{slice_get-map}
 use Rattle.subject_model.specs.Frames.{slot_in}
 use Rattle.subject_model.specs.frame_at.FrameAt.{FrameAt}
 use Rattle.subject_model.specs.Slot.{Slot, frame_slots}
 use Rattle.muen_num.proofs.Lists.{found_among, passes_at}
+use Rattle.muen_num.proofs.Lookups.{at_position, found_passes}
 use Rattle.muen_num.specs.Frame.{Frame}
 use Rattle.muen_num.specs.Range.{numbers_below}
 use Rattle.policy_lawful.proofs.KeptMajors.{MajorsKept, first_ticks, has_frames, is_major_kept, is_named}
@@ -21,7 +21,6 @@ use Rattle.policy_lawful.specs.source.Group.{Group}
 use Rattle.policy_lawful.specs.source.MajorFrame.{MajorFrame}
 use Rattle.policy_lawful.specs.source.MinorFrame.{MinorFrame}
 use Rattle.policy_lawful.specs.source.Source.{Source}
-use Rattle.subject_model.proofs.PolicyFacts.{found_passes}
 use Rattle.subject_model.proofs.SlotGroups.{at_slot}
 
 -- whether this group is there, and on this CPU
@@ -29,14 +28,6 @@ abbrev pub is_here : Source → ℕ → ℕ → Bool
 is_here p cpu group = option_map_or (λ g. g.cpu == cpu) (slice_get p.scheduling.groups group) false
 
 -- ---- the minor frames of a CPU
-
--- what stands at the index of the first that passes is that
-at_first : {X : Type 0} (test : X → Bool) (xs : List X) (k : ℕ) → position test xs ≡ Some k → slice_get xs k ≡ find test xs
-at_first test xs k is =
-    elim (nat_lt (position_or_len test xs) (length xs)) as (λ b. cond b (Some (position_or_len test xs)) None ≡ Some k → slice_get xs k ≡ find test xs) [
-      | true ↦ λ e. let same : position_or_len test xs ≡ k = cc (e) in sym (find_at test xs ∙ ap (slice_get xs) same)
-      | false ↦ λ e. absurd (cc (e))
-    ] is
 
 module _ (p : Source) (cpu : ℕ) where
   on_cpu : (o : Option Group) → is_on (option_map (λ g. g.cpu) o) cpu ≡ true → option_map_or (λ g. g.cpu == cpu) o false ≡ true
@@ -49,7 +40,7 @@ module _ (p : Source) (cpu : ℕ) where
   frame_here f None is h fs all = all
   frame_here f (Some n) is h fs all =
       let on = (and_parts (nat_lt 0 f.ticks) (is_on (group_cpu p f.group) cpu) h).1 in
-      let there = at_first (λ g. bytes_eq g.name f.group) p.scheduling.groups n is in
+      let there = at_position (λ g. bytes_eq g.name f.group) p.scheduling.groups n is in
       and_from (is_here p cpu n) (list_all (λ f. is_here p cpu f.group) fs)
       (subst (λ o. option_map_or (λ g. g.cpu == cpu) o false ≡ true) (sym there) (on_cpu (find (λ g. bytes_eq g.name f.group) p.scheduling.groups) on)) all
 

@@ -19,12 +19,13 @@ use Rattle.subject_model.specs.System.{System, answered, change_thing, first_pag
 use Rattle.subject_model.proofs.DeviceWrites.{page_stays}
 use Rattle.subject_model.proofs.KeyLaws.{cases_thing, things_apart, value_changed, value_other}
 use Rattle.subject_model.proofs.StartLists.{made_behind, states_map}
+use Rattle.subject_model.proofs.NoPages.{pages_apart}
 use Rattle.proof_views.specs.Pages.{IsStatePage}
 use Rattle.proof_views.specs.AloneRun.{is_altered}
 use Rattle.proof_views.proofs.Unmoved.{by_irq, by_raised}
 use Rattle.subject_model.specs.Laws.{StoresElsewhere}
 use Rattle.proof_views.proofs.Kept.{run_keeps}
-use Rattle.proof_views.proofs.Untouched.{pages_apart, solo_elsewhere}
+use Rattle.proof_views.proofs.Untouched.{solo_elsewhere}
 
 -- a state, and that the page under this name is that of it
 abbrev Paged : List ℕ → Things → Type 0

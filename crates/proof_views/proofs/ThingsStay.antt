@@ -1,7 +1,7 @@
 -- What a turn, an input and a run leave of a thing that they may not change.
 use Rattle.std.proofs.Common.{◌≡◌, ℕ, zero, suc, ◌-◌, ◌<◌, ◌≤◌, Bool, true, false, cond, List, [], ◌∷◌, Option, Some, None, refl, sym, ap, subst, ◌∙◌, inl, inr, arith}
 use Rattle.std.specs.Prelude.{◌==◌, ◌&&◌, filter, option_and_then, option_map, slice_get}
-use Rattle.std.specs.List.{cons_option, find, list_any}
+use Rattle.std.specs.List.{find, list_any}
 use Rattle.std.specs.Option.{IfSome}
 use Rattle.std.specs.Str.{bytes_eq}
 use Rattle.std.proofs.lemmas.Bool.{and_from, cases_Bool, cases_eq, eq-eqb, false_from_ne_true, or_left, or_parts, or_right, true≢false}
@@ -11,6 +11,7 @@ use Rattle.subject_model.specs.reach.Reach.TheVariants.{Reached}
 use Rattle.machine_layout.specs.Memory.{over}
 use Rattle.muen_num.proofs.Each.{if_some}
 use Rattle.muen_num.proofs.Members.{In, any_in, find_in}
+use Rattle.muen_num.proofs.Lists.{none_cons}
 use Rattle.muen_num.specs.declared.access.AccessKind.TheVariants.{Write}
 use Rattle.policy_lawful.proofs.KeptMajors.{MajorsKept}
 use Rattle.policy_lawful.proofs.KeptMembers.{MembersKept}
@@ -158,15 +159,11 @@ turn_stores p cpu tick y s first st h x page =
     ap (λ (t : Turned System TurnLine). thing_in t.state.things x) (turn_is p cpu tick y s first st h)
     ∙ own_lands p s x page (solo_turn (own_of p s) (record { state = st; msrs = h.values }) (inbox_of p y s first tick)) y
 
-some_not : {X : Type 0} (test : X → Bool) (o : Option X) (xs : List X) → list_any test (cons_option o xs) ≡ false → IfSome o (λ x. test x ≡ false) × (list_any test xs ≡ false)
-some_not test None xs h = (tt, h)
-some_not test (Some x) xs h = or_parts (test x) (list_any test xs) h
-
 pub turns_leave : (p : Source) (tick : ℕ) (x : Thing) (cpus : List ℕ) (y : System) → list_any (λ q. may_change p q x) (acting p tick cpus y) ≡ false → thing_in (turns (system p) tick cpus y).state.things x ≡ thing_in y.things x
 turns_leave p tick x [] y h = refl
 turns_leave p tick x (cpu ∷ cpus) y h =
     let next : System = (system_turn p cpu tick y).state in
-    let parts = some_not (λ q. may_change p q x) (whose_turn p cpu tick y) (acting p tick cpus next) h in
+    let parts = none_cons (λ q. may_change p q x) (whose_turn p cpu tick y) (acting p tick cpus next) h in
     turns_leave p tick x cpus next parts.1 ∙ turn_leaves p cpu tick y x parts.0
 
 -- ---- inputs

@@ -61,7 +61,7 @@ through_its cpu (c ∷ cs) there =
     ] refl there
 
 -- of the CPUs before one
-before_none : (test : ℕ → Bool) (cpu : ℕ) (order : List ℕ) → list_any test order ≡ false → list_any test (before cpu order) ≡ false
+pub before_none : (test : ℕ → Bool) (cpu : ℕ) (order : List ℕ) → list_any test order ≡ false → list_any test (before cpu order) ≡ false
 before_none test cpu [] none = refl
 before_none test cpu (c ∷ cs) none =
     let parts = or_parts (test c) (list_any test cs) none in

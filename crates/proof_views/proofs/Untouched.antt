@@ -1,16 +1,15 @@
--- No thing of a policy is a state page, and a subject whose monitors may not write one has no other window through which it
--- could; so it doesn't store there.
-use Rattle.std.proofs.Common.{◌≡◌, ℕ, ◌-◌, Bool, true, false, cond, List, [], ◌∷◌, ◌++◌, map, Option, Some, None, refl, sym, subst, ◌∙◌, inl, inr}
+-- A subject whose monitors may not write a state page has no other window through which it could; so it doesn't store there.
+use Rattle.std.proofs.Common.{◌≡◌, ℕ, ◌-◌, Bool, true, false, cond, List, [], ◌∷◌, ◌++◌, map, Option, Some, None, refl, sym, subst, ◌∙◌}
 use Rattle.std.specs.Prelude.{option_map, unwrap_or}
 use Rattle.std.specs.List.{AllByRecursion, filter_map, find, flat_map, list_any}
 use Rattle.std.specs.Option.{IfSome}
 use Rattle.std.specs.Str.{bytes_eq}
-use Rattle.std.proofs.lemmas.Bool.{and_from, cases_Bool, or_parts, true≢false}
+use Rattle.std.proofs.lemmas.Bool.{and_from, or_parts, true≢false}
 use Rattle.std.proofs.lemmas.Slice.Eq.{bytes_eq-Decides}
 use Rattle.subject_model.specs.Step.{Answer, Stored, step}
 use Rattle.subject_model.specs.reach.Reach.TheVariants.{Reached}
 use Rattle.muen_num.specs.declared.access.AccessKind.TheVariants.{Write}
-use Rattle.policy_lawful.specs.Thing.{Thing, channel, component_by, device_memory, provided, region, same_thing, state, things_of}
+use Rattle.policy_lawful.specs.Thing.{Thing, channel, component_by, device_memory, provided, region, state}
 use Rattle.policy_lawful.specs.Windows.{Access, Window, access_by, access_of, byte, channel_window, component_channel_window, component_windows, device_window, entry_of, holds, monitor_window, region_window, required_window, role_rights, violation, window, windows_of}
 use Rattle.policy_lawful.specs.Rights.{allows}
 use Rattle.policy_lawful.specs.rights.Rights.{Rights}
@@ -35,15 +34,10 @@ use Rattle.subject_model.specs.SubjectState.{SubjectState}
 use Rattle.subject_model.specs.Alone.{Inbox, Own, OwnState, alone, own_of, reach_by, solo_turn, stepped, unless_delivered, vector_for, waits}
 use Rattle.subject_model.specs.Laws.{StoresElsewhere}
 use Rattle.subject_model.specs.System.{subject_named}
-use Rattle.subject_model.proofs.KeyLaws.{same_things}
 use Rattle.subject_model.proofs.StepLaws.{step_stored}
+use Rattle.subject_model.proofs.NoPages.{NoPage}
 use Rattle.muen_num.proofs.Each.{chained, each_append, each_flat, each_map, each_some, found, mapped}
 use Rattle.proof_views.specs.AloneRun.{alters, is_altered}
-use Rattle.policy_lawful.proofs.Items.{provided_by, things_are}
-
--- it is the state page of no subject
-abbrev pub NoPage : Thing → Type 0
-NoPage x = (name : List ℕ) → x ≡ state name → ⊥
 
 -- a window on none
 abbrev pub ShowsNoPage : Window Thing → Type 0
@@ -52,38 +46,6 @@ ShowsNoPage w = NoPage w.thing
 -- a window through which the state page of this name can't be written
 abbrev pub SparesPage : List ℕ → Window Thing → Type 0
 SparesPage name w = allows w.rights Write ≡ true → w.thing ≡ state name → ⊥
-
--- ---- the things of a policy
-
-no_provided : (name : List ℕ) (o : Option Component) → AllByRecursion NoPage (provided_by name o)
-no_provided name None = tt
-no_provided name (Some c) = each_map NoPage (λ (x : Provided). provided name x.logical) (λ x n e. cc (e)) c.provides
-
-things_no_page : (p : Source) → AllByRecursion NoPage (things_of p)
-things_no_page p =
-    let regions = map (λ (r : Region). region r.name) p.memory in
-    let channels = map (λ (c : Channel). channel c.name) p.channels in
-    let brought = flat_map (λ (s : Subject). provided_by s.name (component_by p s.component)) p.subjects in
-    let devices = flat_map (λ (d : Device). map (λ (m : DeviceMemory). device_memory d.name m.name) d.memory) p.devices in
-    subst (AllByRecursion NoPage) (sym (things_are p))
-    (each_append NoPage (regions ++ channels ++ brought) devices
-    (each_append NoPage (regions ++ channels) brought
-    (each_append NoPage regions channels
-    (each_map NoPage (λ (r : Region). region r.name) (λ r n e. cc (e)) p.memory)
-    (each_map NoPage (λ (c : Channel). channel c.name) (λ c n e. cc (e)) p.channels))
-    (each_flat NoPage (λ (s : Subject). provided_by s.name (component_by p s.component)) (λ s. no_provided s.name (component_by p s.component)) p.subjects))
-    (each_flat NoPage (λ (d : Device). map (λ (m : DeviceMemory). device_memory d.name m.name) d.memory)
-    (λ d. each_map NoPage (λ (m : DeviceMemory). device_memory d.name m.name) (λ m n e. cc (e)) d.memory) p.devices))
-
-none_same : (name : List ℕ) (xs : List Thing) → AllByRecursion NoPage xs → list_any (λ y. same_thing y (state name)) xs ≡ false
-none_same name [] h = refl
-none_same name (x ∷ xs) h =
-    let later = none_same name xs h.1 in
-    elim (cases_Bool (same_thing x (state name))) [ inl e ↦ absurd (h.0 name (same_things x (state name) e)) | inr n ↦ rw n later ]
-
--- a state page is not among them
-pub pages_apart : (p : Source) (name : List ℕ) → list_any (λ y. same_thing y (state name)) (things_of p) ≡ false
-pages_apart p name = none_same name (things_of p) (things_no_page p)
 
 -- ---- the windows of a subject
 

@@ -1,12 +1,11 @@
 -- One line more: what the reader makes of it, and what the definition says.
-use Rattle.std.proofs.Common.{◌≡◌, ℕ, ◌+◌, Bool, true, false, not, cond, List, [], ◌∷◌, ◌++◌, length, map, Option, Some, None, Result, Ok, Err, is_some, find, position, option_map, option_and_then, unwrap_or, nat_lt, nat_le, refl, sym, ap, ap₂, ◌∙◌, append_assoc, append-nil, inl, inr, arith}
+use Rattle.std.proofs.Common.{◌≡◌, ℕ, ◌+◌, Bool, true, false, not, List, [], ◌∷◌, ◌++◌, length, map, Option, Some, None, Result, Ok, Err, is_some, find, position, option_map, option_and_then, unwrap_or, nat_lt, nat_le, refl, sym, ap, ap₂, ◌∙◌, append_assoc, append-nil, inl, inr}
 use Rattle.std.specs.Prelude.{◌==◌, ◌&&◌, ◌||◌, ◌⊎◌, if◌then◌else◌}
-use Rattle.std.specs.List.{list_any, position_or_len}
+use Rattle.std.specs.List.{list_any}
 use Rattle.std.specs.Option.{option_map_or}
 use Rattle.std.specs.Str.{bytes_eq}
-use Rattle.std.proofs.lemmas.Bool.Decides.{nat_tests}
 use Rattle.std.proofs.lemmas.List.{map_push}
-use Rattle.record_text.specs.Bench.{bench_device, bench_of, has_bytes, has_irq, has_port, is_known}
+use Rattle.record_text.specs.Bench.{BenchDevice, bench_device, bench_of, has_bytes, has_irq, has_port, is_known}
 use Rattle.record_text.specs.DeviceRecord.{DeviceRecord, NamedInput, port_input, memory_input, irq_input, dma_input}
 use Rattle.record_text.specs.Made.{grown, made_line, made_says, made_with, standing_of, with_end, with_input, with_order}
 use Rattle.record_text.specs.Resolving.{bytes_in, irq_of, is_in_span, memory_of, order_at, resolved, resolved_at, resolved_input, port_of, raised}
@@ -20,6 +19,9 @@ use Rattle.record_text.specs.declared.devices.Devices.{Devices}
 use Rattle.record_text.specs.declared.devices.RecordIrq.{RecordIrq}
 use Rattle.record_text.specs.declared.devices.RecordMemory.{RecordMemory}
 use Rattle.muen_num.specs.declared.devices.PortSpan.{PortSpan}
+use Rattle.muen_num.proofs.Lists.{find-map}
+use Rattle.muen_num.proofs.Options.{is_some-option_map, some_if}
+use Rattle.muen_num.proofs.Lookups.{found_number}
 use Rattle.record_text.specs.declared.fault.LineWant.{LineWant}
 use Rattle.record_text.specs.declared.fault.LineWant.TheVariants.{Order as OrderWant}
 use Rattle.record_text.specs.declared.fault.RecordFault.{RecordFault}
@@ -33,21 +35,9 @@ use Rattle.record_text.specs.declared.record.Record.{Record}
 
 -- ---- what is on the bench is what is resolved
 
-find-map : {X Y : Type 0} (f : X → Y) (p : Y → Bool) (xs : List X) → find p (map f xs) ≡ option_map f (find (λ x. p (f x)) xs)
-find-map f p [] = refl
-find-map f p (x ∷ xs) =
-    elim (p (f x)) as (λ b. cond b (Some (f x)) (find p (map f xs)) ≡ option_map f (cond b (Some x) (find (λ x. p (f x)) xs))) [
-      | true ↦ refl
-      | false ↦ find-map f p xs
-    ]
-
 list_any-map : {X Y : Type 0} (f : X → Y) (p : Y → Bool) (xs : List X) → list_any p (map f xs) ≡ list_any (λ x. p (f x)) xs
 list_any-map f p [] = refl
 list_any-map f p (x ∷ xs) = ap (λ b. p (f x) || b) (list_any-map f p xs)
-
-some_if : {X : Type 0} (b : Bool) (x : X) → is_some (if b then Some x else None) ≡ b
-some_if true x = refl
-some_if false x = refl
 
 port_known : (port value : ℕ) (o : Option RecordDevice) → option_map_or (has_port port) (option_map bench_device o) false ≡ is_some (option_and_then (port_of port value) o)
 port_known port value None = refl
@@ -64,46 +54,31 @@ memory_known : (memory : List ℕ) (offset : ℕ) (bytes : List ℕ) (o : Option
     → option_map_or (has_bytes memory offset (length bytes)) (option_map bench_device o) false ≡ is_some (option_and_then (memory_of memory offset bytes) o)
 memory_known memory offset bytes None = refl
 memory_known memory offset bytes (Some d) =
-    ap (λ o. option_map_or (λ (m : List ℕ × ℕ). nat_le (offset + length bytes) m.1) o false) (find-map (λ (m : RecordMemory). (m.name, m.bytes)) (λ m. bytes_eq m.0 memory) d.memories)
+    ap (λ o. option_map_or (λ (m : List ℕ × ℕ). nat_le (offset + length bytes) m.1) o false) (find-map (λ (m : List ℕ × ℕ). bytes_eq m.0 memory) (λ (m : RecordMemory). (m.name, m.bytes)) d.memories)
     ∙ bytes_known offset bytes (find (λ m. bytes_eq m.name memory) d.memories)
-
-some-map : {X Y : Type 0} (f : X → Y) (o : Option X) → is_some (option_map f o) ≡ is_some o
-some-map f None = refl
-some-map f (Some x) = refl
 
 irq_known : (irq : List ℕ) (o : Option RecordDevice) → option_map_or (has_irq irq) (option_map bench_device o) false ≡ is_some (option_and_then (irq_of irq) o)
 irq_known irq None = refl
 irq_known irq (Some d) =
-    ap is_some (find-map (λ (i : RecordIrq). i.name) (λ name. bytes_eq name irq) d.irqs)
-    ∙ some-map (λ (i : RecordIrq). i.name) (find (λ i. bytes_eq i.name irq) d.irqs)
-    ∙ sym (some-map (λ (i : RecordIrq). raised i.target) (find (λ i. bytes_eq i.name irq) d.irqs))
-
-found_position : {X : Type 0} (p : X → Bool) (xs : List X) → nat_lt (position_or_len p xs) (length xs) ≡ is_some (find p xs)
-found_position p [] = refl
-found_position p (x ∷ xs) =
-    elim (p x) as (λ b. nat_lt (cond (not b) (1 + position_or_len p xs) 0) (length (x ∷ xs)) ≡ is_some (cond b (Some x) (find p xs))) [
-      | true ↦ grind (arith, nat_tests)
-      | false ↦ let e : nat_lt (1 + position_or_len p xs) (length (x ∷ xs)) ≡ nat_lt (position_or_len p xs) (length xs) = grind (arith, nat_tests) in e ∙ found_position p xs
-    ]
-
-found_number : {X : Type 0} (p : X → Bool) (xs : List X) → is_some (position p xs) ≡ is_some (find p xs)
-found_number p xs = some_if (nat_lt (position_or_len p xs) (length xs)) (position_or_len p xs) ∙ found_position p xs
+    ap is_some (find-map (λ name. bytes_eq name irq) (λ (i : RecordIrq). i.name) d.irqs)
+    ∙ is_some-option_map (λ (i : RecordIrq). i.name) (find (λ i. bytes_eq i.name irq) d.irqs)
+    ∙ sym (is_some-option_map (λ (i : RecordIrq). raised i.target) (find (λ i. bytes_eq i.name irq) d.irqs))
 
 pub known_is : (devices : Devices) (input : NamedInput) → is_known (bench_of devices) input ≡ is_some (resolved_input devices input)
 known_is devices (port_input device port value) =
-    ap (λ o. option_map_or (has_port port) o false) (find-map bench_device (λ d. bytes_eq d.name device) devices.devices)
+    ap (λ o. option_map_or (has_port port) o false) (find-map (λ (d : BenchDevice). bytes_eq d.name device) bench_device devices.devices)
     ∙ port_known port value (find (λ d. bytes_eq d.name device) devices.devices)
 known_is devices (memory_input device memory offset bytes) =
-    ap (λ o. option_map_or (has_bytes memory offset (length bytes)) o false) (find-map bench_device (λ d. bytes_eq d.name device) devices.devices)
+    ap (λ o. option_map_or (has_bytes memory offset (length bytes)) o false) (find-map (λ (d : BenchDevice). bytes_eq d.name device) bench_device devices.devices)
     ∙ memory_known memory offset bytes (find (λ d. bytes_eq d.name device) devices.devices)
 known_is devices (irq_input device irq) =
-    ap (λ o. option_map_or (has_irq irq) o false) (find-map bench_device (λ d. bytes_eq d.name device) devices.devices)
+    ap (λ o. option_map_or (has_irq irq) o false) (find-map (λ (d : BenchDevice). bytes_eq d.name device) bench_device devices.devices)
     ∙ irq_known irq (find (λ d. bytes_eq d.name device) devices.devices)
 known_is devices (dma_input device addr bytes) =
-    ap is_some (find-map bench_device (λ d. bytes_eq d.name device) devices.devices)
-    ∙ some-map bench_device (find (λ d. bytes_eq d.name device) devices.devices)
+    ap is_some (find-map (λ (d : BenchDevice). bytes_eq d.name device) bench_device devices.devices)
+    ∙ is_some-option_map bench_device (find (λ d. bytes_eq d.name device) devices.devices)
     ∙ sym (found_number (λ (d : RecordDevice). bytes_eq d.name device) devices.devices)
-    ∙ sym (some-map _ (position (λ d. bytes_eq d.name device) devices.devices))
+    ∙ sym (is_some-option_map _ (position (λ d. bytes_eq d.name device) devices.devices))
 
 -- ---- one line more
 

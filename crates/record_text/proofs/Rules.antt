@@ -241,7 +241,7 @@ pub record IsRuled (bench : Bench) (s : Standing) (e : Entry) : Type 0 where
   pub order : FitsOrder s e
   pub known : IsKnown bench e
 
-in_line-Ok : {X : Type 0} (n : ℕ) (r : Result X LineWant) (x : X) → in_line n r ≡ Ok x → r ≡ Ok x
+pub in_line-Ok : {X : Type 0} (n : ℕ) (r : Result X LineWant) (x : X) → in_line n r ≡ Ok x → r ≡ Ok x
 in_line-Ok n (Ok y) x h = let same : y ≡ x = cc in ap (λ y. Ok y) same
 in_line-Ok n (Err want) x h = cc
 

@@ -1,9 +1,10 @@
 -- The ticks of the orders that were read.
-use Rattle.std.proofs.Common.{◌≡◌, ℕ, suc, ◌-◌, ◌≤◌, Bool, true, false, List, [], ◌∷◌, ◌++◌, length, map, Option, slice_get, refl, sym, ap, ◌∙◌, arith}
+use Rattle.std.proofs.Common.{◌≡◌, ℕ, suc, ◌-◌, ◌≤◌, Bool, false, List, [], ◌∷◌, ◌++◌, length, map, Option, slice_get, refl, sym, ap, ◌∙◌, arith}
 use Rattle.std.specs.Prelude.{◌==◌, ◌||◌}
 use Rattle.std.specs.List.{list_any}
 use Rattle.std.specs.Option.{option_map_or}
 use Rattle.std.proofs.lemmas.Bool.{ne_eqb, eqb-false, or_parts}
+use Rattle.std.proofs.Math.Bool.{or-false}
 use Rattle.record_text.specs.Made.{RisesTo}
 use Rattle.record_text.specs.declared.record.TickOrder.{TickOrder}
 
@@ -24,13 +25,9 @@ last_is tick [] = false
 last_is tick (t ∷ []) = t == tick
 last_is tick (t ∷ u ∷ ts) = last_is tick (u ∷ ts)
 
-or_none : (b : Bool) → (b || false) ≡ b
-or_none true = refl
-or_none false = refl
-
 any_is_last : (tick : ℕ) (ts : List ℕ) → RisesTo tick ts → list_any (λ t. t == tick) ts ≡ last_is tick ts
 any_is_last tick [] h = refl
-any_is_last tick (t ∷ []) h = or_none (t == tick)
+any_is_last tick (t ∷ []) h = or-false (t == tick)
 any_is_last tick (t ∷ u ∷ ts) h =
     let later = first_within tick u ts h.1 in
     let before : (t == tick) ≡ false = ne_eqb t tick (λ e. omega (arith, h.0, later, e)) in

@@ -1,18 +1,16 @@
 -- A placement keeps each region inside one block, and no two share an address.
-use Rattle.std.proofs.Common.{◌≡◌, ℕ, zero, suc, ◌+◌, ◌<◌, ◌≤◌, ◌⊎◌, inl, inr, true, List, [], ◌∷◌, ◌++◌, length, get_or, map, Some, refl, sym, ap, subst, ◌∙◌, arith}
+use Rattle.std.proofs.Common.{◌≡◌, ℕ, zero, suc, ◌+◌, ◌<◌, ◌≤◌, ◌⊎◌, inl, inr, true, List, [], ◌∷◌, length, get_or, map, Some, refl, sym, ap, subst, ◌∙◌, arith}
 use Rattle.std.specs.Prelude.{Result, Ok, Err, slice_get}
 use Rattle.std.specs.List.{AllZip, find, list_any}
 use Rattle.std.specs.Option.{option_map_or}
-use Rattle.std.proofs.Math.ListN.{get_or-append}
-use Rattle.std.proofs.Math.Seq.{get_or-append_seam}
-use Rattle.std.proofs.lemmas.Bool.{cases_lt, eqb-true}
-use Rattle.std.proofs.lemmas.List.{length-map, map_push}
+use Rattle.std.proofs.lemmas.Bool.{eqb-true}
+use Rattle.std.proofs.lemmas.List.{length-map}
 use Rattle.std.proofs.lemmas.List.Elements.{All-nil}
 use Rattle.expand_kernel.specs.Expansion.{Expansion, IsExpanded}
 use Rattle.expand_kernel.specs.Regions.{regions_of}
 use Rattle.expand_kernel.specs.declared.region.Region.{Region}
-use Rattle.muen_num.proofs.Lists.{found}
-use Rattle.muen_num.proofs.NumbersBelow.{length_numbers}
+use Rattle.muen_num.proofs.Lists.{found, each_numbered}
+use Rattle.muen_num.proofs.NumbersBelow.{length_numbers, mapped_at}
 use Rattle.muen_num.specs.Range.{numbers_below}
 use Rattle.policy_lawful.specs.Ranges.{in_a_block}
 use Rattle.policy_lawful.specs.Resolution.{Resolution, source_of}
@@ -20,7 +18,7 @@ use Rattle.policy_lawful.specs.source.Block.{Block}
 use Rattle.region_alloc.specs.Placed.{AreDisjoint, AreInside, IsPlaced}
 use Rattle.region_alloc.specs.Placement.{address_in, by_number, in_turn, placed_after, placement_in, placement_of}
 use Rattle.region_alloc.specs.declared.spot.Spot.{Spot}
-use Rattle.region_alloc.proofs.EachInTurn.{each_from_turns, each_in_turn, each_numbered, numbered_at}
+use Rattle.region_alloc.proofs.EachInTurn.{each_from_turns, each_in_turn, numbered_at}
 use Rattle.region_alloc.proofs.Sized.{placement_is}
 use Rattle.region_alloc.proofs.Spots.{AreWell, all_found, each_after, is_of, two_found, well_after}
 
@@ -28,20 +26,6 @@ use Rattle.region_alloc.proofs.Spots.{AreWell, all_found, each_after, is_of, two
 
 numbers_length : (f : ℕ → ℕ) (n : ℕ) → length (map f (numbers_below n)) ≡ n
 numbers_length f n = length-map (numbers_below n) f ∙ length_numbers n
-
-at_number : (f : ℕ → ℕ) (n i d : ℕ) → i < n → get_or (map f (numbers_below n)) i d ≡ f i
-at_number f zero i d l = absurd (omega arith)
-at_number f (suc n) i d l =
-    let before = map f (numbers_below n) in
-    let many : length before ≡ n = numbers_length f n in
-    ap (λ xs. get_or xs i d) (map_push f (numbers_below n) n)
-    ∙ elim (cases_lt i n) as (λ _. get_or (before ++ f n ∷ []) i d ≡ f i) [
-      | inl less ↦ get_or-append before (f n ∷ []) d i (omega (arith, many)) ∙ at_number f n i d less
-      | inr more ↦
-          let last : i ≡ length before = omega (arith, many) in
-          let same : n ≡ i = omega arith in
-          ap (λ k. get_or (before ++ f n ∷ []) k d) last ∙ get_or-append_seam before (f n) [] d ∙ ap f same
-    ]
 
 is_there : {X : Type 0} (xs : List X) (i : ℕ) (x : X) → slice_get xs i ≡ Some x → i < length xs
 is_there [] i x e = absurd (cc)
@@ -125,7 +109,7 @@ module _ (blocks : List Block) (regions : List Region) (addresses : List ℕ) (e
   parts = made (length regions) (placed_after blocks (in_turn regions) []) addresses e
 
   value_at : (i d : ℕ) → i < length regions → get_or addresses i d ≡ address_in parts.0 i
-  value_at i d l = ap (λ xs. get_or xs i d) parts.2 ∙ at_number (address_in parts.0) (length regions) i d l
+  value_at i d l = ap (λ xs. get_or xs i d) parts.2 ∙ mapped_at (address_in parts.0) (length regions) i d l
 
   many : length addresses ≡ length regions
   many = ap length parts.2 ∙ numbers_length (address_in parts.0) (length regions)

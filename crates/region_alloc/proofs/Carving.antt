@@ -5,6 +5,7 @@ use Rattle.std.specs.List.{flat_map, list_any}
 use Rattle.std.proofs.lemmas.Bool.{and_left, and_right, cases_lt, le-ltb, lt-leb, lt-ltb}
 use Rattle.std.proofs.lemmas.Bool.Decides.{nat_tests}
 use Rattle.std.proofs.lemmas.List.Folds.{list_all-append, list_any-append}
+use Rattle.std.proofs.Math.Bool.{or-false, and-true, and_assoc}
 use Rattle.muen_num.proofs.Lists.{list_any-map}
 use Rattle.policy_lawful.specs.source.Block.{Block}
 use Rattle.expand_kernel.specs.declared.region.Region.{Region}
@@ -24,18 +25,10 @@ is_clear q address size = nat_le (address + size) q.address || nat_le (q.address
 
 -- ---- tests
 
-or_false : (b : Bool) → (b || false) ≡ b
-or_false true = refl
-or_false false = refl
-
-and_true : (b : Bool) → (b && true) ≡ b
-and_true true = refl
-and_true false = refl
-
 -- within the left or within the right
 either_side : (a b c d : Bool) → ((a && (b && c)) || ((a && d) && b)) ≡ ((a && b) && (c || d))
 either_side true true true d = refl
-either_side true true false d = and_true d
+either_side true true false d = and-true d
 either_side true false c true = refl
 either_side true false c false = refl
 either_side false b c d = refl
@@ -43,12 +36,8 @@ either_side false b c d = refl
 or_under : (a b c : Bool) → ((a && c) || (b && c)) ≡ ((a || b) && c)
 or_under true true true = refl
 or_under true true false = refl
-or_under true false c = or_false c
+or_under true false c = or-false c
 or_under false b c = refl
-
-and_assoc : (a b c : Bool) → ((a && b) && c) ≡ (a && (b && c))
-and_assoc true b c = refl
-and_assoc false b c = refl
 
 le_min : (n a b : ℕ) → nat_le n (min a b) ≡ (nat_le n a && nat_le n b)
 le_min n a b = grind (arith, nat_tests)
@@ -62,7 +51,7 @@ holds_some : (start end address size : ℕ) → 0 < size → is_free (some_gap s
 holds_some start end address size some = elim (cases_lt start end) [
   | inl less ↦
       ap (λ b. is_free (cond b (record { start = start; end = end } ∷ []) []) address size) (lt-ltb _ _ less)
-      ∙ or_false (nat_le start address && nat_le (address + size) end)
+      ∙ or-false (nat_le start address && nat_le (address + size) end)
   | inr more ↦
       ap (λ b. is_free (cond b (record { start = start; end = end } ∷ []) []) address size) (le-ltb _ _ more)
       ∙ sym (elim (cases_lt address start) [
@@ -97,7 +86,7 @@ pub record AreRemaining (blocks : List Block) (spots : List Spot) (gaps : List G
 
 pub remaining_at_first : (blocks : List Block) → AreRemaining blocks [] (map gap_of blocks)
 remaining_at_first blocks = record {
-  so = λ address size some. list_any-map (λ g. holds g address size) gap_of blocks ∙ sym (and_true (in_a_block blocks address size));
+  so = λ address size some. list_any-map (λ g. holds g address size) gap_of blocks ∙ sym (and-true (in_a_block blocks address size));
 }
 
 pub remaining_then : (blocks : List Block) (spots : List Spot) (gaps : List Gap) (q : Spot) → AreRemaining blocks spots gaps → AreRemaining blocks (spots ++ q ∷ []) (flat_map (remaining_of q) gaps)
@@ -106,7 +95,7 @@ remaining_then blocks spots gaps q h = record {
       free_remaining q gaps address size some
       ∙ ap (λ b. b && is_clear q address size) (h.so address size some)
       ∙ and_assoc (in_a_block blocks address size) (is_apart spots address size) (is_clear q address size)
-      ∙ ap (λ b. in_a_block blocks address size && (is_apart spots address size && b)) (sym (and_true (is_clear q address size)))
+      ∙ ap (λ b. in_a_block blocks address size && (is_apart spots address size && b)) (sym (and-true (is_clear q address size)))
       ∙ ap (λ b. in_a_block blocks address size && b) (sym (list_all-append (λ q. is_clear q address size) spots (q ∷ [])));
 }
 

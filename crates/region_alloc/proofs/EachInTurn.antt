@@ -1,5 +1,5 @@
 -- What holds of each region holds of each in turn, and the other way round.
-use Rattle.std.proofs.Common.{◌≡◌, ℕ, zero, suc, ◌+◌, inl, inr, Bool, All, List, [], ◌∷◌, ◌++◌, Some, refl, subst, arith}
+use Rattle.std.proofs.Common.{◌≡◌, ℕ, zero, suc, ◌+◌, inl, inr, Bool, All, List, [], ◌∷◌, ◌++◌, Some, subst, arith}
 use Rattle.std.specs.Prelude.{filter, nat_le, not, slice_get}
 use Rattle.std.specs.List.{enumerate_from}
 use Rattle.std.proofs.lemmas.Bool.{cases_Bool}
@@ -87,13 +87,6 @@ each_from_turns P regions h =
     (from_in_order (λ x y. nat_le y.1.size x.1.size) P (filter (λ x. not (is_fixed x.1)) (enumerate_from 0 regions)) parts.1)
 
 -- ---- by number
-
-pub each_numbered : {X : Type 0} (P : ℕ × X → Type 0) (k : ℕ) (xs : List X) → ((i : ℕ) (x : X) → slice_get xs i ≡ Some x → P (k + i, x)) → All P (enumerate_from k xs)
-each_numbered P k [] h = All-nil P
-each_numbered P k (x ∷ xs) h =
-    let first : k + 0 ≡ k = omega arith in
-    All-cons P (k, x) (enumerate_from (k + 1) xs) (subst (λ n. P (n, x)) first (h 0 x refl))
-    (each_numbered P (k + 1) xs (λ i y e. let more : k + suc i ≡ (k + 1) + i = omega arith in subst (λ n. P (n, y)) more (h (suc i) y e)))
 
 pub numbered_at : {X : Type 0} (P : ℕ × X → Type 0) (k : ℕ) (xs : List X) → All P (enumerate_from k xs) → (i : ℕ) (x : X) → slice_get xs i ≡ Some x → P (k + i, x)
 numbered_at P k [] h i x e = absurd (cc)

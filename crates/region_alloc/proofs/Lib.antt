@@ -5,6 +5,7 @@ pub mod HasRoom
 pub mod Least
 pub mod Lowest
 pub mod Multiples
+pub mod OwnRegions
 pub mod Placing
 pub mod Rooms
 pub mod Sized

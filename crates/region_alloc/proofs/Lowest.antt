@@ -17,7 +17,7 @@ use Rattle.policy_lawful.specs.Ranges.{in_a_block}
 abbrev pub ends_well : Block → Type 0
 ends_well b = b.physical_address + b.size ≤ PHYSICAL_END
 
-block_end : (blocks : List Block) (address size : ℕ) → All ends_well blocks → in_a_block blocks address size ≡ true → address + size ≤ PHYSICAL_END
+pub block_end : (blocks : List Block) (address size : ℕ) → All ends_well blocks → in_a_block blocks address size ≡ true → address + size ≤ PHYSICAL_END
 block_end [] address size h k = absurd (cc)
 block_end (b ∷ blocks) address size h k =
     elim (or_cases (nat_le b.physical_address address && nat_le (address + size) (b.physical_address + b.size)) (in_a_block blocks address size) k) [

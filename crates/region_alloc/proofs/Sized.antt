@@ -1,13 +1,12 @@
 -- The blocks of a lawful policy end where physical memory does, and each of its regions has bytes and an alignment.
-use Rattle.std.proofs.Common.{◌≡◌, ℕ, ◌<◌, inl, inr, Bool, true, All, List, [], ◌∷◌, map, Option, Some, None, refl, ap, arith, sym, subst}
+use Rattle.std.proofs.Common.{◌≡◌, ℕ, ◌<◌, inl, inr, true, All, List, map, Option, Some, None, refl, ap, arith, sym, subst}
 use Rattle.std.specs.Prelude.{◌&&◌, ◌==◌, nat_lt}
-use Rattle.std.specs.List.{flat_map, list_all}
-use Rattle.std.specs.Str.{bytes_eq}
+use Rattle.std.specs.List.{flat_map}
 use Rattle.std.proofs.lemmas.Bool.{and_parts, eqb-true, leb-true, ltb-true, or_cases}
-use Rattle.std.proofs.lemmas.List.Elements.{All-append, All-cons, All-from_recursion, All-map, All-nil}
+use Rattle.std.proofs.lemmas.List.Elements.{All-append, All-from_recursion, All-map, All-nil}
 use Rattle.expand_kernel.specs.Pages.{ept_pages}
 use Rattle.expand_kernel.specs.Regions.{kernel_regions, kernel_regions_of, window_range, regions_of}
-use Rattle.muen_num.proofs.Lists.{found_among}
+use Rattle.muen_num.proofs.Lists.{all_passing, all_flat}
 use Rattle.muen_num.proofs.SearchLaws.{all_none, all_pass, none_both}
 use Rattle.muen_num.specs.Search.{first_in, unless}
 use Rattle.muen_num.specs.declared.limits.TheConstants.{LARGE_PAGE, PAGE}
@@ -17,11 +16,11 @@ use Rattle.policy_lawful.specs.Resolution.{Resolution, source_of}
 use Rattle.policy_lawful.specs.Rules.{component_offence, is_alignment, is_fixed, is_guest, is_laid, is_page_aligned, is_page_size, is_physical, offence_4}
 use Rattle.policy_lawful.specs.Thing.{component_by}
 use Rattle.policy_lawful.specs.Windows.{windows_of}
+use Rattle.policy_lawful.proofs.KeptAddresses.{brings, component_brings, used_brings}
 use Rattle.policy_lawful.proofs.KeptRules.{rules_of}
 use Rattle.policy_lawful.specs.source.Block.{Block}
 use Rattle.policy_lawful.specs.source.Channel.{Channel}
 use Rattle.policy_lawful.specs.source.Component.{Component}
-use Rattle.policy_lawful.specs.source.ComponentUse.{ComponentUse}
 use Rattle.policy_lawful.specs.source.Provided.{Provided}
 use Rattle.policy_lawful.specs.source.Region.{Region as SourceRegion}
 use Rattle.policy_lawful.specs.source.Source.{Source}
@@ -31,16 +30,6 @@ use Rattle.region_alloc.proofs.Lowest.{ends_well}
 use Rattle.region_alloc.proofs.Placing.{IsSized}
 use Rattle.expand_kernel.specs.ByIndex.{channel_region, own_region, provided_region, provided_regions}
 use Rattle.expand_kernel.proofs.ByKind.{regions_are}
-
-all_from : {X : Type 0} (p : X → Bool) (P : X → Type 0) → ((x : X) → p x ≡ true → P x) → (xs : List X) → list_all p xs ≡ true → All P xs
-all_from p P h [] k = All-nil P
-all_from p P h (x ∷ xs) k =
-    let both = and_parts (p x) (list_all p xs) k in
-    All-cons P x xs (h x both.0) (all_from p P h xs both.1)
-
-all_flat : {X Y : Type 0} (P : Y → Type 0) (f : X → List Y) → ((x : X) → All P (f x)) → (xs : List X) → All P (flat_map f xs)
-all_flat P f h [] = All-nil P
-all_flat P f h (x ∷ xs) = All-append P (f x) (flat_map f xs) (h x) (all_flat P f h xs)
 
 -- ---- what rule 4 says
 
@@ -72,23 +61,11 @@ physical_end b h = leb-true _ _ (and_parts (is_page_aligned b.physical_address &
 
 -- ---- by kind
 
-abbrev brings : Component → Bool
-brings c = list_all (λ x. is_guest x.virtual_address x.size) c.provides
-
-component_brings : (c : Component) → component_offence c ≡ None → brings c ≡ true
-component_brings c h =
-    all_pass (λ x. is_guest x.virtual_address x.size) (λ x. two c.name x.logical) c.provides
-    (none_both (first_in (λ x. unless (is_guest x.virtual_address x.size) (two c.name x.logical)) c.provides) _ h).0
-
 provided_sized : (subject : List ℕ) (c : Option Component) → ((x : Component) → c ≡ Some x → brings x ≡ true) → All IsSized (provided_regions subject c)
 provided_sized subject None h = All-nil IsSized
 provided_sized subject (Some c) h =
     All-map IsSized (provided_region subject) c.provides
-    (all_from (λ x. is_guest x.virtual_address x.size) (λ x. IsSized (provided_region subject x)) (sized_provided subject) c.provides (h c refl))
-
-used_brings : (p : Source) (used : Option ComponentUse) → list_all brings p.components ≡ true → (x : Component) → component_by p used ≡ Some x → brings x ≡ true
-used_brings p None all x e = absurd (cc)
-used_brings p (Some used) all x e = found_among (λ c. bytes_eq c.name used.used) brings p.components x e all
+    (all_passing (λ x. is_guest x.virtual_address x.size) (λ x. IsSized (provided_region subject x)) (sized_provided subject) c.provides (h c refl))
 
 kernel_sized : (subject : List ℕ) (pages : ℕ) → 0 < pages → All IsSized (kernel_regions subject pages)
 kernel_sized subject pages some =
@@ -109,8 +86,8 @@ regions_sized p h =
     let channels = none_both (first_in (λ c. unless (is_page_size c.size) (alone c.name)) p.channels) _ memory.1 in
     let components = none_both (first_in component_offence p.components) _ channels.1 in
     let brought = all_none brings component_offence component_brings p.components components.0 in
-    let own = All-map IsSized own_region p.memory (all_from is_laid (λ r. IsSized (own_region r)) sized_laid p.memory (all_pass is_laid (λ r. alone r.name) p.memory memory.0)) in
-    let ends = All-map IsSized channel_region p.channels (all_from (λ c. is_page_size c.size) (λ c. IsSized (channel_region c)) sized_channel p.channels (all_pass (λ c. is_page_size c.size) (λ c. alone c.name) p.channels channels.0)) in
+    let own = All-map IsSized own_region p.memory (all_passing is_laid (λ r. IsSized (own_region r)) sized_laid p.memory (all_pass is_laid (λ r. alone r.name) p.memory memory.0)) in
+    let ends = All-map IsSized channel_region p.channels (all_passing (λ c. is_page_size c.size) (λ c. IsSized (channel_region c)) sized_channel p.channels (all_pass (λ c. is_page_size c.size) (λ c. alone c.name) p.channels channels.0)) in
     let provided = all_flat IsSized (λ s. provided_regions s.name (component_by p s.component)) (λ s. provided_sized s.name (component_by p s.component) (used_brings p s.component brought)) p.subjects in
     let kernel = all_flat IsSized (kernel_regions_of p) (kernel_sized_of p) p.subjects in
     subst (All IsSized) (sym (regions_are p))
@@ -124,7 +101,7 @@ unfolding offence_4 source_of
 blocks_end r h =
     let p = source_of r in
     let blocks = none_both (first_in (λ b. unless (is_physical b.physical_address b.size) (alone b.name)) p.memory_blocks) _ (rules_of h).rule_4 in
-    all_from (λ b. is_physical b.physical_address b.size) ends_well physical_end p.memory_blocks
+    all_passing (λ b. is_physical b.physical_address b.size) ends_well physical_end p.memory_blocks
     (all_pass (λ b. is_physical b.physical_address b.size) (λ b. alone b.name) p.memory_blocks blocks.0)
 
 -- ---- a lawful policy's placement

@@ -79,7 +79,7 @@ two_found p q (x ∷ xs) s t other a b h = elim (cases_Bool (p x)) [
 
 -- ---- one region more
 
-least_passes : (p : ℕ → Bool) (n a : ℕ) → least_below p n ≡ Some a → p a ≡ true
+pub least_passes : (p : ℕ → Bool) (n a : ℕ) → least_below p n ≡ Some a → p a ≡ true
 unfolding least_below
 least_passes p zero a e = absurd (cc)
 least_passes p (suc n) a e =

@@ -3,7 +3,6 @@ use Rattle.std.proofs.Common.{◌≡◌, ℕ, ◌+◌, ◌<◌, Bool, true, List
 use Rattle.std.specs.Prelude.{◌==◌, ◌&&◌, ◌||◌, is_some, not, nat_le, slice_get}
 use Rattle.std.specs.List.{enumerate_from, list_all}
 use Rattle.std.specs.Str.{bytes_eq}
-use Rattle.std.proofs.lemmas.Bool.Decides.{nat_tests}
 use Rattle.std.proofs.lemmas.List.{length-map, get_or-map}
 use Rattle.std.proofs.lemmas.List.Folds.{list_all-append, list_all-map}
 use Rattle.std.proofs.lemmas.Option.{slice_get_within, get_or_from_slice_get}
@@ -11,17 +10,19 @@ use Rattle.muen_num.specs.Search.{first_in, unless}
 use Rattle.muen_num.specs.declared.mode.EventMode.{EventMode}
 use Rattle.muen_num.proofs.Lists.{all_true}
 use Rattle.muen_num.proofs.SameAnswers.{first_numbered_same, list_all_same}
+use Rattle.muen_num.proofs.Numbers.{at_least_one}
 use Rattle.policy_lawful.specs.MoreRules as rules
 use Rattle.policy_lawful.specs.MoreRules.{is_switch, offence_6, readers_of, writers_of}
 use Rattle.policy_lawful.specs.Offences.{alone}
 use Rattle.policy_lawful.specs.Resolution.{Resolution, IsResolved, name_at, source_of}
 use Rattle.policy_lawful.specs.Events.{ChannelEnd}
 use Rattle.policy_lawful.specs.source.Channel.{Channel}
+use Rattle.policy_lawful.proofs.UniqueNames.{channel_names}
 use Rattle.rules_channels.specs.ByIndex.{AreItems}
 use Rattle.rules_channels.specs.Channels.{channel_fault, fits_event, has_call, has_neither, is_apart, is_connected}
 use Rattle.rules_channels.specs.ChannelEnds.{all_readers, all_writers}
 use Rattle.rules_channels.specs.declared.channel_ends.Met.{Met}
-use Rattle.rules_channels.proofs.EndsByChannel.{channel_names, met_named, readers_same, writers_same}
+use Rattle.rules_channels.proofs.EndsByChannel.{met_named, readers_same, writers_same}
 
 -- what rule 6 asks of these writers and readers
 abbrev connected_by : List (List ℕ × ChannelEnd) → List (List ℕ × ChannelEnd) → Option EventMode → Bool
@@ -30,9 +31,6 @@ connected_by writers readers mode =
     && nat_le 1 (length readers)
     && list_all (λ w. list_all (λ r. not (bytes_eq r.0 w.0)) readers) writers
     && rules.fits_event writers readers mode
-
-at_least_one : (n : ℕ) → nat_le 1 n ≡ not (n == 0)
-at_least_one n = grind (arith, nat_tests)
 
 fits_same : (r : Resolution) (writers readers : List Met) (mode : Option EventMode) → rules.fits_event (map (met_named r) writers) (map (met_named r) readers) mode ≡ fits_event writers readers mode
 fits_same r writers readers None =

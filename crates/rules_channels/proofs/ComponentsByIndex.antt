@@ -13,14 +13,14 @@ use Rattle.policy_lawful.specs.MoreRules as rules
 use Rattle.policy_lawful.specs.MoreRules.{are_within, offence_7}
 use Rattle.policy_lawful.specs.Offences.{two}
 use Rattle.policy_lawful.specs.Resolution.{Resolution, IsResolved, component_named, component_in_range, entry_named, entry_in_range, source_of, subject_named, subject_in_range}
-use Rattle.policy_lawful.specs.Rules.{logical_names, repeated}
+use Rattle.policy_lawful.specs.Rules.{repeated}
 use Rattle.policy_lawful.specs.declared.resolved.ComponentUse.{ComponentUse}
 use Rattle.policy_lawful.specs.declared.resolved.MapEntry.{MapEntry}
 use Rattle.policy_lawful.specs.declared.resolved.Wanted.{Wanted}
 use Rattle.policy_lawful.specs.declared.resolved.Wanted.TheVariants.{Memory as WantedMemory, Channel as WantedChannel}
 use Rattle.policy_lawful.proofs.Indexes.{found_at_index}
 use Rattle.policy_lawful.proofs.SourceElements.{parts_in_range}
-use Rattle.policy_lawful.proofs.UniqueNames.{logical_unique, unique}
+use Rattle.policy_lawful.proofs.UniqueNames.{regions_unique, unique, unique_logical}
 use Rattle.policy_lawful.specs.Thing.{component_by}
 use Rattle.policy_lawful.specs.source.Component.{Component}
 use Rattle.policy_lawful.specs.source.ComponentChannel.{ComponentChannel}
@@ -116,17 +116,9 @@ sized : {X : Type 0} (o : Option X) (test : X → Bool) (b : Bool) → (option_m
 sized None test b = refl
 sized (Some x) test b = refl
 
-regions_unique : (r : Resolution) → IsResolved r → repeated (map (λ x. x.name) r.memory) ≡ None
-unfolding source_of
-regions_unique r h = (unique (source_of r) h.names).regions
-
 channels_unique : (r : Resolution) → IsResolved r → repeated (map (λ x. x.name) r.channels) ≡ None
 unfolding source_of
 channels_unique r h = (unique (source_of r) h.names).channels
-
-unique_logical : (r : Resolution) → IsResolved r → (used : ℕ) (c : Component) → slice_get r.components used ≡ Some c → repeated (logical_names c) ≡ None
-unfolding source_of
-unique_logical r h used c is = logical_unique (source_of r) used c h.names is
 
 module _ (r : Resolution) (h : IsResolved r) (used : ComponentUse) (c : Component) (is : slice_get r.components used.used ≡ Some c) (in_range : list_all (λ e. entry_in_range r used.used e.logical e.physical) used.map ≡ true) where
   named : MapEntry → NamedEntry

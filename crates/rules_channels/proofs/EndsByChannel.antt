@@ -1,17 +1,17 @@
 -- The ends of a channel by names and by indexes.
-use Rattle.std.proofs.Common.{◌≡◌, ℕ, ◌<◌, Bool, true, false, cond, List, [], ◌∷◌, length, map, None, refl, sym, ap, ◌∙◌, arith}
+use Rattle.std.proofs.Common.{◌≡◌, ℕ, ◌<◌, true, List, length, map, refl, sym, ap, ◌∙◌, arith}
 use Rattle.std.specs.Prelude.{◌==◌, filter, nat_lt, not}
 use Rattle.std.specs.Str.{bytes_eq}
 use Rattle.std.proofs.lemmas.Bool.{ltb-true}
 use Rattle.std.proofs.lemmas.List.{length-map}
+use Rattle.muen_num.proofs.Lists.{filter-map}
 use Rattle.policy_lawful.specs.MoreRules as rules
 use Rattle.policy_lawful.specs.MoreRules.{is_writer, readers_of, writers_of}
 use Rattle.policy_lawful.specs.Resolution.{Resolution, IsResolved, name_at, source_of, subject_named, subject_in_range}
-use Rattle.policy_lawful.specs.Rules.{repeated}
 use Rattle.policy_lawful.specs.declared.resolved.Subject.{Subject as ResolvedSubject}
 use Rattle.policy_lawful.proofs.Indexes.{same_name}
 use Rattle.policy_lawful.proofs.SourceElements.{parts_in_range}
-use Rattle.policy_lawful.proofs.UniqueNames.{unique}
+use Rattle.policy_lawful.proofs.UniqueNames.{channel_names, channels_unique}
 use Rattle.policy_lawful.specs.Events.{ChannelEnd, channel_ends}
 use Rattle.policy_lawful.specs.Views.{channel_end_named, channel_ends_of}
 use Rattle.policy_lawful.specs.declared.view.IndexedEnd.{IndexedEnd}
@@ -23,16 +23,9 @@ use Rattle.rules_channels.specs.declared.channel_ends.Met.{Met}
 use Rattle.rules_channels.proofs.Items.{of_all, of_one}
 use Rattle.rules_channels.proofs.NotedItems.{items-filter}
 
-abbrev pub channel_names : Resolution → List (List ℕ)
-channel_names r = map (λ c. c.name) r.channels
-
 -- an end with the name of its subject
 abbrev pub met_named : Resolution → Met → List ℕ × ChannelEnd
 met_named r m = (m.party.name, channel_end_named r m.end)
-
-channels_unique : (r : Resolution) → IsResolved r → repeated (channel_names r) ≡ None
-unfolding source_of
-channels_unique r h = (unique (source_of r) h.names).channels
 
 same_channel : (r : Resolution) (j k : ℕ) → IsResolved r → nat_lt j (length r.channels) ≡ true → k < length r.channels → bytes_eq (name_at (channel_names r) j) (name_at (channel_names r) k) ≡ (j == k)
 same_channel r j k h ok within =
@@ -54,14 +47,6 @@ unfolding source_of
 channel_ends_same r k h within =
     of_all (subject_named r) (subject_in_range r) k (λ s. map (λ e. (s.name, e)) (filter (λ e. bytes_eq e.channel (name_at (channel_names r) k)) (channel_ends (source_of r) s))) (met_channel_ends r) (met_named r)
     (λ n s ok. of_subject r k n s h within ok) 0 r.subjects (parts_in_range r h.in_range).subjects
-
-filter-map : {X Y : Type 0} (test : Y → Bool) (f : X → Y) (xs : List X) → filter test (map f xs) ≡ map f (filter (λ x. test (f x)) xs)
-filter-map test f [] = refl
-filter-map {X} {Y} test f (x ∷ xs) =
-    elim (test (f x)) as (λ b. cond b (f x ∷ filter test (map f xs)) (filter test (map f xs)) ≡ map f (cond b (x ∷ filter (λ y. test (f y)) xs) (filter (λ y. test (f y)) xs))) [
-      | true ↦ ap (λ ys. f x ∷ ys) (filter-map test f xs)
-      | false ↦ filter-map test f xs
-    ]
 
 -- its writers
 pub writers_same : (r : Resolution) (k : ℕ) → IsResolved r → k < length r.channels → writers_of (source_of r) (name_at (channel_names r) k) ≡ map (met_named r) (items_at k (all_writers r))

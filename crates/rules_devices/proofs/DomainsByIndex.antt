@@ -1,5 +1,5 @@
 -- Rules 21 and 23 of a resolved policy are those of its source policy, whose domains and devices are the same.
-use Rattle.std.proofs.Common.{◌≡◌, ℕ, Bool, true, false, List, [], ◌∷◌, ◌++◌, map, Option, Some, None, refl, sym, ap, ◌∙◌}
+use Rattle.std.proofs.Common.{◌≡◌, ℕ, Bool, true, false, List, [], ◌∷◌, ◌++◌, map, Option, refl, sym, ap, ◌∙◌}
 use Rattle.std.specs.Prelude.{not, ◌||◌, option_map}
 use Rattle.std.specs.List.{flat_map, list_any}
 use Rattle.std.specs.Option.{option_or}
@@ -10,13 +10,13 @@ use Rattle.muen_num.specs.Search.{first_after, first_in, unless}
 use Rattle.muen_num.proofs.Lists.{all_true, list_any-map, map-map}
 use Rattle.muen_num.proofs.SameAnswers.{first_after-map}
 use Rattle.muen_num.proofs.SearchLaws.{first_over-map, option_or-None, option_or_assoc}
+use Rattle.muen_num.proofs.Options.{map_either}
 use Rattle.policy_lawful.specs.Domains as rules
 use Rattle.policy_lawful.specs.Domains.{offence_21, offence_23}
 use Rattle.policy_lawful.specs.Offences.{alone, two}
-use Rattle.policy_lawful.specs.Resolution.{Resolution, IsResolved, source_of}
+use Rattle.policy_lawful.specs.Resolution.{Resolution, source_of}
 use Rattle.policy_lawful.specs.Rules.{is_declared, repeated}
 use Rattle.policy_lawful.specs.declared.offence.Offence.{Offence}
-use Rattle.policy_lawful.proofs.UniqueNames.{unique}
 use Rattle.policy_lawful.specs.source.Domain.{Domain}
 use Rattle.rules_devices.specs.Domains.{domain_itself, domain_devices, domain_regions, first_repeat, has_bdf, domains_offence}
 use Rattle.rules_devices.specs.declared.listed.Listed.{Listed}
@@ -57,16 +57,12 @@ unless_mapped : {X O : Type 0} (t : Bool) (o : X → O) (x : X) → unless t (o 
 unless_mapped true o x = refl
 unless_mapped false o x = refl
 
-or_mapped : {X O : Type 0} (o : X → O) (a b : Option X) → option_or (option_map o a) (option_map o b) ≡ option_map o (option_or a b)
-or_mapped o None b = refl
-or_mapped o (Some x) b = refl
-
 again_after : (o : Listed → Offence) (before xs : List Listed) → first_after (again o) before xs ≡ option_map o (first_after (again (λ x. x)) before xs)
 again_after o before [] = refl
 again_after o before (x ∷ xs) =
     ap (λ a. option_or a (first_after (again o) (before ++ x ∷ []) xs)) (unless_mapped (not (list_any (λ b. bytes_eq b.name x.name) before)) o x)
     ∙ ap (option_or (option_map o (again (λ x. x) before x))) (again_after o (before ++ x ∷ []) xs)
-    ∙ or_mapped o (again (λ x. x) before x) (first_after (again (λ x. x)) (before ++ x ∷ []) xs)
+    ∙ sym (map_either o (again (λ x. x) before x) (first_after (again (λ x. x)) (before ++ x ∷ []) xs))
 
 -- the first repeat tells the offence
 pub repeat_offence : (xs : List Listed) → first_after (λ before x. unless (not (list_any (λ b. bytes_eq b.name x.name) before)) (two x.domain x.name)) [] xs ≡ option_map (λ x. two x.domain x.name) (first_repeat xs)
@@ -106,10 +102,6 @@ pub names_repeated : (ds : List Domain) → option_map (λ x. two x.domain x.nam
 names_repeated ds = sym (repeat_offence (map domain_itself ds)) ∙ names_again ds
 
 -- ---- rule 21
-
-pub devices_unique : (r : Resolution) → IsResolved r → repeated (map (λ d. d.name) r.devices) ≡ None
-unfolding source_of
-devices_unique r h = (unique (source_of r) h.names).devices
 
 pub domains_by_index : (r : Resolution) → domains_offence r.devices r.device_domains ≡ offence_21 (source_of r)
 unfolding offence_21 source_of

@@ -23,7 +23,7 @@ use Rattle.policy_lawful.specs.declared.resolved.DeviceUse.{DeviceUse}
 use Rattle.policy_lawful.specs.declared.resolved.Subject.{Subject}
 use Rattle.policy_lawful.proofs.Indexes.{same_name}
 use Rattle.policy_lawful.proofs.SourceElements.{parts_in_range}
-use Rattle.policy_lawful.proofs.UniqueNames.{parts_unique, unique}
+use Rattle.policy_lawful.proofs.UniqueNames.{devices_unique, parts_unique, unique}
 use Rattle.policy_lawful.specs.source.Device.{Device}
 use Rattle.policy_lawful.specs.source.DeviceUse.{DeviceUse as NamedUse}
 use Rattle.policy_lawful.specs.Counts.{times_among}
@@ -91,10 +91,6 @@ use_count p r k j d u h is within in_range on =
 name_of_device : (r : Resolution) (k : ℕ) (d : Device) → slice_get r.devices k ≡ Some d → name_at (map (λ d. d.name) r.devices) k ≡ d.name
 name_of_device r k d is =
     get_or-map (λ d. d.name) r.devices k d [] (slice_get_within r.devices k d is) ∙ ap (λ d. d.name) (get_or_from_slice_get r.devices k d d is)
-
-devices_unique : (r : Resolution) → IsResolved r → repeated (map (λ d. d.name) r.devices) ≡ None
-unfolding source_of
-devices_unique r h = (unique (source_of r) h.names).devices
 
 -- a use is of the device by its name just where it is by its index
 of_device : (r : Resolution) (k : ℕ) (d : Device) (u : DeviceUse) → IsResolved r → slice_get r.devices k ≡ Some d → device_in_range r u ≡ true → bytes_eq (device_named r u).device d.name ≡ (u.device == k)

@@ -1,38 +1,32 @@
 -- The windows of domains, as ranges of the devices' addresses.
 use Rattle.std.proofs.Common.{◌≡◌, ℕ, Bool, true, false, List, [], ◌∷◌, ◌++◌, map, Option, Some, None, refl, sym, ap, ◌∙◌}
-use Rattle.std.specs.Prelude.{◌&&◌, nat_lt, option_map}
+use Rattle.std.specs.Prelude.{nat_lt, option_map}
 use Rattle.std.specs.Option.{option_map_or, option_or}
 use Rattle.std.specs.List.{list_all}
 use Rattle.std.specs.Str.{bytes_eq}
-use Rattle.std.proofs.lemmas.Bool.{and_parts}
 use Rattle.std.proofs.lemmas.List.Folds.{list_all-map}
 use Rattle.muen_num.specs.Search.{first_after, first_in, first_pair, unless}
 use Rattle.muen_num.proofs.Lists.{each_from, found, list_any-map}
 use Rattle.muen_num.proofs.SearchLaws.{all_pass, option_or-None}
 use Rattle.policy_lawful.specs.Domains.{domain_overlap, offence_22}
 use Rattle.policy_lawful.specs.Offences.{two}
-use Rattle.policy_lawful.specs.Resolution.{Resolution, IsResolved, source_of}
-use Rattle.policy_lawful.specs.Rules.{are_apart, is_alignment, is_declared, is_fixed, is_laid, is_page_aligned, is_page_size, first_overlap, offence_4, overlapping, repeated}
+use Rattle.policy_lawful.specs.Resolution.{Resolution, source_of}
+use Rattle.policy_lawful.specs.Rules.{are_apart, is_declared, is_laid, first_overlap, offence_4, overlapping}
 use Rattle.policy_lawful.specs.declared.offence.Extent.{Extent}
 use Rattle.policy_lawful.specs.declared.offence.Offence.{Offence}
 use Rattle.policy_lawful.proofs.KeptAddresses.{addresses_kept}
-use Rattle.policy_lawful.proofs.UniqueNames.{unique}
 use Rattle.policy_lawful.specs.source.Domain.{Domain}
 use Rattle.policy_lawful.specs.source.Region.{Region}
+use Rattle.rules_extents.proofs.FixedByExtent.{one_sized}
 use Rattle.rules_devices.specs.Windows.{size_among, undeclared_in, window_extent, windows_offence}
 
 -- ---- sizes
-
-laid_sized : (r : Region) → is_laid r ≡ true → nat_lt 0 r.size ≡ true
-laid_sized r h =
-    let page = and_parts (is_page_size r.size) (is_alignment r.alignment) (and_parts (is_page_size r.size && is_alignment r.alignment) (is_fixed r r.physical_address) h).0 in
-    (and_parts (is_page_aligned r.size) (nat_lt 0 r.size) page.0).1
 
 -- a declared region has a size
 size_there : (regions : List Region) (name : List ℕ) → list_all is_laid regions ≡ true → is_declared (map (λ r. r.name) regions) name ≡ true → nat_lt 0 (size_among regions name) ≡ true
 size_there regions name laid declared =
     let at = found (λ r. bytes_eq r.name name) regions (sym (list_any-map (λ n. bytes_eq n name) (λ (r : Region). r.name) regions) ∙ declared) in
-    ap (λ o. nat_lt 0 (option_map_or (λ r. r.size) o 0)) at.is ∙ laid_sized at.item (at.among is_laid laid)
+    ap (λ o. nat_lt 0 (option_map_or (λ r. r.size) o 0)) at.is ∙ one_sized at.item (at.among is_laid laid)
 
 pub windows_sized : (regions : List Region) (d : Domain) → list_all is_laid regions ≡ true → undeclared_in regions d ≡ None → list_all (λ e. nat_lt 0 e.size) (map (window_extent regions) d.memory) ≡ true
 windows_sized regions d laid none =
@@ -69,10 +63,6 @@ unfolding first_overlap
 overlap_named by xs = sym (after_named by [] xs)
 
 -- ---- rule 22
-
-pub regions_unique : (r : Resolution) → IsResolved r → repeated (map (λ x. x.name) r.memory) ≡ None
-unfolding source_of
-regions_unique r h = (unique (source_of r) h.names).regions
 
 pub regions_laid : (r : Resolution) → offence_4 (source_of r) ≡ None → list_all is_laid r.memory ≡ true
 unfolding source_of

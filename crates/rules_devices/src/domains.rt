@@ -127,7 +127,7 @@ fn of_domains(
 }
 
 // The devices of a resolved policy, no two of which have the same name.
-#[tactic(auto, using(crate::proofs::DomainsByIndex::devices_unique))]
+#[tactic(auto, using(policy_lawful::proofs::UniqueNames::devices_unique))]
 fn unique_devices(policy: &Linked) -> &[Device]
     ensures value { result.now ≡ policy.now.devices }
     ensures unique { repeated (map (λ d. d.name) result.now) ≡ None }

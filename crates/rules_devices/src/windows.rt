@@ -204,7 +204,7 @@ fn of_windows(
 /// before it in its domain.
 ///
 /// Answers `NoMemory` where memory was refused.
-#[tactic(auto, using(crate::proofs::WindowsByExtent::regions_unique, crate::proofs::WindowsByExtent::regions_laid, crate::proofs::WindowsByExtent::windows_by_index))]
+#[tactic(auto, using(policy_lawful::proofs::UniqueNames::regions_unique, crate::proofs::WindowsByExtent::regions_laid, crate::proofs::WindowsByExtent::windows_by_index))]
 pub fn domain_windows(alloc: Global, policy: &Linked) -> Result<Option<Offence>, NoMemory>
     requires { offence_4 (source_of policy.now) ≡ None }
     ensures { IfOk result (λ o. o ≡ offence_22 (source_of policy.now)) }

@@ -6,25 +6,15 @@ use Rattle.std.proofs.lemmas.Bool.{and_from, and_parts, and_right, cases_lt, tru
 use Rattle.std.proofs.lemmas.Bool.Decides.{nat_tests}
 use Rattle.std.proofs.lemmas.List.{take_more, take-append-drop}
 use Rattle.std.proofs.lemmas.List.Folds.{list_all-append, list_any-append}
+use Rattle.std.proofs.Math.Bool.{or-false}
+use Rattle.muen_num.proofs.Numbers.{equal_turned}
 use Rattle.policy_lawful.specs.MoreRules.{are_distinct}
 use Rattle.rules_events.specs.Marks.{Marks}
 use Rattle.rules_events.specs.Numbers.{is_among, are_distinct_in, may_follow}
 
--- the same numbers compared the other way round
-turned : (m n : ℕ) → (m == n) ≡ (n == m)
-turned m n = grind (arith, nat_tests)
-
-or_false : (b : Bool) → (b || false) ≡ b
-or_false true = refl
-or_false false = refl
-
-and_true : (b : Bool) → (b && true) ≡ b
-and_true true = refl
-and_true false = refl
-
 -- one more number stands in a list
 among_push : (xs : List ℕ) (n k : ℕ) → is_among (xs ++ n ∷ []) k ≡ (is_among xs k || (n == k))
-among_push xs n k = list_any-append (λ m. m == k) xs (n ∷ []) ∙ ap (λ b. is_among xs k || b) (or_false (n == k))
+among_push xs n k = list_any-append (λ m. m == k) xs (n ∷ []) ∙ ap (λ b. is_among xs k || b) (or-false (n == k))
 
 sorted : (a b c d : Bool) → (not (a || b) && (c && not d)) ≡ ((not a && c) && not (b || d))
 sorted true b c d = refl
@@ -36,7 +26,7 @@ sorted false false false d = refl
 distinct_push : (xs : List ℕ) (n : ℕ) → are_distinct (xs ++ n ∷ []) ≡ (are_distinct xs && not (is_among xs n))
 distinct_push [] n = refl
 distinct_push (x ∷ xs) n =
-    ap (λ b. not b && are_distinct (xs ++ n ∷ [])) (among_push xs n x ∙ ap (λ b. is_among xs x || b) (turned n x))
+    ap (λ b. not b && are_distinct (xs ++ n ∷ [])) (among_push xs n x ∙ ap (λ b. is_among xs x || b) (equal_turned n x))
     ∙ ap (λ b. not (is_among xs x || (x == n)) && b) (distinct_push xs n)
     ∙ sorted (is_among xs x) (x == n) (are_distinct xs) (is_among xs n)
 
@@ -112,10 +102,11 @@ pub record Followed (now : List Bool) (first last : ℕ) (ns : List ℕ) (i : �
   pub marks : Noted now (take i ns)
   pub distinct : are_distinct_in first last (take i ns) ≡ true
 
-marked : (t b : Bool) → cond t true b ≡ (b || t)
+-- a mark is set, or it was
+pub marked : (t b : Bool) → cond t true b ≡ (b || t)
 marked true true = refl
 marked true false = refl
-marked false b = sym (or_false b)
+marked false b = sym (or-false b)
 
 -- one that follows
 pub followed : (marks new : List Bool) (first last : ℕ) (ns : List ℕ) (i d : ℕ) (b : Bool) → i < length ns → last < length marks → length new ≡ length marks → Followed marks first last ns i

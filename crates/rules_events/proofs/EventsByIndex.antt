@@ -1,23 +1,22 @@
 -- The sources and targets of events by names and by indexes, and rule 12.
-use Rattle.std.proofs.Common.{◌≡◌, ℕ, ◌+◌, ◌<◌, true, List, [], length, map, Some, None, get_or, sym, ap, ◌∙◌, refl, arith}
+use Rattle.std.proofs.Common.{◌≡◌, ℕ, ◌+◌, ◌<◌, true, List, [], length, map, Some, get_or, sym, ap, ◌∙◌, refl, arith}
 use Rattle.std.specs.Prelude.{◌==◌, ◌&&◌, not, filter, nat_le, nat_lt, slice_get}
 use Rattle.std.specs.List.{enumerate_from, flat_map}
 use Rattle.std.specs.Str.{bytes_eq}
 use Rattle.std.proofs.lemmas.Bool.{and_parts, ltb-true}
-use Rattle.std.proofs.lemmas.Bool.Decides.{nat_tests}
 use Rattle.std.proofs.lemmas.List.{length-map, get_or-map}
 use Rattle.std.proofs.lemmas.Option.{slice_get_within, get_or_from_slice_get}
 use Rattle.muen_num.specs.Search.{first_in, unless}
 use Rattle.muen_num.proofs.SameAnswers.{first_numbered_same}
+use Rattle.muen_num.proofs.Numbers.{at_least_one}
 use Rattle.policy_lawful.specs.MoreRules.{offence_12, sources_of, targets_of}
 use Rattle.policy_lawful.specs.Offences.{alone}
-use Rattle.policy_lawful.specs.Rules.{repeated}
 use Rattle.policy_lawful.specs.Resolution.{Resolution, IsResolved, name_at, source_of, subject_named, subject_in_range}
 use Rattle.policy_lawful.specs.declared.resolved.EventSource.{EventSource as ResolvedSource}
 use Rattle.policy_lawful.specs.declared.resolved.EventTarget.{EventTarget as ResolvedTarget}
 use Rattle.policy_lawful.proofs.Indexes.{same_name}
 use Rattle.policy_lawful.proofs.SourceElements.{parts_in_range}
-use Rattle.policy_lawful.proofs.UniqueNames.{unique}
+use Rattle.policy_lawful.proofs.UniqueNames.{event_names, events_unique}
 use Rattle.policy_lawful.specs.source.Event.{Event}
 use Rattle.policy_lawful.specs.source.EventSource.{EventSource}
 use Rattle.policy_lawful.specs.source.EventTarget.{EventTarget}
@@ -27,18 +26,11 @@ use Rattle.rules_channels.specs.Parties.{party, source_parties, target_parties, 
 use Rattle.rules_channels.specs.declared.parties.Party.{Party}
 use Rattle.rules_channels.proofs.Items.{of_all, of_one}
 
-abbrev pub event_names : Resolution → List (List ℕ)
-event_names r = map (λ x. x.name) r.events
-
 abbrev source_named : Resolution → ResolvedSource → EventSource
 source_named r e = record { event = name_at (event_names r) e.event; way = e.way }
 
 abbrev target_named : Resolution → ResolvedTarget → EventTarget
 target_named r e = record { event = name_at (event_names r) e.event; vector = e.vector }
-
-events_unique : (r : Resolution) → IsResolved r → repeated (event_names r) ≡ None
-unfolding source_of
-events_unique r h = (unique (source_of r) h.names).events
 
 -- two events by name or by index
 same_event : (r : Resolution) (j k : ℕ) → IsResolved r → nat_lt j (length r.events) ≡ true → k < length r.events → bytes_eq (name_at (event_names r) j) (name_at (event_names r) k) ≡ (j == k)
@@ -66,9 +58,6 @@ targets_same r k h within =
     0 r.subjects (parts_in_range r h.in_range).subjects
 
 -- ---- rule 12
-
-at_least_one : (n : ℕ) → nat_le 1 n ≡ not (n == 0)
-at_least_one n = grind (arith, nat_tests)
 
 pub name_of_event : (r : Resolution) (k : ℕ) (e : Event) → slice_get r.events k ≡ Some e → e.name ≡ name_at (event_names r) k
 name_of_event r k e at =

@@ -11,11 +11,13 @@ use Rattle.std.proofs.lemmas.List.Concat.{flat_map-cons}
 use Rattle.std.proofs.lemmas.List.Folds.{list_all-append, list_all-map, list_any-append}
 use Rattle.std.proofs.lemmas.Slice.Eq.{bytes_eq-Decides}
 use Rattle.std.proofs.lemmas.Option.{slice_get_within, get_or_from_slice_get}
+use Rattle.std.proofs.Math.Bool.{and-false, and-true, or-false}
 use Rattle.muen_num.specs.Search.{first_in, unless}
 use Rattle.muen_num.specs.declared.mode.EventMode.{EventMode}
 use Rattle.muen_num.specs.declared.mode.EventMode.TheVariants.{Asap, Async, Own, Switch}
-use Rattle.muen_num.proofs.Lists.{list_any-map, map-map}
+use Rattle.muen_num.proofs.Lists.{any_same, list_any-map, map-map}
 use Rattle.muen_num.proofs.SameAnswers.{both_numbered, first_in-map, first_numbered_same, list_all_same}
+use Rattle.muen_num.proofs.Lookups.{same_self}
 use Rattle.policy_lawful.specs.MoreRules as rules
 use Rattle.policy_lawful.specs.MoreRules.{channel_mode_offence, is_writer, mode_offence, offence_13, readers_of, some_group_lists, sources_of, targets_of, writers_of}
 use Rattle.policy_lawful.specs.Offences.{two}
@@ -23,9 +25,9 @@ use Rattle.policy_lawful.specs.Resolution.{Resolution, IsResolved, group_named, 
 use Rattle.policy_lawful.specs.Rules.{repeated}
 use Rattle.policy_lawful.specs.declared.resolved.Group.{Group as ResolvedGroup}
 use Rattle.policy_lawful.specs.declared.resolved.Subject.{Subject as ResolvedSubject}
-use Rattle.policy_lawful.proofs.Indexes.{same_name, same_self}
+use Rattle.policy_lawful.proofs.Indexes.{same_name}
 use Rattle.policy_lawful.proofs.SourceElements.{parts_in_range}
-use Rattle.policy_lawful.proofs.UniqueNames.{subject_names, subjects_unique}
+use Rattle.policy_lawful.proofs.UniqueNames.{channel_names, subject_names, subjects_unique}
 use Rattle.policy_lawful.specs.source.Channel.{Channel}
 use Rattle.policy_lawful.specs.source.Event.{Event}
 use Rattle.policy_lawful.specs.Views.{channel_ends_of}
@@ -37,17 +39,11 @@ use Rattle.rules_channels.specs.Parties.{party, source_parties, sources_at, targ
 use Rattle.rules_channels.specs.declared.channel_ends.Met.{Met}
 use Rattle.rules_channels.specs.declared.parties.Party.{Party}
 use Rattle.rules_channels.proofs.ChannelsByIndex.{name_of_channel}
-use Rattle.rules_channels.proofs.EndsByChannel.{channel_names, met_named, readers_same, writers_same}
+use Rattle.rules_channels.proofs.EndsByChannel.{met_named, readers_same, writers_same}
 use Rattle.rules_events.proofs.EventsByIndex.{name_of_event, sources_same, targets_same}
 use Rattle.rules_channels.proofs.NotedItems.{items-append}
 
 -- ---- lists
-
-any_same : {X : Type 0} (p q ok : X → Bool) → ((x : X) → ok x ≡ true → p x ≡ q x) → (xs : List X) → list_all ok xs ≡ true → list_any p xs ≡ list_any q xs
-any_same p q ok same [] all = refl
-any_same p q ok same (x ∷ xs) all =
-    let parts = and_parts (ok x) (list_all ok xs) all in
-    ap (λ b. b || list_any p xs) (same x parts.0) ∙ ap (λ b. q x || b) (any_same p q ok same xs parts.1)
 
 any_numbered : {X : Type 0} (f : ℕ × X → Bool) (h : X → Bool) (n : ℕ) (xs : List X) → ((k : ℕ) (x : X) → slice_get xs k ≡ Some x → f (n + k, x) ≡ h x) → list_any f (enumerate_from n xs) ≡ list_any h xs
 any_numbered f h n [] same = refl
@@ -117,23 +113,11 @@ of_groups test k n (g ∷ gs) =
 other_number : (m n : ℕ) → m < n → (n == m) ≡ false
 other_number m n l = grind (arith, nat_tests)
 
-and_false : (b : Bool) → (b && false) ≡ false
-and_false true = refl
-and_false false = refl
-
-or_false : (b : Bool) → (b || false) ≡ b
-or_false true = refl
-or_false false = refl
-
-and_true : (b : Bool) → (b && true) ≡ b
-and_true true = refl
-and_true false = refl
-
 none_later : (test : ResolvedGroup → Bool) (m n : ℕ) (gs : List ResolvedGroup) → m < n → list_any (λ x. test x.1 && (x.0 == m)) (enumerate_from n gs) ≡ false
 none_later test m n [] l = refl
 none_later test m n (g ∷ gs) l =
     ap (λ b. (test g && b) || list_any (λ x. test x.1 && (x.0 == m)) (enumerate_from (n + 1) gs)) (other_number m n l)
-    ∙ ap (λ b. b || list_any (λ x. test x.1 && (x.0 == m)) (enumerate_from (n + 1) gs)) (and_false (test g))
+    ∙ ap (λ b. b || list_any (λ x. test x.1 && (x.0 == m)) (enumerate_from (n + 1) gs)) (and-false (test g))
     ∙ none_later test m (n + 1) gs (omega arith)
 
 -- one group has this number
@@ -143,14 +127,14 @@ one_number test n zero (h ∷ gs) g is =
     let same : h ≡ g = cc in
     let here : (n == n + 0) ≡ true = eq-eqb n (n + 0) (omega arith) in
     ap (λ b. (test h && b) || list_any (λ x. test x.1 && (x.0 == n + 0)) (enumerate_from (n + 1) gs)) here
-    ∙ ap (λ b. b || list_any (λ x. test x.1 && (x.0 == n + 0)) (enumerate_from (n + 1) gs)) (and_true (test h))
+    ∙ ap (λ b. b || list_any (λ x. test x.1 && (x.0 == n + 0)) (enumerate_from (n + 1) gs)) (and-true (test h))
     ∙ ap (λ b. test h || b) (none_later test (n + 0) (n + 1) gs (omega arith))
-    ∙ or_false (test h) ∙ ap test same
+    ∙ or-false (test h) ∙ ap test same
 one_number test n (suc i) (h ∷ gs) g is =
     let other : (n == n + suc i) ≡ false = grind (arith, nat_tests) in
     let index : n + suc i ≡ n + 1 + i = omega arith in
     ap (λ b. (test h && b) || list_any (λ x. test x.1 && (x.0 == n + suc i)) (enumerate_from (n + 1) gs)) other
-    ∙ ap (λ b. b || list_any (λ x. test x.1 && (x.0 == n + suc i)) (enumerate_from (n + 1) gs)) (and_false (test h))
+    ∙ ap (λ b. b || list_any (λ x. test x.1 && (x.0 == n + suc i)) (enumerate_from (n + 1) gs)) (and-false (test h))
     ∙ ap (λ m. list_any (λ x. test x.1 && (x.0 == m)) (enumerate_from (n + 1) gs)) index
     ∙ one_number test (n + 1) i gs g is
 

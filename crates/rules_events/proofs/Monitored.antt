@@ -5,6 +5,7 @@ use Rattle.std.proofs.lemmas.Bool.{cases_lt}
 use Rattle.std.proofs.lemmas.List.{get_or_default, take_more}
 use Rattle.std.proofs.lemmas.List.Folds.{list_any-append}
 use Rattle.std.proofs.lemmas.Option.{slice_get_past}
+use Rattle.std.proofs.Math.Bool.{and-true, or-false}
 use Rattle.muen_num.specs.Search.{first_after}
 use Rattle.muen_num.proofs.FirstSteps.{first_after_step}
 use Rattle.policy_lawful.specs.declared.resolved.Monitor.{Monitor}
@@ -12,29 +13,21 @@ use Rattle.policy_lawful.specs.declared.resolved.Subject.{Subject}
 use Rattle.policy_lawful.specs.declared.offence.Offence.{Offence}
 use Rattle.rules_events.specs.Marks.{Marks}
 use Rattle.rules_events.specs.Monitors.{AreMarks, is_monitored, monitor_fault, monitor_offence, monitors_offence}
+use Rattle.rules_events.proofs.Distinct.{marked}
 
 -- what a loop keeps
 pub record Kept (now : List Bool) (subjects : List Subject) (s : Subject) (i : ℕ) : Type 0 where
   pub marks : AreMarks now (take i s.monitors)
   pub rest : first_after (monitor_offence subjects s) (take i s.monitors) (drop i s.monitors) ≡ monitors_offence subjects s
 
-or_false : (b : Bool) → (b || false) ≡ b
-or_false true = refl
-or_false false = refl
-
 monitored_push : (before : List Monitor) (m : Monitor) (k : ℕ) → is_monitored (before ++ m ∷ []) k ≡ (is_monitored before k || (m.subject == k))
-monitored_push before m k = list_any-append (λ b. b.subject == k) before (m ∷ []) ∙ ap (λ b. is_monitored before k || b) (or_false (m.subject == k))
+monitored_push before m k = list_any-append (λ b. b.subject == k) before (m ∷ []) ∙ ap (λ b. is_monitored before k || b) (or-false (m.subject == k))
 
 monitored_more : (ms : List Monitor) (i : ℕ) (m : Monitor) (k : ℕ) → i < length ms → m ≡ get_or ms i m → is_monitored (take (i + 1) ms) k ≡ (is_monitored (take i ms) k || (m.subject == k))
 monitored_more ms i m k within is =
     ap (λ xs. is_monitored xs k) (take_more ms i m within)
     ∙ monitored_push (take i ms) (get_or ms i m) k
     ∙ ap (λ x. is_monitored (take i ms) k || (x.subject == k)) (sym is)
-
-marked : (t b : Bool) → cond t true b ≡ (b || t)
-marked true true = refl
-marked true false = refl
-marked false b = sym (or_false b)
 
 -- one more mark
 pub marks_more : (old new : List Bool) (ms : List Monitor) (i : ℕ) (m : Monitor) → i < length ms → m ≡ get_or ms i m → length new ≡ length old → AreMarks old (take i ms) → Marks old new m.subject true → AreMarks new (take (i + 1) ms)
@@ -60,14 +53,10 @@ cleared_one : (t a b : Bool) → cond t false (a && not b) ≡ (a && not (b || t
 cleared_one true true true = refl
 cleared_one true true false = refl
 cleared_one true false b = refl
-cleared_one false a b = ap (λ c. a && not c) (sym (or_false b))
-
-and_true : (b : Bool) → b ≡ (b && true)
-and_true true = refl
-and_true false = refl
+cleared_one false a b = ap (λ c. a && not c) (sym (or-false b))
 
 pub no_monitor : (old : List Bool) (k : ℕ) → get_or old k false ≡ (get_or old k false && not (is_monitored [] k))
-no_monitor old k = and_true (get_or old k false)
+no_monitor old k = sym (and-true (get_or old k false))
 
 -- one more mark that is taken away
 pub clear_more : (first old new : List Bool) (ms : List Monitor) (i : ℕ) (m : Monitor) (k : ℕ) → i < length ms → m ≡ get_or ms i m → length old ≡ length first

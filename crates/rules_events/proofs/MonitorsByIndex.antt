@@ -5,9 +5,9 @@ use Rattle.std.specs.Option.{option_or}
 use Rattle.std.specs.List.{find, list_all, list_any}
 use Rattle.std.specs.Str.{bytes_eq}
 use Rattle.std.proofs.lemmas.Bool.{and_from, and_parts, ltb-true}
-use Rattle.std.proofs.lemmas.List.{length-map, map_push, get_or-map}
+use Rattle.std.proofs.lemmas.List.{length-map, map_push}
 use Rattle.std.proofs.lemmas.List.Folds.{list_all-append}
-use Rattle.std.proofs.lemmas.Option.{slice_get_within, get_or_from_slice_get}
+use Rattle.std.proofs.lemmas.Option.{slice_get_within}
 use Rattle.muen_num.specs.Search.{first_in, first_after, unless}
 use Rattle.muen_num.proofs.Lists.{find-map, option_map-option_map, there}
 use Rattle.muen_num.proofs.SameAnswers.{first_in-map}
@@ -21,6 +21,7 @@ use Rattle.policy_lawful.specs.declared.resolved.Subject.{Subject as ResolvedSub
 use Rattle.policy_lawful.proofs.Indexes.{found_at_index, same_name}
 use Rattle.policy_lawful.proofs.SourceElements.{parts_in_range}
 use Rattle.policy_lawful.proofs.UniqueNames.{subject_names, subjects_unique}
+use Rattle.policy_lawful.proofs.WindowsByIndex.{name_of_subject}
 use Rattle.policy_lawful.specs.source.Monitor.{Monitor}
 use Rattle.rules_events.specs.Monitors.{monitor_offence, monitors_offence, is_monitored}
 
@@ -58,10 +59,6 @@ cpu_at r k o unique is =
     ap (option_map (λ s. s.cpu)) (find-map (λ s. bytes_eq s.name (name_at (subject_names r) k)) (subject_named r) r.subjects)
     ∙ option_map-option_map (λ s. s.cpu) (subject_named r) (find (λ s. bytes_eq s.name (name_at (subject_names r) k)) r.subjects)
     ∙ ap (option_map (λ s. s.cpu)) (found_at_index (λ s. s.name) r.subjects k unique (slice_get_within r.subjects k o is) ∙ is)
-
-name_of_subject : (r : Resolution) (k : ℕ) (s : ResolvedSubject) → slice_get r.subjects k ≡ Some s → name_at (subject_names r) k ≡ s.name
-name_of_subject r k s at =
-    get_or-map (λ x. x.name) r.subjects k s [] (slice_get_within r.subjects k s at) ∙ ap (λ x. x.name) (get_or_from_slice_get r.subjects k s s at)
 
 one_monitor : (r : Resolution) (s : ResolvedSubject) (before : List ResolvedMonitor) (m : ResolvedMonitor) → repeated (subject_names r) ≡ None
     → list_all (λ m. nat_lt m.subject (length r.subjects)) before ≡ true → nat_lt m.subject (length r.subjects) ≡ true

@@ -1,16 +1,9 @@
 -- Two lists share an index in either order.
-use Rattle.std.proofs.Common.{◌≡◌, ℕ, Bool, true, false, List, [], ◌∷◌, refl, sym, ap, ◌∙◌, inl, inr, arith}
+use Rattle.std.proofs.Common.{◌≡◌, ℕ, Bool, true, false, List, [], ◌∷◌, refl, sym, ap, ◌∙◌, arith}
 use Rattle.std.specs.Prelude.{◌==◌, ◌||◌}
-use Rattle.std.proofs.lemmas.Bool.{cases_eq, eq-eqb, ne_eqb}
+use Rattle.muen_num.proofs.Numbers.{equal_turned}
 use Rattle.rules_events.specs.Listings.{AreKnown, share, stands_in}
 use Rattle.rules_events.specs.declared.listings.Shared.{Shared}
-
-equal_turned : (a b : ℕ) → (a == b) ≡ (b == a)
-equal_turned a b =
-    elim (cases_eq a b) as (λ _. (a == b) ≡ (b == a)) [
-      | inl same ↦ eq-eqb a b same ∙ sym (eq-eqb b a (sym same))
-      | inr other ↦ ne_eqb a b other ∙ sym (ne_eqb b a (λ same. other (sym same)))
-    ]
 
 pub none_shared : (xs : List ℕ) → share xs [] ≡ false
 none_shared [] = refl

@@ -40,7 +40,7 @@ fixed_blocks_apart r h =
     (none_both (first_pair overlapping (block_extents r.memory_blocks)) _
     (sym (first_pair-append overlapping (block_extents r.memory_blocks) (device_extents r.devices)) ∙ h)).0
 
-one_sized : (x : Region) → is_laid x ≡ true → nat_lt 0 x.size ≡ true
+pub one_sized : (x : Region) → is_laid x ≡ true → nat_lt 0 x.size ≡ true
 one_sized x h =
     let first = and_parts (is_page_size x.size && is_alignment x.alignment) (is_fixed x x.physical_address) h in
     (and_parts (is_page_aligned x.size) (nat_lt 0 x.size) (and_parts (is_page_size x.size) (is_alignment x.alignment) first.0).0).1

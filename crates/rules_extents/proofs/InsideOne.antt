@@ -10,6 +10,7 @@ use Rattle.std.proofs.lemmas.Bool.Decides.{nat_tests}
 use Rattle.std.proofs.lemmas.List.Elements.{All-map, All-weaker}
 use Rattle.std.proofs.lemmas.List.Sorted.{All-permutation, list_any-IsPermutation}
 use Rattle.std.proofs.lemmas.List.Sums.{AllPass-from_list_all}
+use Rattle.std.proofs.Math.Bool.{or-false}
 use Rattle.muen_num.proofs.Lists.{list_any-map}
 use Rattle.policy_lawful.specs.Rules.{first_overlap}
 use Rattle.policy_lawful.specs.declared.offence.Extent.{Extent}
@@ -25,14 +26,10 @@ none_pass : {X : Type 0} (p : X → Bool) (xs : List X) → ((k : ℕ) (d : X) �
 none_pass p [] h = refl
 none_pass p (x ∷ xs) h = ap (λ b. b || list_any p xs) (h 0 x (omega arith)) ∙ none_pass p xs (λ k d l. h (suc k) d (omega arith))
 
-or_false : (b : Bool) → (b || false) ≡ b
-or_false true = refl
-or_false false = refl
-
 one_passes : {X : Type 0} (p : X → Bool) (xs : List X) (n : ℕ) (d : X) → n < length xs → ((k : ℕ) (d : X) → k < length xs → (k ≡ n → ⊥) → p (get_or xs k d) ≡ false) → list_any p xs ≡ p (get_or xs n d)
 one_passes p [] n d l h = absurd (omega arith)
 one_passes p (x ∷ xs) zero d l h =
-    ap (λ b. p x || b) (none_pass p xs (λ k d l. h (suc k) d (omega arith) (λ e. absurd (omega arith)))) ∙ or_false (p x)
+    ap (λ b. p x || b) (none_pass p xs (λ k d l. h (suc k) d (omega arith) (λ e. absurd (omega arith)))) ∙ or-false (p x)
 one_passes p (x ∷ xs) (suc n) d l h =
     ap (λ b. b || list_any p xs) (h 0 x (omega arith) (λ e. absurd (omega arith)))
     ∙ one_passes p xs n d (omega arith) (λ k d l other. h (suc k) d (omega arith) (λ e. other (omega arith)))

@@ -1,8 +1,8 @@
 -- Each region is placed where a page begins.
-use Rattle.std.proofs.Common.{◌≡◌, ℕ, zero, suc, ◌%◌, ◌⊎◌, inl, inr, Bool, true, cond, All, List, [], ◌∷◌, ◌++◌, length, map, Option, Some, None, refl, sym, ap, ◌∙◌}
-use Rattle.std.specs.Prelude.{◌&&◌, ◌==◌, Ok, Err, if◌then◌else◌}
+use Rattle.std.proofs.Common.{◌≡◌, ℕ, ◌%◌, ◌⊎◌, inl, inr, Bool, cond, All, List, [], ◌∷◌, ◌++◌, length, map, Option, Some, None, refl, sym, ap, ◌∙◌}
+use Rattle.std.specs.Prelude.{◌&&◌, ◌==◌, Ok, Err}
 use Rattle.std.specs.List.{find}
-use Rattle.std.specs.Option.{option_map_or, option_or}
+use Rattle.std.specs.Option.{option_map_or}
 use Rattle.std.proofs.lemmas.Bool.{and_parts, cases_Bool}
 use Rattle.std.proofs.lemmas.List.Elements.{All-head, All-map, All-same, All-tail}
 use Rattle.expand_kernel.specs.Regions.{regions_of}
@@ -12,26 +12,12 @@ use Rattle.muen_num.specs.declared.limits.TheConstants.{PAGE, PHYSICAL_END}
 use Rattle.policy_lawful.specs.source.Block.{Block}
 use Rattle.policy_lawful.specs.source.Source.{Source}
 use Rattle.region_alloc.proofs.EachInTurn.{regions_in_turn}
-use Rattle.region_alloc.specs.Placement.{address_in, by_number, if_placed, in_turn, is_apart, is_room, least_below, lowest, placed_after, placement_in, placement_of, spot, suits}
+use Rattle.region_alloc.proofs.Spots.{least_passes}
+use Rattle.region_alloc.specs.Placement.{address_in, by_number, if_placed, in_turn, is_apart, is_room, lowest, placed_after, placement_in, placement_of, spot, suits}
 use Rattle.span_emit.proofs.KeptRegions.{IsWhole}
 use Rattle.policy_lawful.specs.Ranges.{in_a_block}
 
 -- ---- one region
-
-least_passes : (p : ℕ → Bool) (n a : ℕ) → least_below p n ≡ Some a → p a ≡ true
-unfolding least_below
-least_passes p zero a e = absurd (cc)
-least_passes p (suc n) a e =
-    elim (least_below p n) as (λ o. least_below p n ≡ o → option_or o (if p n then Some n else None) ≡ Some a → p a ≡ true) [
-      | Some b ↦ λ is k. let same : b ≡ a = cc in least_passes p n a (is ∙ ap (λ c. Some c) same)
-      | None ↦ λ is k. elim (cases_Bool (p n)) [
-        | inl passes ↦
-            let same : Some n ≡ Some a = sym (ap (λ b. if b then Some n else None) passes) ∙ k in
-            let here : n ≡ a = cc in
-            ap p (sym here) ∙ passes
-        | inr fails ↦ let none : None ≡ Some a = sym (ap (λ b. if b then Some n else None) fails) ∙ k in absurd (cc)
-      ]
-    ] refl e
 
 lowest_aligned : (blocks : List Block) (spots : _) (r : Region) (a : ℕ) → IsWhole r → lowest blocks spots r ≡ Some a → a % PAGE ≡ 0
 unfolding lowest is_room

@@ -1,19 +1,20 @@
 -- The spans of a placed policy, by their addresses, are those of an image.
-use Rattle.std.proofs.Common.{◌≡◌, ℕ, ◌+◌, ◌*◌, ◌%◌, ◌<◌, ◌≤◌, inl, inr, Bool, true, false, All, List, ◌++◌, length, refl, ap, ◌∙◌, subst, arith, length-append}
+use Rattle.std.proofs.Common.{◌≡◌, ℕ, ◌+◌, ◌*◌, ◌%◌, ◌<◌, ◌≤◌, inl, inr, Bool, true, false, All, List, ◌++◌, length, ap, ◌∙◌, subst, arith, length-append}
 use Rattle.std.specs.Prelude.{◌||◌, ◌==◌, ◌≢◌, nat_le, not}
 use Rattle.std.specs.List.{AllPairs, enumerate_from, sum_by, zip}
 use Rattle.std.specs.List.Sorted.{IsNonDecreasingBy, IsPermutation}
-use Rattle.std.proofs.lemmas.Bool.{eq-eqb, le-leb, leb-true, or_cases}
-use Rattle.std.proofs.lemmas.Bool.Decides.{nat_tests}
+use Rattle.std.proofs.lemmas.Bool.{eq-eqb, le-leb, leb-true, not-false, or_cases}
 use Rattle.std.proofs.lemmas.List.{length-map}
 use Rattle.std.proofs.lemmas.List.Elements.{All-append, All-weaker}
 use Rattle.std.proofs.lemmas.List.FromFn.{length-enumerate_from}
 use Rattle.std.proofs.lemmas.List.Sorted.{All-permutation, length_permutation, sum_by-IsPermutation}
 use Rattle.std.proofs.lemmas.List.Sums.{sum_by-append}
+use Rattle.std.proofs.Math.Bool.{or_comm}
 use Rattle.expand_kernel.specs.declared.region.Region.{Region}
 use Rattle.image_pack.specs.Codes.{is_device, is_part, part_code}
 use Rattle.image_pack.specs.SpanConditions.{AreSpans, Ascend, HaveDifferentNumbers, HaveRoom, device_pages_of, end_of}
 use Rattle.image_pack.specs.declared.parts.SpanPart.{SpanPart}
+use Rattle.muen_num.proofs.Numbers.{equal_turned}
 use Rattle.muen_num.specs.declared.limits.TheConstants.{PAGE, PHYSICAL_END}
 use Rattle.policy_lawful.specs.source.Block.{Block}
 use Rattle.policy_lawful.specs.source.Device.{Device}
@@ -33,30 +34,17 @@ use Rattle.policy_lawful.specs.Ranges.{in_a_block}
 abbrev clash : SpanPart → SpanPart → Bool
 clash a b = not (nat_le (end_of a) b.address || nat_le (end_of b) a.address)
 
-either_way : (p q : Bool) → not (p || q) ≡ not (q || p)
-either_way true true = refl
-either_way true false = refl
-either_way false true = refl
-either_way false false = refl
-
-passes : (b : Bool) → not b ≡ false → b ≡ true
-passes true h = refl
-passes false h = absurd (cc)
-
 no_clash : (a b : SpanPart) → AreApart a b → clash a b ≡ false
 no_clash a b (inl before) = ap (λ t. not (t || nat_le (end_of b) a.address)) (le-leb (end_of a) b.address before)
 no_clash a b (inr behind) =
     ap (λ t. not (nat_le (end_of a) b.address || t)) (le-leb (end_of b) a.address behind)
-    ∙ either_way (nat_le (end_of a) b.address) true
+    ∙ ap not (or_comm (nat_le (end_of a) b.address) true)
 
 apart_from : (a b : SpanPart) → clash a b ≡ false → AreApart a b
-apart_from a b h = elim (or_cases (nat_le (end_of a) b.address) (nat_le (end_of b) a.address) (passes _ h)) [
+apart_from a b h = elim (or_cases (nat_le (end_of a) b.address) (nat_le (end_of b) a.address) (not-false _ h)) [
   | inl before ↦ inl (leb-true _ _ before)
   | inr behind ↦ inr (leb-true _ _ behind)
 ]
-
-number_flips : (a b : ℕ) → (a == b) ≡ (b == a)
-number_flips a b = grind (arith, nat_tests)
 
 -- ---- each span
 
@@ -141,7 +129,7 @@ module _ (blocks : List Block) (devices : List Device) (regions : List Region) (
     all_apart : AllPairs AreApart ys
     all_apart =
         pairs_weaker (λ a b. clash a b ≡ false) AreApart apart_from ys
-        (pairs_permuted clash (λ a b. either_way (nat_le (end_of a) b.address) (nat_le (end_of b) a.address)) (rs ++ ds) ys p
+        (pairs_permuted clash (λ a b. ap not (or_comm (nat_le (end_of a) b.address) (nat_le (end_of b) a.address))) (rs ++ ds) ys p
         (pairs_weaker AreApart (λ a b. clash a b ≡ false) no_clash (rs ++ ds) apart))
 
     below : All (λ s. s.number < length ys) ys
@@ -155,7 +143,7 @@ module _ (blocks : List Block) (devices : List Device) (regions : List Region) (
     differ =
         pairs_weaker (λ a b. (a.number == b.number) ≡ false) (λ a b. a.number ≢ b.number)
         (λ a b no e. let yes = eq-eqb a.number b.number e in absurd (cc)) ys
-        (pairs_permuted (λ a b. a.number == b.number) (λ a b. number_flips a.number b.number) (rs ++ ds) ys p (numbered_differ 0 (rs ++ ds) numbered))
+        (pairs_permuted (λ a b. a.number == b.number) (λ a b. equal_turned a.number b.number) (rs ++ ds) ys p (numbered_differ 0 (rs ++ ds) numbered))
 
     -- by address
     module _ (up : IsNonDecreasingBy (λ s. s.address) ys) where

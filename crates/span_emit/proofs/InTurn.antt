@@ -1,17 +1,18 @@
 -- What is known while spans are made by number, one after another.
-use Rattle.std.proofs.Common.{◌≡◌, ◌⊎◌, inl, inr, ℕ, suc, ◌+◌, ◌/◌, ◌<◌, ◌≤◌, ◌^◌, All, List, [], ◌∷◌, ◌++◌, add-one, append_assoc, append-nil, drop, drop-cons, get_or, length, map, refl, sym, ap, ◌∙◌, subst, arith, length-append}
+use Rattle.std.proofs.Common.{◌≡◌, ◌⊎◌, inl, inr, ℕ, ◌+◌, ◌/◌, ◌<◌, ◌≤◌, ◌^◌, All, List, [], ◌∷◌, ◌++◌, append_assoc, append-nil, drop, get_or, length, map, refl, sym, ap, ◌∙◌, subst, arith, length-append}
 use Rattle.std.specs.List.{enumerate_from, zip}
 use Rattle.std.proofs.lemmas.List.{length-map, map-append}
-use Rattle.std.proofs.lemmas.List.Elements.{All-cons, All-head, All-map, All-nil, All-push, All-tail}
+use Rattle.std.proofs.lemmas.List.Elements.{All-head, All-map, All-nil, All-push, All-tail}
 use Rattle.std.proofs.lemmas.List.FromFn.{length-enumerate_from}
 use Rattle.expand_kernel.specs.declared.region.Region.{Region}
 use Rattle.image_pack.specs.declared.parts.SpanPart.{SpanPart}
+use Rattle.muen_num.proofs.Lists.{numbered_append, all_front, drop_more, all_unmapped}
 use Rattle.muen_num.specs.declared.limits.TheConstants.{PAGE}
 use Rattle.policy_lawful.specs.source.Device.{Device}
 use Rattle.policy_lawful.specs.source.DeviceMemory.{DeviceMemory}
 use Rattle.span_emit.specs.ByAddress.{HasNames}
 use Rattle.span_emit.specs.Spans.{device_span, memories_of, region_span, region_spans}
-use Rattle.span_emit.proofs.PairLaws.{all_second, all_unmapped}
+use Rattle.span_emit.proofs.PairLaws.{all_second}
 
 abbrev Named : SpanPart → Type 0
 Named s = HasNames s.tag
@@ -89,16 +90,6 @@ pub record Memories (all : List SpanPart) (left : List (List ℕ × DeviceMemory
   pub few : length made + length left ≤ 2 ^ 16
   pub small : All (λ x. x.1.size / PAGE < 2 ^ 32) left
 
-enumerate_both : {X : Type 0} (k : ℕ) (xs ys : List X) → enumerate_from k (xs ++ ys) ≡ enumerate_from k xs ++ enumerate_from (k + length xs) ys
-enumerate_both k [] ys = let e : k ≡ k + 0 = omega arith in ap (λ n. enumerate_from n ys) e
-enumerate_both k (x ∷ xs) ys =
-    let e : (k + 1) + length xs ≡ k + length (x ∷ xs) = omega arith in
-    ap (λ zs. (k, x) ∷ zs) (enumerate_both (k + 1) xs ys) ∙ ap (λ n. (k, x) ∷ enumerate_from (k + 1) xs ++ enumerate_from n ys) e
-
-all_first : {X : Type 0} (P : X → Type 0) (xs ys : List X) → All P (xs ++ ys) → All P xs
-all_first P [] ys h = All-nil P
-all_first P (x ∷ xs) ys h = All-cons P x xs (All-head P x (xs ++ ys) h) (all_first P xs ys (All-tail P x (xs ++ ys) h))
-
 pub memories_first : (old : List SpanPart) (left : List (List ℕ × DeviceMemory)) → length old + length left ≤ 2 ^ 16 → All (λ x. x.1.size / PAGE < 2 ^ 32) left → All (λ s. HasNames s.tag) old
     → Memories (old ++ map device_span (enumerate_from (length old) left)) left old
 memories_first old left few small named = record { whole = refl; named = named; few = few; small = small }
@@ -108,7 +99,7 @@ module _ (all : List SpanPart) (xs ys : List Memory) (made : List SpanPart) (h :
   memories_fit =
       let few = h.few in
       let e = length-append xs ys in
-      (omega arith, all_first IsLittle xs ys h.small)
+      (omega arith, all_front IsLittle xs ys h.small)
 
   pub memories_made : (more : List SpanPart) → more ≡ made ++ map device_span (enumerate_from (length made) xs) → All (λ s. HasNames s.tag) more → Memories all ys more
   memories_made more then names =
@@ -124,7 +115,7 @@ module _ (all : List SpanPart) (xs ys : List Memory) (made : List SpanPart) (h :
             ∙ ap (λ n. (made ++ here) ++ map device_span (enumerate_from n ys)) e
             ∙ append_assoc made here (map device_span (enumerate_from (length made + length xs) ys))
             ∙ ap (λ zs. made ++ zs) (sym (map-append device_span (enumerate_from (length made) xs) (enumerate_from (length made + length xs) ys)))
-            ∙ ap (λ zs. made ++ map device_span zs) (sym (enumerate_both (length made) xs ys))
+            ∙ ap (λ zs. made ++ map device_span zs) (sym (numbered_append (length made) xs ys))
             ∙ h.whole;
         named = names;
         few = omega arith;
@@ -145,18 +136,15 @@ memory_first old device ms few small named =
     let many : length (map (named_by device) ms) ≡ length ms = length-map ms (named_by device) in
     memories_first old (map (named_by device) ms) (omega arith) (All-map IsLittle (named_by device) ms small) named
 
-next_of : {X : Type 0} (xs : List X) (i : ℕ) (x : X) → i < length xs → x ≡ get_or xs i x → drop i xs ≡ x ∷ drop (i + 1) xs
-next_of xs i x l is = drop-cons xs i x l ∙ ap (λ y. y ∷ drop (suc i) xs) (sym is) ∙ ap (λ n. x ∷ drop n xs) (sym (add-one i))
-
 pub memory_made : (all : List SpanPart) (device : List ℕ) (ms : List DeviceMemory) (i : ℕ) (m : DeviceMemory) (made more : List SpanPart) → i < length ms → m ≡ get_or ms i m
     → Memories all (map (λ m. (device, m)) (drop i ms)) made → more ≡ made ++ device_span (length made, (device, m)) ∷ [] → All (λ s. HasNames s.tag) more → Memories all (map (λ m. (device, m)) (drop (i + 1) ms)) more
 memory_made all device ms i m made more l is h then names =
-    let here : Memories all ((device, m) ∷ map (named_by device) (drop (i + 1) ms)) made = subst (λ xs. Memories all (map (named_by device) xs) made) (next_of ms i m l is) h in
+    let here : Memories all ((device, m) ∷ map (named_by device) (drop (i + 1) ms)) made = subst (λ xs. Memories all (map (named_by device) xs) made) (drop_more ms i m l is) h in
     memories_made all ((device, m) ∷ []) (map (named_by device) (drop (i + 1) ms)) made here more then names
 
 module _ (all : List SpanPart) (ds : List Device) (i : ℕ) (d : Device) (made : List SpanPart) (l : i < length ds) (is : d ≡ get_or ds i d) (h : Memories all (memories_of (drop i ds)) made) where
   here : Memories all (map (named_by d.name) d.memory ++ memories_of (drop (i + 1) ds)) made
-  here = subst (λ xs. Memories all (memories_of xs) made) (next_of ds i d l is) h
+  here = subst (λ xs. Memories all (memories_of xs) made) (drop_more ds i d l is) h
 
   pub device_small : All (λ m. m.size / PAGE < 2 ^ 32) d.memory
   device_small = all_unmapped (named_by d.name) IsLittle d.memory (memories_fit all (map (named_by d.name) d.memory) (memories_of (drop (i + 1) ds)) made here).1

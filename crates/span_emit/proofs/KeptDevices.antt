@@ -7,7 +7,8 @@ use Rattle.std.proofs.lemmas.Bool.{and_parts, leb-true, or_cases}
 use Rattle.std.proofs.lemmas.List.{map-append}
 use Rattle.std.proofs.lemmas.List.Elements.{All-append, All-map, All-nil}
 use Rattle.muen_num.proofs.FirstPair.{pairs_at}
-use Rattle.muen_num.proofs.Lists.{map-map}
+use Rattle.muen_num.proofs.Lists.{map-map, all_passing, all_unmapped}
+use Rattle.muen_num.proofs.Pairs.{pairs_unmapped}
 use Rattle.muen_num.proofs.SearchLaws.{unless_none}
 use Rattle.policy_lawful.specs.Offences.{two}
 use Rattle.policy_lawful.specs.Rules.{are_apart, first_overlap, offence_4, offence_18, overlapping}
@@ -17,7 +18,7 @@ use Rattle.policy_lawful.specs.source.Device.{Device}
 use Rattle.policy_lawful.specs.source.DeviceMemory.{DeviceMemory}
 use Rattle.policy_lawful.specs.source.Source.{Source}
 use Rattle.span_emit.specs.Spans.{memories_of}
-use Rattle.span_emit.proofs.PairLaws.{all_from, all_unmapped, pairs_across, pairs_second, pairs_unmapped, pairs_weaker}
+use Rattle.span_emit.proofs.PairLaws.{pairs_across, pairs_second, pairs_weaker}
 use Rattle.policy_lawful.proofs.KeptAddresses.{IsPhysical, addresses_kept, is_memory, physical}
 
 -- ---- rule 4
@@ -27,7 +28,7 @@ each_device [] h = All-nil (λ (x : List ℕ × DeviceMemory). IsPhysical x.1)
 each_device (d ∷ ds) h =
     let both = and_parts (list_all is_memory d.memory) (list_all (λ d. list_all is_memory d.memory) ds) h in
     All-append (λ (x : List ℕ × DeviceMemory). IsPhysical x.1) (map (λ m. (d.name, m)) d.memory) (memories_of ds)
-    (All-map (λ (x : List ℕ × DeviceMemory). IsPhysical x.1) (λ m. (d.name, m)) d.memory (all_from is_memory IsPhysical physical d.memory both.0))
+    (All-map (λ (x : List ℕ × DeviceMemory). IsPhysical x.1) (λ m. (d.name, m)) d.memory (all_passing is_memory IsPhysical physical d.memory both.0))
     (each_device ds both.1)
 
 pub devices_physical : (p : Source) → offence_4 p ≡ None → All (λ x. IsPhysical x.1) (memories_of p.devices)

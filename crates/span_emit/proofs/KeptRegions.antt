@@ -1,5 +1,5 @@
 -- Rule 4: the regions of a lawful policy are whole pages, and may be only where pages begin.
-use Rattle.std.proofs.Common.{◌≡◌, ℕ, ◌%◌, inl, inr, true, All, List, [], ◌∷◌, map, Option, Some, None, refl, sym, ap, ◌∙◌, arith, subst}
+use Rattle.std.proofs.Common.{◌≡◌, ℕ, ◌%◌, inl, inr, true, All, List, map, Option, Some, None, refl, sym, ap, ◌∙◌, arith, subst}
 use Rattle.std.specs.Prelude.{◌&&◌, ◌==◌, nat_lt}
 use Rattle.std.specs.List.{flat_map}
 use Rattle.std.proofs.lemmas.Bool.{and_parts, eqb-true, or_cases}
@@ -8,6 +8,7 @@ use Rattle.expand_kernel.specs.Pages.{ept_pages}
 use Rattle.expand_kernel.specs.Regions.{kernel_regions, kernel_regions_of, window_range, regions_of}
 use Rattle.expand_kernel.specs.declared.region.Region.{Region}
 use Rattle.image_pack.specs.Codes.{is_part, part_code}
+use Rattle.muen_num.proofs.Lists.{all_flat, all_passing}
 use Rattle.muen_num.specs.declared.limits.TheConstants.{LARGE_PAGE, PAGE}
 use Rattle.policy_lawful.specs.Rules.{is_alignment, is_fixed, is_guest, is_laid, is_page_aligned, is_page_size, is_physical, offence_4}
 use Rattle.policy_lawful.specs.Thing.{component_by}
@@ -20,7 +21,6 @@ use Rattle.policy_lawful.specs.source.Source.{Source}
 use Rattle.policy_lawful.specs.source.Subject.{Subject}
 use Rattle.region_alloc.specs.Placement.{suits}
 use Rattle.span_emit.specs.Spans.{span_kind}
-use Rattle.span_emit.proofs.PairLaws.{all_from}
 use Rattle.policy_lawful.proofs.KeptAddresses.{addresses_kept, brings, used_brings}
 use Rattle.expand_kernel.specs.ByIndex.{channel_region, own_region, provided_region, provided_regions}
 use Rattle.expand_kernel.proofs.ByKind.{regions_are}
@@ -30,10 +30,6 @@ pub record IsWhole (r : Region) : Type 0 where
   pub pages : r.size % PAGE ≡ 0
   pub part : is_part (span_kind r.kind) (part_code r.tag.part) ≡ true
   pub placed : (a : ℕ) → suits r r.fixed a ≡ true → a % PAGE ≡ 0
-
-all_flat : {X Y : Type 0} (P : Y → Type 0) (f : X → List Y) → ((x : X) → All P (f x)) → (xs : List X) → All P (flat_map f xs)
-all_flat P f h [] = All-nil P
-all_flat P f h (x ∷ xs) = All-append P (f x) (flat_map f xs) (h x) (all_flat P f h xs)
 
 -- ---- by kind
 
@@ -74,7 +70,7 @@ provided_whole : (subject : List ℕ) (c : Option Component) → ((x : Component
 provided_whole subject None h = All-nil IsWhole
 provided_whole subject (Some c) h =
     All-map IsWhole (provided_region subject) c.provides
-    (all_from (λ x. is_guest x.virtual_address x.size) (λ x. IsWhole (provided_region subject x)) (whole_provided subject) c.provides (h c refl))
+    (all_passing (λ x. is_guest x.virtual_address x.size) (λ x. IsWhole (provided_region subject x)) (whole_provided subject) c.provides (h c refl))
 
 kernel_whole : (subject : List ℕ) (pages : ℕ) → All IsWhole (kernel_regions subject pages)
 kernel_whole subject pages =
@@ -103,8 +99,8 @@ kernel_whole_of p s = kernel_whole s.name (ept_pages (map window_range (windows_
 pub regions_whole : (p : Source) → offence_4 p ≡ None → All IsWhole (regions_of p)
 regions_whole p h =
     let kept = addresses_kept p h in
-    let own = All-map IsWhole own_region p.memory (all_from is_laid (λ r. IsWhole (own_region r)) whole_laid p.memory kept.regions) in
-    let ends = All-map IsWhole channel_region p.channels (all_from (λ c. is_page_size c.size) (λ c. IsWhole (channel_region c)) whole_channel p.channels kept.channels) in
+    let own = All-map IsWhole own_region p.memory (all_passing is_laid (λ r. IsWhole (own_region r)) whole_laid p.memory kept.regions) in
+    let ends = All-map IsWhole channel_region p.channels (all_passing (λ c. is_page_size c.size) (λ c. IsWhole (channel_region c)) whole_channel p.channels kept.channels) in
     let provided = all_flat IsWhole (λ s. provided_regions s.name (component_by p s.component)) (λ s. provided_whole s.name (component_by p s.component) (used_brings p s.component kept.components)) p.subjects in
     let kernel = all_flat IsWhole (kernel_regions_of p) (kernel_whole_of p) p.subjects in
     subst (All IsWhole) (sym (regions_are p))

@@ -2,7 +2,7 @@
 use Rattle.std.proofs.Common.{◌≡◌, ℕ, ◌*◌, ◌≤◌, inl, inr, Bool, true, false, cond, All, List, [], ◌∷◌, refl, ap, arith}
 use Rattle.std.specs.Prelude.{filter, not, if◌then◌else◌}
 use Rattle.std.specs.List.{sum_by}
-use Rattle.std.proofs.lemmas.Bool.{cases_Bool}
+use Rattle.std.proofs.lemmas.Bool.{cases_Bool, not-true}
 use Rattle.std.proofs.lemmas.List.Elements.{All-filter, All-head, All-tail, filter_passes}
 use Rattle.std.proofs.lemmas.List.Kept.{AllPairs-filter}
 use Rattle.std.proofs.lemmas.List.Sums.{sum_by-cons}
@@ -39,15 +39,11 @@ pages_are (s ∷ xs) =
           omega arith
     ]
 
-not_device : (b : Bool) → not b ≡ true → b ≡ false
-not_device true h = absurd (cc)
-not_device false h = refl
-
 -- spans that ascend, and lie inside blocks where they have bytes
 pub pages_within : (blocks : List Block) (xs : List SpanPart) → Ascend xs → All (λ s. is_device s.kind ≡ false → in_a_block blocks s.address (PAGE * s.pages) ≡ true) xs → PAGE * sum_by pages_of xs ≤ sum_by (λ b. b.size) blocks
 pages_within blocks xs up inside =
     let those : All (λ s. in_a_block blocks s.address (PAGE * s.pages) ≡ true) (filter has_bytes xs) = λ k d l.
-    All-filter has_bytes (λ s. is_device s.kind ≡ false → in_a_block blocks s.address (PAGE * s.pages) ≡ true) xs inside k d l (not_device _ (filter_passes has_bytes xs k d l)) in
+    All-filter has_bytes (λ s. is_device s.kind ≡ false → in_a_block blocks s.address (PAGE * s.pages) ≡ true) xs inside k d l (not-true _ (filter_passes has_bytes xs k d l)) in
     let room = in_blocks (λ s. s.address) bytes_in blocks (filter has_bytes xs) (AllPairs-filter (λ a b. end_of a ≤ b.address) has_bytes xs up) those in
     let e = pages_are xs in
     omega arith

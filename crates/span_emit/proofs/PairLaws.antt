@@ -1,28 +1,16 @@
 -- What holds of each element of a list and each later one.
-use Rattle.std.proofs.Common.{◌≡◌, ℕ, suc, ◌+◌, ◌<◌, ◌≤◌, ◌⊎◌, inl, inr, Bool, true, false, All, List, [], ◌∷◌, ◌++◌, map, arith}
-use Rattle.std.specs.List.{AllPairs, IsDistinct, list_all}
+use Rattle.std.proofs.Common.{◌≡◌, ℕ, suc, ◌+◌, ◌<◌, ◌≤◌, ◌⊎◌, inl, inr, Bool, false, All, List, [], ◌∷◌, ◌++◌, arith}
+use Rattle.std.specs.List.{AllPairs, IsDistinct}
 use Rattle.std.specs.List.Sorted.{IsNonDecreasingBy, IsPermutation}
-use Rattle.std.proofs.lemmas.Bool.{and_parts}
 use Rattle.std.proofs.lemmas.List.Elements.{All-append, All-cons, All-from_recursion, All-head, All-nil, All-tail, recursion_from_All}
 use Rattle.std.proofs.lemmas.List.Kept.{AllPairs-cons}
 use Rattle.std.proofs.lemmas.Map.Keys.{IsDistinct-IsPermutation}
 
 -- ---- each
 
-pub all_from : {X : Type 0} (p : X → Bool) (P : X → Type 0) → ((x : X) → p x ≡ true → P x) → (xs : List X) → list_all p xs ≡ true → All P xs
-all_from p P h [] k = All-nil P
-all_from p P h (x ∷ xs) k =
-    let both = and_parts (p x) (list_all p xs) k in
-    All-cons P x xs (h x both.0) (all_from p P h xs both.1)
-
 pub all_second : {X : Type 0} (P : X → Type 0) (xs ys : List X) → All P (xs ++ ys) → All P ys
 all_second P [] ys h = h
 all_second P (x ∷ xs) ys h = all_second P xs ys (All-tail P x (xs ++ ys) h)
-
-pub all_unmapped : {X Y : Type 0} (f : X → Y) (P : Y → Type 0) (xs : List X) → All P (map f xs) → All (λ x. P (f x)) xs
-all_unmapped f P [] h = All-nil (λ x. P (f x))
-all_unmapped f P (x ∷ xs) h =
-    All-cons (λ x. P (f x)) x xs (All-head P (f x) (map f xs) h) (all_unmapped f P xs (All-tail P (f x) (map f xs) h))
 
 -- ---- pairs
 
@@ -54,11 +42,6 @@ module _ {X : Type 0} (R : X → X → Type 0) where
 
 pub pairs_weaker : {X : Type 0} (R Q : X → X → Type 0) → ((a b : X) → R a b → Q a b) → (xs : List X) → AllPairs R xs → AllPairs Q xs
 pairs_weaker R Q so xs h = λ i j d l m. so _ _ (h i j d l m)
-
-pub pairs_unmapped : {X Y : Type 0} (f : X → Y) (R : Y → Y → Type 0) (xs : List X) → AllPairs R (map f xs) → AllPairs (λ a b. R (f a) (f b)) xs
-pairs_unmapped f R [] h = pairs_nil (λ a b. R (f a) (f b))
-pairs_unmapped f R (x ∷ xs) h =
-    AllPairs-cons (λ a b. R (f a) (f b)) x xs (all_unmapped f (R (f x)) xs (pairs_head R (f x) (map f xs) h)) (pairs_unmapped f R xs (pairs_tail R (f x) (map f xs) h))
 
 -- ---- in another order
 

@@ -35,7 +35,7 @@ pub record IsRegionSpan (blocks : List Block) (s : SpanPart) : Type 0 where
 
 -- ---- each
 
-no_device : (k : RegionKind) → is_device (span_kind k) ≡ false
+pub no_device : (k : RegionKind) → is_device (span_kind k) ≡ false
 no_device Own = refl
 no_device Channel = refl
 no_device Provided = refl

@@ -1,9 +1,8 @@
 -- Where the regions of a placed policy lie: at whole pages, and below the end of physical addresses.
-use Rattle.std.proofs.Common.{◌≡◌, ℕ, ◌+◌, ◌*◌, ◌%◌, ◌≤◌, ◌^◌, inl, inr, true, All, List, [], ◌∷◌, length, get_or, Option, Some, None, refl, sym, ap, ◌∙◌, subst, arith}
+use Rattle.std.proofs.Common.{◌≡◌, ℕ, ◌+◌, ◌*◌, ◌%◌, ◌≤◌, ◌^◌, inl, inr, true, [], length, get_or, Option, Some, None, refl, sym, ap, ◌∙◌, subst, arith}
 use Rattle.std.specs.Prelude.{◌&&◌, ◌==◌, nat_le, option_map, option_and_then, slice_get}
 use Rattle.std.specs.Option.{option_map_or}
 use Rattle.std.proofs.lemmas.Bool.{and_parts, eqb-true, leb-true, or_cases}
-use Rattle.std.proofs.lemmas.List.Elements.{All-head, All-tail}
 use Rattle.std.proofs.lemmas.Option.{get_or_from_slice_get}
 use Rattle.ept_emit.specs.Pages.{ept_pages}
 use Rattle.expand_kernel.specs.Grants.{AreGrantsOf}
@@ -13,12 +12,13 @@ use Rattle.policy_lawful.specs.ByIndex.{provided_at}
 use Rattle.expand_kernel.specs.Regions.{anywhere}
 use Rattle.expand_kernel.specs.declared.region.Region.{Region}
 use Rattle.expand_kernel.specs.declared.region.RegionKind.TheVariants.{Kernel}
+use Rattle.muen_num.proofs.Options.{from_some}
+use Rattle.muen_num.proofs.Pairs.{other_at}
 use Rattle.muen_num.specs.declared.limits.TheConstants.{LARGE_PAGE, PAGE, PHYSICAL_END}
 use Rattle.muen_num.specs.declared.tag.TagPart.TheVariants.{State as StatePart, Ept}
 use Rattle.policy_lawful.specs.Ranges.{in_a_block}
 use Rattle.policy_lawful.specs.Rules.{is_alignment, is_fixed, is_laid, is_page_aligned, is_page_size, is_physical}
 use Rattle.policy_lawful.specs.declared.resolved.Subject.{Subject}
-use Rattle.policy_lawful.specs.source.Block.{Block}
 use Rattle.policy_lawful.specs.source.Device.{Device as SomeDevice}
 use Rattle.policy_lawful.specs.source.DeviceMemory.{DeviceMemory}
 use Rattle.policy_lawful.specs.source.Region.{Region as SourceRegion}
@@ -27,14 +27,14 @@ use Rattle.policy_lawful.specs.declared.view.Shown.TheVariants.{Memory, Channel,
 use Rattle.region_alloc.specs.Placed.{IsPlaced, Placement}
 use Rattle.region_alloc.specs.Placement.{suits}
 use Rattle.region_alloc.proofs.Apart.{policy_inside}
-use Rattle.region_alloc.proofs.Lowest.{ends_well}
+use Rattle.region_alloc.proofs.Lowest.{block_end}
+use Rattle.region_alloc.proofs.OwnRegions.{region_at}
 use Rattle.region_alloc.proofs.Sized.{blocks_end}
 use Rattle.subject_emit.specs.Mapped.{brought_before, kernel_first, shown_address}
 use Rattle.subject_emit.specs.Pages.{tables_at}
 use Rattle.subject_emit.specs.Shows.{shown_size}
 use Rattle.policy_lawful.proofs.KeptViews.{laid_at, physical_at}
-use Rattle.subject_emit.proofs.Numbered.{channel_at, kernel_at_index, memory_at, provided_at_index}
-use Rattle.subject_emit.proofs.Pieces.{from_some, other_at}
+use Rattle.subject_emit.proofs.Numbered.{channel_at, kernel_at_index, provided_at_index}
 use Rattle.subject_emit.proofs.Suited.{suits_there}
 
 -- so many bytes from a whole page on that end where physical addresses do, or before
@@ -43,17 +43,6 @@ pub record AreAt (address size : ℕ) : Type 0 where
   pub end : address + size ≤ 2 ^ 40
 
 -- ---- one region
-
-block_end : (blocks : List Block) (address size : ℕ) → All ends_well blocks → in_a_block blocks address size ≡ true → address + size ≤ PHYSICAL_END
-block_end [] address size h k = absurd (cc)
-block_end (b ∷ blocks) address size h k =
-    elim (or_cases (nat_le b.physical_address address && nat_le (address + size) (b.physical_address + b.size)) (in_a_block blocks address size) k) [
-      | inl here ↦
-          let l = leb-true _ _ (and_parts (nat_le b.physical_address address) (nat_le (address + size) (b.physical_address + b.size)) here).1 in
-          let e = All-head ends_well b blocks h in
-          omega arith
-      | inr there ↦ block_end blocks address size (All-tail ends_well b blocks h) there
-    ]
 
 whole_large : (a : ℕ) → a % 2097152 ≡ 0 → a % 4096 ≡ 0
 whole_large a h = omega arith
@@ -141,7 +130,7 @@ module _ (x : Placement) (placed : IsPlaced x) where
   pub shown_at : (k size : ℕ) (shows : Shown) → shown_size x.expanded.lawful k shows ≡ Some size → AreAt (shown_address x k shows) size
   shown_at k size (Memory n) e =
       let m = from_some (λ m. m.size) (slice_get x.expanded.lawful.memory n) size e in
-      subst (AreAt (get_or x.addresses n 0)) m.2 (own_page n m.0 (memory_at x placed n m.0 m.1) (laid_at x.expanded.lawful placed.lawful n m.0 m.1))
+      subst (AreAt (get_or x.addresses n 0)) m.2 (own_page n m.0 (region_at x placed n m.0 m.1) (laid_at x.expanded.lawful placed.lawful n m.0 m.1))
   shown_at k size (Channel n) e =
       let c = from_some (λ c. c.size) (slice_get x.expanded.lawful.channels n) size e in
       subst (AreAt (shown_address x k (Channel n))) c.2 (any_page (length x.expanded.lawful.memory + n) (channel_region c.0) (channel_at x placed n c.0 c.1) refl refl)

@@ -1,11 +1,7 @@
 -- Two bitmaps, one after the other.
-use Rattle.std.proofs.Common.{◌≡◌, ℕ, Bool, List, ◌++◌, length, take, drop, sym, ap, ◌∙◌}
+use Rattle.std.proofs.Common.{◌≡◌, ℕ, Bool, List, ◌++◌, length, take, drop, sym, ◌∙◌}
 use Rattle.std.proofs.Math.Seq.{take-append_seam, drop-append_seam}
 use Rattle.machine_layout.specs.Exits.{port_exits}
-
--- as many bytes as were written
-pub written : (n : ℕ) (new old : List ℕ) → length new ≡ n → take n (new ++ old) ≡ new
-written n new old long = ap (λ k. take k (new ++ old)) (sym long) ∙ take-append_seam new old
 
 -- bitmaps that are joined are the two
 pub exits_joined : (n : ℕ) (a b both : List ℕ) (exits : ℕ → ℕ → Bool) → both ≡ a ++ b → length a ≡ n → ((port size : ℕ) → port_exits a b port size ≡ exits port size)

@@ -18,7 +18,6 @@ use Rattle.policy_lawful.specs.declared.resolved.Subject.{Subject}
 use Rattle.policy_lawful.specs.source.Channel.{Channel}
 use Rattle.policy_lawful.specs.source.Component.{Component}
 use Rattle.policy_lawful.specs.source.Provided.{Provided}
-use Rattle.policy_lawful.specs.source.Region.{Region as SourceRegion}
 use Rattle.region_alloc.specs.Placed.{IsPlaced, Placement}
 use Rattle.region_alloc.proofs.Apart.{policy_inside}
 use Rattle.subject_emit.specs.Mapped.{brought_before, kernel_first}
@@ -27,7 +26,7 @@ use Rattle.subject_emit.proofs.Pieces.{at_piece}
 
 -- ---- of components
 
-as_many : (cs : List Component) (ss : List Subject) → length (flat_map (brought_at cs) ss) ≡ length (flat_map (λ s. provided_at cs s.component) ss)
+pub as_many : (cs : List Component) (ss : List Subject) → length (flat_map (brought_at cs) ss) ≡ length (flat_map (λ s. provided_at cs s.component) ss)
 unfolding brought_at
 as_many cs [] = refl
 as_many cs (s ∷ ss) =
@@ -120,19 +119,6 @@ module _ (x : Placement) (placed : IsPlaced x) where
       let n = channels_many in
       let p = provided_many in
       omega (arith, addresses, a, b, c, d, l, m, n, p)
-
-  pub memory_at : (n : ℕ) (m : SourceRegion) → slice_get x.expanded.lawful.memory n ≡ Some m → slice_get x.expanded.regions n ≡ Some (own_region m)
-  unfolding memory
-  memory_at n m e =
-      let here : slice_get memory n ≡ Some (own_region m) = slice_get-map own_region x.expanded.lawful.memory n ∙ ap (option_map own_region) e in
-      let l = slice_get_within memory n (own_region m) here in
-      let a = length-append (memory ++ channels) provided in
-      let b = length-append memory channels in
-      ap (λ xs. slice_get xs n) all
-      ∙ get_left (memory ++ channels ++ provided) kernel n (omega (arith, a, b, l))
-      ∙ get_left (memory ++ channels) provided n (omega (arith, b, l))
-      ∙ get_left memory channels n l
-      ∙ here
 
   pub channel_at : (n : ℕ) (c : Channel) → slice_get x.expanded.lawful.channels n ≡ Some c → slice_get x.expanded.regions (length x.expanded.lawful.memory + n) ≡ Some (channel_region c)
   unfolding channels

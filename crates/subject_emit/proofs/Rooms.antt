@@ -6,6 +6,7 @@ use Rattle.std.specs.List.{flat_map}
 use Rattle.std.proofs.lemmas.List.{take_all}
 use Rattle.std.proofs.lemmas.List.Folds.{length-flat_map-take}
 use Rattle.std.proofs.lemmas.Option.{get_or_from_slice_get, slice_get_within}
+use Rattle.muen_num.proofs.Options.{from_some}
 use Rattle.policy_lawful.specs.ByIndex.{provided_at}
 use Rattle.policy_lawful.specs.Resolution.{Resolution}
 use Rattle.policy_lawful.specs.declared.resolved.Subject.{Subject}
@@ -15,7 +16,6 @@ use Rattle.policy_lawful.specs.declared.view.Shown.TheVariants.{Memory, Channel,
 use Rattle.region_alloc.specs.Placed.{Placement}
 use Rattle.subject_emit.specs.Mapped.{brought_before}
 use Rattle.subject_emit.specs.Shows.{HasAddresses, IsNumbered, shown_size}
-use Rattle.subject_emit.proofs.Pieces.{from_some}
 
 -- ---- what components bring along
 

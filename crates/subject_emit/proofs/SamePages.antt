@@ -1,24 +1,15 @@
 -- The guest addresses of a subject's windows are those of its views, wherever what they show lies.
-use Rattle.std.proofs.Common.{◌≡◌, ℕ, ◌+◌, ◌<◌, ◌≤◌, List, length, map, get_or, sym, ap, subst, arith}
+use Rattle.std.proofs.Common.{◌≡◌, ℕ, ◌+◌, ◌≤◌, sym, ap, subst}
 use Rattle.std.specs.List.{AllPairs}
-use Rattle.std.proofs.lemmas.List.{get_or-map, length-map}
 use Rattle.ept_emit.specs.Pages.{AreApart, ept_pages, range_of, ranges_of}
 use Rattle.ept_emit.specs.declared.window.GuestRange.{GuestRange}
 use Rattle.ept_emit.specs.declared.window.Window.{Window}
 use Rattle.expand_kernel.specs.granted.Grants.{Grants}
 use Rattle.expand_kernel.specs.ByIndex.{view_ranges}
 use Rattle.muen_num.proofs.Lists.{map-map}
+use Rattle.muen_num.proofs.Pairs.{pairs_unmapped}
 use Rattle.region_alloc.specs.Placed.{Placement}
 use Rattle.subject_emit.specs.Mapped.{mapped, mapped_windows}
-
--- ---- pairs of a list, by those of one that it is mapped to
-
-pairs_behind : {X Y : Type 0} (f : X → Y) (R : Y → Y → Type 0) (xs : List X) → AllPairs R (map f xs) → AllPairs (λ a b. R (f a) (f b)) xs
-pairs_behind f R xs h i j d p q =
-    let many = length-map xs f in
-    let l : i < length xs = omega arith in
-    subst (λ a. R a (f (get_or xs j d))) (get_or-map f xs i d (f d) l)
-    (subst (R (get_or (map f xs) i (f d))) (get_or-map f xs j d (f d) q) (h i j (f d) p (omega (arith, many, q))))
 
 -- ---- of a subject
 
@@ -33,4 +24,4 @@ module _ (x : Placement) (subject : ℕ) (g : Grants) where
   is_before a b = a.guest + a.size ≤ b.guest
 
   pub apart_mapped : AreApart (view_ranges g.views) → AllPairs (λ (a b : Window). a.guest + a.size ≤ b.guest) (mapped_windows x subject g)
-  apart_mapped h = pairs_behind range_of is_before (mapped_windows x subject g) (subst AreApart (sym ranges_same) h)
+  apart_mapped h = pairs_unmapped range_of is_before (mapped_windows x subject g) (subst AreApart (sym ranges_same) h)

@@ -1,46 +1,26 @@
 -- Each region of a placed policy is at its own address, where it has one, and else at a multiple of its alignment.
-use Rattle.std.proofs.Common.{◌≡◌, ℕ, zero, suc, ◌+◌, ◌<◌, inl, inr, Bool, true, All, List, [], ◌∷◌, ◌++◌, length, get_or, map, Some, None, refl, sym, ap, subst, ◌∙◌, arith}
-use Rattle.std.specs.Prelude.{◌&&◌, ◌==◌, Result, Ok, Err, slice_get, if◌then◌else◌}
+use Rattle.std.proofs.Common.{◌≡◌, ℕ, zero, suc, ◌+◌, ◌<◌, inl, inr, true, All, List, [], ◌∷◌, ◌++◌, length, get_or, map, Some, None, refl, sym, ap, subst, ◌∙◌, arith}
+use Rattle.std.specs.Prelude.{◌==◌, Result, Ok, Err, slice_get}
 use Rattle.std.specs.List.{find, list_any}
-use Rattle.std.specs.Option.{option_map_or, option_or}
+use Rattle.std.specs.Option.{option_map_or}
 use Rattle.std.proofs.Math.ListN.{get_or-append}
 use Rattle.std.proofs.Math.Seq.{get_or-append_seam}
-use Rattle.std.proofs.lemmas.Bool.{and_parts, cases_Bool, cases_lt, eqb-true}
+use Rattle.std.proofs.lemmas.Bool.{cases_lt, eqb-true}
 use Rattle.std.proofs.lemmas.List.{length-map, map_push}
 use Rattle.std.proofs.lemmas.List.Elements.{All-head, All-nil, All-push, All-tail}
 use Rattle.std.proofs.lemmas.Option.{slice_get_within}
 use Rattle.expand_kernel.specs.declared.region.Region.{Region}
-use Rattle.muen_num.proofs.Lists.{found}
+use Rattle.muen_num.proofs.Booleans.{first_of_three}
+use Rattle.muen_num.proofs.Lists.{found, each_numbered}
 use Rattle.muen_num.proofs.NumbersBelow.{length_numbers}
 use Rattle.muen_num.specs.Range.{numbers_below}
 use Rattle.muen_num.specs.declared.limits.TheConstants.{PHYSICAL_END}
 use Rattle.policy_lawful.specs.source.Block.{Block}
 use Rattle.region_alloc.specs.Placed.{IsPlaced, Placement}
-use Rattle.region_alloc.specs.Placement.{address_in, by_number, if_placed, in_turn, is_room, least_below, lowest, placed_after, placement_in, spot, suits}
-use Rattle.region_alloc.proofs.EachInTurn.{each_from_turns, each_in_turn, each_numbered, numbered_at}
+use Rattle.region_alloc.specs.Placement.{address_in, by_number, if_placed, in_turn, is_room, lowest, placed_after, placement_in, spot, suits}
+use Rattle.region_alloc.proofs.EachInTurn.{each_from_turns, each_in_turn, numbered_at}
 use Rattle.region_alloc.proofs.Sized.{placement_is}
-use Rattle.region_alloc.proofs.Spots.{all_found, each_after}
-
--- ---- the least number that passes
-
-least_passes : (p : ℕ → Bool) (n a : ℕ) → least_below p n ≡ Some a → p a ≡ true
-unfolding least_below
-least_passes p zero a e = absurd (cc)
-least_passes p (suc n) a e =
-    elim (least_below p n) as (λ o. least_below p n ≡ o → option_or o (if p n then Some n else None) ≡ Some a → p a ≡ true) [
-      | Some b ↦ λ is k. let same : b ≡ a = cc in least_passes p n a (is ∙ ap (λ c. Some c) same)
-      | None ↦ λ is k. elim (cases_Bool (p n)) [
-        | inl passes ↦
-            let same : Some n ≡ Some a = sym (ap (λ b. if b then Some n else None) passes) ∙ k in
-            let here : n ≡ a = cc in
-            ap p (sym here) ∙ passes
-        | inr fails ↦ let none : None ≡ Some a = sym (ap (λ b. if b then Some n else None) fails) ∙ k in absurd (cc)
-      ]
-    ] refl e
-
--- of three tests in turn the first
-first_of_three : (a b c : Bool) → (a && b && c) ≡ true → a ≡ true
-first_of_three a b c h = (and_parts a b (and_parts (a && b) c h).0).0
+use Rattle.region_alloc.proofs.Spots.{all_found, each_after, least_passes}
 
 -- ---- by number
 

@@ -11,6 +11,7 @@ use Rattle.expand_kernel.specs.Regions.{anywhere}
 use Rattle.expand_kernel.specs.declared.region.Region.{Region}
 use Rattle.expand_kernel.specs.declared.region.RegionKind.TheVariants.{Kernel}
 use Rattle.expand_kernel.proofs.Numbering.{can_map_granted}
+use Rattle.muen_num.proofs.Pairs.{first_at}
 use Rattle.muen_num.specs.declared.limits.TheConstants.{PAGE}
 use Rattle.muen_num.specs.declared.tag.TagPart.TheVariants.{Ept}
 use Rattle.region_alloc.specs.Placed.{IsPlaced, Placement}
@@ -19,7 +20,6 @@ use Rattle.subject_emit.specs.Ready.{IsReady}
 use Rattle.subject_emit.proofs.Emittable.{all_emittable}
 use Rattle.subject_emit.proofs.KeptSizes.{guests_granted}
 use Rattle.subject_emit.proofs.Numbered.{has_addresses, kernel_at_index}
-use Rattle.subject_emit.proofs.Pieces.{first_at}
 use Rattle.subject_emit.proofs.AddressesFit.{shown_at, tables_there}
 use Rattle.subject_emit.proofs.SamePages.{pages_same, ranges_same}
 use Rattle.subject_emit.proofs.ShownViews.{granted_shown}

@@ -4,9 +4,9 @@ use Rattle.std.specs.Prelude.{◌==◌, ◌&&◌, option_map, filter}
 use Rattle.std.specs.Str.{bytes_eq}
 use Rattle.std.proofs.lemmas.Bool.{cases_Bool, true≢false}
 use Rattle.std.proofs.lemmas.Bool.Decides.{Decides-eqb}
-use Rattle.std.proofs.lemmas.Slice.Eq.{bytes_eq-Decides}
 use Rattle.policy_lawful.specs.Thing.{Thing, region, channel, provided, device_memory, state, same_thing}
 use Rattle.subject_model.specs.ByKey.{value_of, change_of, AreApart}
+use Rattle.muen_num.proofs.Lookups.{same_names, same_self}
 
 -- ---- a change of one key's value
 
@@ -44,9 +44,6 @@ apart_by : {K : Type 0} (same : K → K → Bool) → ((a b : K) → same a b �
 apart_by same is x y ne a h =
     elim (cases_Bool (same a y)) [ inl e ↦ absurd (ne (sym (is a x h) ∙ is a y e)) | inr n ↦ n ]
 
-same_names : (a b : List ℕ) → bytes_eq a b ≡ true → a ≡ b
-same_names a b h = (bytes_eq-Decides a b).0 h
-
 both_names : (a b c d : List ℕ) {X : Type 0} → (bytes_eq a b && bytes_eq c d) ≡ true → (a ≡ b → c ≡ d → X) → X
 both_names a b c d h k =
     elim (cases_Bool (bytes_eq a b)) [ inl e ↦ let g = rw e at h in k (same_names a b e) (same_names c d g) | inr n ↦ let g = rw n at h in absurd (true≢false (sym g)) ]
@@ -80,15 +77,12 @@ same_things (state a) (provided c d) h = absurd (true≢false (sym h))
 same_things (state a) (device_memory c d) h = absurd (true≢false (sym h))
 
 -- a thing is the same as itself
-same_name : (a : List ℕ) → bytes_eq a a ≡ true
-same_name a = (bytes_eq-Decides a a).1 refl
-
 pub same_thing_self : (x : Thing) → same_thing x x ≡ true
-same_thing_self (region a) = same_name a
-same_thing_self (channel a) = same_name a
-same_thing_self (provided s a) = rw (same_name s) (same_name a)
-same_thing_self (device_memory s a) = rw (same_name s) (same_name a)
-same_thing_self (state a) = same_name a
+same_thing_self (region a) = same_self a
+same_thing_self (channel a) = same_self a
+same_thing_self (provided s a) = rw (same_self s) (same_self a)
+same_thing_self (device_memory s a) = rw (same_self s) (same_self a)
+same_thing_self (state a) = same_self a
 
 pub things_apart : (x y : Thing) → (x ≡ y → ⊥) → AreApart same_thing x y
 things_apart x y ne = apart_by same_thing same_things x y ne

@@ -1,4 +1,5 @@
 pub mod KeyLaws
+pub mod NoPages
 pub mod SystemLaws
 mod CyclicFrames
 mod KeptTicks

@@ -1,33 +1,24 @@
 -- The names of a lawful policy, and what is found in lists by a test.
-use Rattle.std.proofs.Common.{◌≡◌, ℕ, zero, suc, ◌<◌, Bool, true, false, cond, List, [], ◌∷◌, length, map, Some, None, refl, sym, ap, ◌∙◌, arith}
-use Rattle.std.specs.Prelude.{◌||◌, is_some, option_map, slice_get}
+use Rattle.std.proofs.Common.{◌≡◌, ℕ, ◌<◌, Bool, true, false, cond, List, [], ◌∷◌, length, map, Some, None, refl, sym, ap, ◌∙◌, arith}
+use Rattle.std.specs.Prelude.{◌||◌, is_some, slice_get}
 use Rattle.std.specs.List.{find, list_any, position_or_len}
 use Rattle.std.specs.Str.{bytes_eq}
 use Rattle.std.proofs.lemmas.List.{length-map}
 use Rattle.std.proofs.lemmas.List.Folds.{find_at}
-use Rattle.std.proofs.lemmas.Option.{get_or_from_slice_get, slice_get-map, slice_get_within}
+use Rattle.std.proofs.lemmas.Option.{slice_get_within}
 use Rattle.subject_model.specs.System.{subject_named}
 use Rattle.policy_lawful.specs.Lawful.{IsLawful}
-use Rattle.policy_lawful.specs.Resolution.{name_at}
 use Rattle.policy_lawful.specs.Rules.{repeated}
-use Rattle.policy_lawful.proofs.Indexes.{found_at_index, position_is}
+use Rattle.policy_lawful.proofs.Indexes.{position_is}
 use Rattle.policy_lawful.proofs.KeptRules.{rules_of}
 use Rattle.policy_lawful.proofs.UniqueNames.{unique}
+use Rattle.policy_lawful.proofs.WindowsByIndex.{found_by_name, name_there}
 use Rattle.policy_lawful.specs.source.Source.{Source}
 use Rattle.policy_lawful.specs.source.Subject.{Subject}
 
 -- ---- what is found
 
--- what is found passes the test
-pub found_passes : {X : Type 0} (test : X → Bool) (xs : List X) (x : X) → find test xs ≡ Some x → test x ≡ true
-found_passes test [] x h = absurd (cc)
-found_passes test (y ∷ ys) x h =
-    elim (test y) as (λ b. test y ≡ b → cond b (Some y) (find test ys) ≡ Some x → test x ≡ true) [
-      | true ↦ λ e is. let same : y ≡ x = cc in ap test (sym same) ∙ e
-      | false ↦ λ _ is. found_passes test ys x is
-    ] refl h
-
--- and has an index
+-- what is found has an index
 pub found_index : {X : Type 0} (test : X → Bool) (xs : List X) (x : X) → find test xs ≡ Some x → (k : ℕ) × (slice_get xs k ≡ Some x)
 found_index test xs x h = (position_or_len test xs, sym (find_at test xs) ∙ h)
 
@@ -40,23 +31,9 @@ found_any test (x ∷ xs) =
       | false ↦ found_any test xs
     ]
 
--- something passes where that of an index does
-pub passes_any : {X : Type 0} (test : X → Bool) (xs : List X) (k : ℕ) (x : X) → slice_get xs k ≡ Some x → test x ≡ true → list_any test xs ≡ true
-passes_any test [] k x at h = absurd (cc)
-passes_any test (y ∷ ys) zero x at h = let same : y ≡ x = cc in ap (λ b. b || list_any test ys) (ap test same ∙ h)
-passes_any test (y ∷ ys) (suc k) x at h =
-    elim (test y) as (λ b. (b || list_any test ys) ≡ true) [
-      | true ↦ refl
-      | false ↦ passes_any test ys k x at h
-    ]
-
 -- ---- by unique names
 
 module _ {X : Type 0} (f : X → List ℕ) (xs : List X) (names : repeated (map f xs) ≡ None) where
-  -- the name of what stands at an index
-  name_of : (k : ℕ) (x : X) → slice_get xs k ≡ Some x → name_at (map f xs) k ≡ f x
-  name_of k x at = get_or_from_slice_get (map f xs) k (f x) [] (slice_get-map f xs k ∙ ap (option_map f) at)
-
   within_names : (k : ℕ) (x : X) → slice_get xs k ≡ Some x → k < length (map f xs)
   within_names k x at = let here = slice_get_within xs k x at in let many = length-map xs f in omega (arith, here, many)
 
@@ -64,13 +41,8 @@ module _ {X : Type 0} (f : X → List ℕ) (xs : List X) (names : repeated (map 
   pub same_index : (j k : ℕ) (x y : X) → slice_get xs j ≡ Some x → slice_get xs k ≡ Some y → f x ≡ f y → j ≡ k
   same_index j k x y at_j at_k same =
       sym (position_is (map f xs) j names (within_names j x at_j))
-      ∙ ap (λ n. position_or_len (λ m. bytes_eq m n) (map f xs)) (name_of j x at_j ∙ same ∙ sym (name_of k y at_k))
+      ∙ ap (λ n. position_or_len (λ m. bytes_eq m n) (map f xs)) (name_there f xs j x at_j ∙ same ∙ sym (name_there f xs k y at_k))
       ∙ position_is (map f xs) k names (within_names k y at_k)
-
-  -- what stands at an index is found by its name
-  pub found_by_name : (k : ℕ) (x : X) → slice_get xs k ≡ Some x → find (λ y. bytes_eq (f y) (f x)) xs ≡ Some x
-  found_by_name k x at =
-      ap (λ n. find (λ y. bytes_eq (f y) n) xs) (sym (name_of k x at)) ∙ found_at_index f xs k names (slice_get_within xs k x at) ∙ at
 
 -- ---- subjects
 

@@ -10,6 +10,7 @@ use Rattle.subject_model.specs.System.{named}
 use Rattle.policy_lawful.specs.Thing.{Thing, state, same_thing}
 use Rattle.policy_lawful.specs.source.Subject.{Subject}
 use Rattle.subject_model.proofs.KeyLaws.{same_things}
+use Rattle.muen_num.proofs.Lists.{numbered_at as counted_at}
 
 -- ---- one value, over and over
 
@@ -24,11 +25,6 @@ replicated_there (suc n) zero x = sym (lt-ltb 0 (suc n) (omega arith))
 replicated_there (suc n) (suc i) x = replicated_there n i x ∙ grind (arith, nat_tests)
 
 -- ---- numbered elements
-
-counted_at : {X : Type 0} (n : ℕ) (xs : List X) (k : ℕ) (x : X) → slice_get xs k ≡ Some x → slice_get (enumerate_from n xs) k ≡ Some (n + k, x)
-counted_at n [] k x at = absurd (cc)
-counted_at n (y ∷ ys) zero x at = let e : y ≡ x = cc in let m : n ≡ n + 0 = omega arith in ap (λ z. Some (n, z)) e ∙ ap (λ i. Some (i, x)) m
-counted_at n (y ∷ ys) (suc k) x at = let m : n + 1 + k ≡ n + suc k = omega arith in counted_at (n + 1) ys k x at ∙ ap (λ i. Some (i, x)) m
 
 -- an element stands with its index
 pub numbered_at : {X : Type 0} (xs : List X) (k : ℕ) (x : X) → slice_get xs k ≡ Some x → slice_get (enumerate_from 0 xs) k ≡ Some (k, x)

@@ -59,14 +59,15 @@ unfolding solo_turn
 inbox_alone own mine a b bytes ports now later first tick =
     λ i. turn_by own mine a (λ x. bytes x i) (ports i) (now i) (later i) (first i) (tick i)
 
+-- a byte that is reached is that one
+pub same_byte : (z x : Thing) (o offset : ℕ) → Reached z o ≡ Reached x offset → byte z o ≡ byte x offset
+same_byte z x o offset e = cc (e)
+
 pub window_alone : (own : Own) (values : MsrValues) (inbox : Inbox) (kind : AccessKind) (addr : ℕ) (x : Thing) (offset : ℕ) → (alone own values inbox).look kind addr ≡ Reached x offset → access_of own.windows addr kind ≡ byte x offset
 window_alone own values inbox kind addr x offset h = by_access (access_of own.windows addr kind) h
   where
     by_access : (a : Access Thing) → reach_by kind addr a ≡ Reached x offset → a ≡ byte x offset
     by_access (byte z o) e = same_byte z x o offset e
-      where
-        same_byte : (z x : Thing) (o offset : ℕ) → Reached z o ≡ Reached x offset → byte z o ≡ byte x offset
-        same_byte z x o offset e = cc (e)
     by_access (violation found) e = absurd (cc (e))
 
 pub port_alone : (own : Own) (values : MsrValues) (inbox : Inbox) (port size value : ℕ) → (alone own values inbox).input port size ≡ Some value → are_granted own.ports port size ≡ true
@@ -78,7 +79,7 @@ port_alone own values inbox port size value h = by_grant (are_granted own.ports 
 
 -- ---- what an answer changes
 
-raised_things : (p : Source) (s : Subject) (way : Option SourceWay) (y : System) → (raised_by p s way y).things ≡ y.things
+pub raised_things : (p : Source) (s : Subject) (way : Option SourceWay) (y : System) → (raised_by p s way y).things ≡ y.things
 raised_things p s None y = refl
 raised_things p s (Some way) y = by_event (event_of p s way)
   where
@@ -96,7 +97,7 @@ raised_things p s (Some way) y = by_event (event_of p s way)
     by_event None = refl
     by_event (Some e) = by_mode e.mode e.target
 
-stored_elsewhere : (s : Subject) (o : Option (Stored Thing)) (y : System) → StoresElsewhere s o → thing_in (with_store o y).things (state s.name) ≡ thing_in y.things (state s.name)
+pub stored_elsewhere : (s : Subject) (o : Option (Stored Thing)) (y : System) → StoresElsewhere s o → thing_in (with_store o y).things (state s.name) ≡ thing_in y.things (state s.name)
 stored_elsewhere s None y h = refl
 stored_elsewhere s (Some w) y h = value_other same_thing w.target (state s.name) _ y.things (things_apart w.target (state s.name) h)
 

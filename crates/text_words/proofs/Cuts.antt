@@ -15,7 +15,7 @@ is_position a n at h = grind (arith, nat_tests)
 is_within : (a n at : ℕ) → cond (ltb a n) (Some a) None ≡ Some at → a < n
 is_within a n at h = grind (arith, nat_tests)
 
-is_none : (a n : ℕ) → cond (ltb a n) (Some a) None ≡ None → n ≤ a
+pub is_none : (a n : ℕ) → cond (ltb a n) (Some a) None ≡ None → n ≤ a
 is_none a n h = grind (arith, nat_tests)
 
 pub parts_at : (byte : ℕ) (text : List ℕ) (at : ℕ) → position (λ c. c == byte) text ≡ Some at → parts_of byte text ≡ take at text ∷ parts_of byte (drop (at + 1) text)
@@ -34,7 +34,7 @@ pub ruleset cuts = (parts_at, parts_none)
 
 -- ---- lines
 
-more_parts : (line : List ℕ) (parts : List (List ℕ)) → 0 < length parts → without_empty_end (line ∷ parts) ≡ line ∷ without_empty_end parts
+pub more_parts : (line : List ℕ) (parts : List (List ℕ)) → 0 < length parts → without_empty_end (line ∷ parts) ≡ line ∷ without_empty_end parts
 more_parts line [] h = absurd (omega arith)
 more_parts line (part ∷ parts) h = refl
 

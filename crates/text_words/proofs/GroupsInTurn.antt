@@ -5,6 +5,7 @@ use Rattle.std.specs.List.{concat, list_all, onto_first}
 use Rattle.std.proofs.lemmas.Bool.Decides.{nat_tests}
 use Rattle.std.proofs.lemmas.List.Splits.{length-slice_split}
 use Rattle.std.specs.Char.{is_digit, digit_value}
+use Rattle.std.proofs.Math.Bool.{and_assoc}
 use Rattle.text_words.specs.Groups.{underscore, groups_of, is_group, with_digit, value_of, number_of_groups}
 
 -- the number once these characters are read too, where the digits before them are worth n,
@@ -31,10 +32,6 @@ number_after n begun groups = bounded (all_groups begun groups) (fold with_digit
 grows : (n : ℕ) (cs : List ℕ) → n ≤ fold with_digit n cs
 grows n [] = omega arith
 grows n (c ∷ cs) = omega (arith, grows (with_digit n c) cs)
-
-and_assoc : (a b c : Bool) → ((a && b) && c) ≡ (a && (b && c))
-and_assoc true b c = refl
-and_assoc false b c = refl
 
 first_begins : (gs : List (List ℕ)) → 0 < length gs → list_all is_group gs ≡ all_groups false gs
 first_begins [] h = absurd (omega arith)

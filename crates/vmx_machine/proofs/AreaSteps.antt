@@ -2,6 +2,7 @@
 use Rattle.std.proofs.Common.{◌≡◌, ℕ, suc, ◌+◌, ◌*◌, ◌<◌, List, [], ◌∷◌, ◌++◌, length, map, drop, get_or, Option, Some, None, refl, sym, ap, ◌∙◌, arith, add-one}
 use Rattle.std.proofs.Math.Seq.{drop-cons}
 use Rattle.std.proofs.lemmas.List.{map-append}
+use Rattle.muen_num.proofs.NumbersBelow.{one_more}
 use Rattle.muen_num.specs.Range.{numbers_below}
 use Rattle.machine_layout.specs.Exits.{AreaEntry, area_index, area_value}
 use Rattle.machine_layout.specs.Memory.{Page, store_of}
@@ -16,9 +17,6 @@ index_is area i = refl
 value_is : (area : List ℕ) (i : ℕ) → area_value area i ≡ number_at area (16 * i + 8) 8
 unfolding area_value number_at
 value_is area i = refl
-
-one_more : (n : ℕ) → numbers_below (n + 1) ≡ numbers_below n ++ n ∷ []
-one_more n = ap numbers_below (add-one n)
 
 -- ---- saving
 

@@ -1,7 +1,8 @@
 use Rattle.std.proofs.Common.{◌≡◌, ◌+◌, ◌*◌, ◌-◌, ◌∙◌, ap, arith}
+use Rattle.machine_layout.proofs.StoreLaws.{spelt}
 use Rattle.machine_layout.specs.Memory.{le_bytes}
 use Rattle.ept_emit.specs.Entries.{word_at}
-use Rattle.ept_emit.proofs.Bytes.{same_bytes, spelt, word_other}
+use Rattle.ept_emit.proofs.Bytes.{same_bytes, word_other}
 use Rattle.ept_emit.proofs.entries.set_word.Goals as goal
 
 pub returns-clause-others : goal.returns-clause-others

@@ -1,5 +1,6 @@
+use Rattle.muen_num.proofs.Lists.{read_at}
 use Rattle.expand_grants.specs.Grants.{AreGrantsOf}
-use Rattle.expand_grants.proofs.LawfulSubjects.{read_at, read_kept, zip_more}
+use Rattle.expand_grants.proofs.LawfulSubjects.{read_kept, zip_more}
 use Rattle.expand_grants.proofs.expand.of_subjects.Goals as goal
 
 pub of_subject-requires-clause-at : goal.of_subject-requires-clause-at

@@ -1,6 +1,7 @@
 use Rattle.std.proofs.Common.{◌∷◌, [], ◌++◌, sym, ◌∙◌}
 use Rattle.flow_report.specs.ByIndex.{contacts_of}
-use Rattle.flow_report.proofs.ContactsByIndex.{numbered_read, read_at}
+use Rattle.flow_report.proofs.ContactsByIndex.{numbered_read}
+use Rattle.muen_num.proofs.Lists.{read_at}
 use Rattle.flow_report.proofs.contacts.all_contacts.Goals as goal
 
 pub make_contacts-requires : goal.make_contacts-requires

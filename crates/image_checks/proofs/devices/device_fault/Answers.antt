@@ -1,6 +1,6 @@
 use Rattle.std.proofs.Common.{◌≡◌, subst, sym, length, List}
 use Rattle.image_checks.proofs.DevicesTold.{few_windows, same_devices}
-use Rattle.image_checks.proofs.SpansTold.{contents_many}
+use Rattle.image_checks.proofs.SpansOfNumbers.{as_many}
 use Rattle.image_checks.proofs.devices.device_fault.Goals as goal
 use Rattle.image_checks.specs.PlanFault.{IsFirstDifference}
 use Rattle.image_pack.specs.declared.parts.Image.{Image}
@@ -15,7 +15,7 @@ devices-requires c =
 
 pub first_other-requires-clause-contents : goal.first_other-requires-clause-contents
 first_other-requires-clause-contents c =
-    subst (λ (i : Image). length i.contents ≡ length i.spans) (sym c.image.ensures.same) (contents_many c.args.parts.now c.image.ensures.parts)
+    subst (λ (i : Image). length i.contents ≡ length i.spans) (sym c.image.ensures.same) (as_many c.args.parts.now c.image.ensures.parts)
 
 pub returns : goal.returns
 returns c =

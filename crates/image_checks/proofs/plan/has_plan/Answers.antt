@@ -1,6 +1,6 @@
 use Rattle.std.proofs.Common.{◌≡◌, ◌∙◌, ap, subst, sym, length}
 use Rattle.image_checks.proofs.PlanTold.{other_cpus, plan_whole}
-use Rattle.image_checks.proofs.SpansTold.{contents_many}
+use Rattle.image_checks.proofs.SpansOfNumbers.{as_many}
 use Rattle.image_checks.proofs.plan.has_plan.Goals as goal
 use Rattle.image_checks.specs.Firsts.{Decides}
 use Rattle.image_checks.specs.PlanFault.{HasChoice}
@@ -17,7 +17,7 @@ returns-then-from-cpus c =
 
 pub has_choice-requires : goal.has_choice-requires
 has_choice-requires c =
-    subst (λ (i : Image). length i.contents ≡ length i.spans) (sym c.image-image.ensures.same) (contents_many c.args.parts.now c.image-image.ensures.parts)
+    subst (λ (i : Image). length i.contents ≡ length i.spans) (sym c.image-image.ensures.same) (as_many c.args.parts.now c.image-image.ensures.parts)
 
 pub returns : goal.returns
 returns c =

@@ -1,6 +1,6 @@
 use Rattle.std.proofs.Common.{◌+◌, sym, ◌∙◌}
+use Rattle.muen_num.proofs.NumbersBelow.{any_below}
 use Rattle.machine_layout.specs.Exits.{port_is_set}
-use Rattle.machine_layout.proofs.ExitLaws.{any_below}
 use Rattle.machine_layout.proofs.exits.one_is_set.Goals as goal
 
 pub returns-then-port_is_set : goal.returns-then-port_is_set

@@ -1,12 +1,13 @@
 use Rattle.std.proofs.Common.{◌∙◌, refl, sym}
-use Rattle.muen_top.proofs.Images.{all_written, is_some_mapped}
+use Rattle.muen_top.proofs.Images.{all_written}
 use Rattle.muen_top.specs.Commands.{build}
 use Rattle.muen_top.proofs.Ending.{ended}
+use Rattle.muen_num.proofs.Options.{is_some-option_map}
 use Rattle.muen_top.proofs.build.build.Goals as goal
 
 pub returns-in-Ok : goal.returns-in-Ok
 returns-in-Ok g c out =
-    let there = is_some_mapped (λ v. v.items) c.in-Ok.built.tables ∙ c.in-Ok.ensures.there ∙ c.is_some.ensures ∙ sym (is_some_mapped (λ name. name.now) c.args.dma) in
+    let there = is_some-option_map (λ v. v.items) c.in-Ok.built.tables ∙ c.in-Ok.ensures.there ∙ c.is_some.ensures ∙ sym (is_some-option_map (λ name. name.now) c.args.dma) in
     all_written _ c.args.image.now _ _ _ _ _ _ _ _ _ c.built_of.ensures.held c.in-Ok.ensures.ok out there c.write_all.result c.write_all.ensures
 
 pub returns-in-Err : goal.returns-in-Err

@@ -5,11 +5,11 @@ use Rattle.iobm_emit.specs.Ports.{is_granted_access}
 use Rattle.machine_layout.specs.Exits.{area_bytes}
 use Rattle.msrbm_emit.specs.Area.{area_of, count_of}
 use Rattle.msrbm_emit.specs.Msrs.{is_covered, is_granted}
+use Rattle.muen_num.proofs.Pairs.{both_at}
 use Rattle.muen_num.specs.declared.limits.TheConstants.{MOST_MSRS, PAGE}
 use Rattle.machine_layout.specs.PageFields.{padded}
 use Rattle.policy_lawful.proofs.KeptRules.{rules_of}
 use Rattle.subject_emit.proofs.KeptMsrs.{msrs_covered, msrs_few}
-use Rattle.subject_emit.proofs.Pieces.{both_at}
 use Rattle.subject_emit.proofs.subject_pages.pages.Goals as goal
 
 pub msr_bitmap-requires : goal.msr_bitmap-requires
