@@ -1,12 +1,22 @@
 """What crates.txt promises: each crate behind those that it cites, in its room, and its README with how many stand on it."""
 import re
+import subprocess
 
 from checking import TOP, Case, each, want
-from crate_list import count_line, crates, readme
+from crate_list import below, count_line, crates, readme
 
 
 class Crates(Case):
     """crates.txt, the rooms of docs/architecture.md, and the READMEs of crates."""
+
+    def rooms(self):
+        """The crates below each heading of crates.txt."""
+        found = {}
+        for block in (TOP / "crates.txt").read_text(encoding="utf-8").split("\n\n")[1:]:
+            heading, *lines = block.splitlines()
+            room = re.fullmatch(r"# (.*?)(?: \(.*\))?", heading)[1]
+            found.setdefault(room, set()).update(line.split(":")[0] for line in lines)
+        return found
 
     def test_lowest_first(self):
         """Each crate stands behind those that it cites."""
@@ -17,15 +27,25 @@ class Crates(Case):
 
     def test_rooms(self):
         """The crates below each heading, which is `# ROOM` or `# ROOM (WHY)` behind an empty line, are those of docs/architecture.md."""
-        found = {}
-        for block in (TOP / "crates.txt").read_text(encoding="utf-8").split("\n\n")[1:]:
-            heading, *lines = block.splitlines()
-            room = re.fullmatch(r"# (.*?)(?: \(.*\))?", heading)[1]
-            found.setdefault(room, set()).update(line.split(":")[0] for line in lines)
+        found = self.rooms()
         rows = re.findall(r"(?m)^\| ([^|`]+) \| ((?:`\w+`(?:, )?)+) \|", (TOP / "docs" / "architecture.md").read_text(encoding="utf-8"))
         self.want(set(found), {room for room, _ in rows}, "the rooms")
         for room, names in rows:
             self.want(found.get(room), set(re.findall(r"\w+", names)), f"the crates of the room {room}")
+
+    def test_checker_apart(self):
+        """The checker stands on no crate that builds an image, runs one or proves what holds of either, but on three that go from a policy to what an image has to have."""
+        rooms = {name: room for room, names in self.rooms().items() for name in names}
+        apart = {"the abstract system", "proofs", "reports", "the program"}
+        writers = {"ept_emit", "event_emit", "plan_emit"}
+        machine = {"device_bench", "dma_tables", "event_router", "image_emit", "image_load", "kernel_core", "muen_build", "muen_run", "region_alloc", "view_text", "vmx_machine"}
+        found = {one for one in below("image_verify") if rooms[one] in apart or one in machine or rooms[one] == "who writes it" and one not in writers}
+        self.want(found, set(), "what image_verify stands on")
+
+    def test_twins(self):
+        """No statement is proved in several files, and no definition stands twice, but for those that share/twins has a reason for."""
+        told = subprocess.run([TOP / "share" / "twins"], cwd=TOP, capture_output=True, text=True, check=True).stdout
+        self.want(told, "0 statements in several files (0 copies), 0 definitions\n", "what share/twins tells")
 
     @each((f"how many crates stand on {name}", name) for name in crates())
     def test_count(self, name):

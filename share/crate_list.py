@@ -15,6 +15,16 @@ def crates():
     return {name: [one for one in below if one in cited] for name, below in cited.items()}
 
 
+def below(crate):
+    """The crates that this one stands on, directly or not."""
+    cited, found, waiting = crates(), set(), [crate]
+    while waiting:
+        new = set(cited[waiting.pop()]) - found
+        found |= new
+        waiting += new
+    return found
+
+
 def above(crate):
     """The crates that stand on this one, directly or not, lowest first: an edit of it proves them anew."""
     cited = crates()

@@ -17,16 +17,17 @@ use Rattle.asm_text.proofs.Seats.{encoding_long}
 use Rattle.asm_listing.proofs.Accepted.{IsSound}
 use Rattle.asm_listing.proofs.Chunks.{chunks_by, encoding_decodes, first_chunk, no_chunk}
 use Rattle.asm_listing.proofs.Placed.{AreStanding, IsSeat, said_standing}
-use Rattle.asm_listing.proofs.Sources.{IsLow, bytes_back, chunk_item, front_low, item_by, source_says}
+use Rattle.asm_listing.proofs.Sources.{bytes_back, chunk_item, front_low, item_by, source_says}
+use Rattle.guest_isa.specs.Words.{IsByte}
 
 -- ---- the bytes of a source
 
-standing_bytes : (here : ℕ) (items : List Item) → AreStanding here items → (here + length (bytes_of_items items) ≤ COMPONENT_FILE_MOST) × All IsLow (bytes_of_items items)
-standing_bytes here [] h = (omega (arith, h), All-nil IsLow)
+standing_bytes : (here : ℕ) (items : List Item) → AreStanding here items → (here + length (bytes_of_items items) ≤ COMPONENT_FILE_MOST) × All IsByte (bytes_of_items items)
+standing_bytes here [] h = (omega (arith, h), All-nil IsByte)
 standing_bytes here (item ∷ items) h =
     let rest = standing_bytes (here + length (bytes_of_item item)) items h.2 in
     let long = length-append (bytes_of_item item) (bytes_of_items items) in
-    (omega (arith, long, rest.0), All-append IsLow (bytes_of_item item) (bytes_of_items items) h.1 rest.1)
+    (omega (arith, long, rest.0), All-append IsByte (bytes_of_item item) (bytes_of_items items) h.1 rest.1)
 
 -- ---- what holds of each instruction, with what is before and behind it
 
@@ -112,7 +113,7 @@ encoding_item i sound =
     ap (item_by (encoding_of i))
     (ap (λ t. if t then decode_of (encoding_of i) else None) (eq-eqb (length (encoding_of i)) 8 l) ∙ encoding_decodes i sound.valid sound.fits)
 
-module _ (bytes : List ℕ) (low : All IsLow bytes) where
+module _ (bytes : List ℕ) (low : All IsByte bytes) where
   abbrev IsPrinted : ℕ × Instr → Type 0
   IsPrinted x = Contains (instructions_of (map chunk_item (chunks_of bytes))) x
 
@@ -126,7 +127,7 @@ module _ (bytes : List ℕ) (low : All IsLow bytes) where
       let items : map chunk_item (chunks_of bytes) ≡ fronts ++ (instruction i ∷ backs) =
       ap (map chunk_item) chunks ∙ map-append chunk_item (chunks_of before) (code ∷ chunks_of behind) ∙ ap (λ (x : Item). fronts ++ (x ∷ backs)) (encoding_item i sound) in
       let long : 0 + length (bytes_of_items fronts) ≡ length before =
-      ap (λ (bs : List ℕ). 0 + length bs) (bytes_back before (front_low before (code ++ behind) (subst (All IsLow) e low))) ∙ zero-add (length before) in
+      ap (λ (bs : List ℕ). 0 + length bs) (bytes_back before (front_low before (code ++ behind) (subst (All IsByte) e low))) ∙ zero-add (length before) in
       let there : Contains (instructions_from 0 (fronts ++ (instruction i ∷ backs))) (length before, i) =
       subst (λ (is : List (ℕ × Instr)). Contains is (length before, i)) (sym (from_append 0 fronts (instruction i ∷ backs) ∙ ap (λ n. instructions_from 0 fronts ++ instructions_from n (instruction i ∷ backs)) long))
       (Contains-append_right (instructions_from 0 fronts) (instructions_from (length before) (instruction i ∷ backs)) (length before, i) (first_of (length before) i backs)) in

@@ -22,7 +22,7 @@ use Rattle.asm_text.specs.declared.statement.Statement.TheVariants.{Nothing, Def
 use Rattle.asm_text.proofs.Accepted.{Holds, holds_then, zero_low}
 use Rattle.asm_text.proofs.Seats.{AreSeated, AreSeatedIn, IsLong, IsPassed, encoding_long, filled, in_line_holds, layout_seated, numbers_long, numbers_many}
 use Rattle.asm_listing.proofs.Accepted.{IsSound, immediate_fits, sound_with}
-use Rattle.asm_listing.proofs.Sources.{IsLow}
+use Rattle.guest_isa.specs.Words.{IsByte}
 
 -- ---- items
 
@@ -35,31 +35,31 @@ IsSeat here (zeros n) = Unit {0}
 -- items one behind another, the first of which begins here
 abbrev pub AreStanding : ℕ → List Item → Type 0
 AreStanding here [] = here ≤ COMPONENT_FILE_MOST
-AreStanding here (item ∷ items) = IsSeat here item × All IsLow (bytes_of_item item) × AreStanding (here + length (bytes_of_item item)) items
+AreStanding here (item ∷ items) = IsSeat here item × All IsByte (bytes_of_item item) × AreStanding (here + length (bytes_of_item item)) items
 
 -- ---- bytes
 
-bytes_low : (i k n : ℕ) → All IsLow (bytes_low_first i k n)
-bytes_low i zero n = All-nil IsLow
-bytes_low i (suc k) n = All-cons IsLow (byte_at i n) (bytes_low_first (suc i) k n) (byte_low i n) (bytes_low (suc i) k n)
+bytes_low : (i k n : ℕ) → All IsByte (bytes_low_first i k n)
+bytes_low i zero n = All-nil IsByte
+bytes_low i (suc k) n = All-cons IsByte (byte_at i n) (bytes_low_first (suc i) k n) (byte_low i n) (bytes_low (suc i) k n)
 
-number_low : (size : AccessSize) (n : ℕ) → All IsLow (little_endian size n)
+number_low : (size : AccessSize) (n : ℕ) → All IsByte (little_endian size n)
 number_low One n = bytes_low 0 1 n
 number_low Two n = bytes_low 0 2 n
 number_low Four n = bytes_low 0 4 n
 number_low Eight n = bytes_low 0 8 n
 
-numbers_low : (size : AccessSize) (ns : List ℕ) → All IsLow (flat_map (little_endian size) ns)
-numbers_low size [] = All-nil IsLow
-numbers_low size (n ∷ ns) = All-append IsLow (little_endian size n) (flat_map (little_endian size) ns) (number_low size n) (numbers_low size ns)
+numbers_low : (size : AccessSize) (ns : List ℕ) → All IsByte (flat_map (little_endian size) ns)
+numbers_low size [] = All-nil IsByte
+numbers_low size (n ∷ ns) = All-append IsByte (little_endian size n) (flat_map (little_endian size) ns) (number_low size n) (numbers_low size ns)
 
-fields_low : (opcode rd rs size : ℕ) (z : ℤ) → opcode < 256 → rd < 16 → rs < 16 → size < 256 → All IsLow (spelled (fields opcode rd rs size z))
+fields_low : (opcode rd rs size : ℕ) (z : ℤ) → opcode < 256 → rd < 16 → rs < 16 → size < 256 → All IsByte (spelled (fields opcode rd rs size z))
 fields_low opcode rd rs size z o h k s =
     let two : rd * 16 + rs < 256 = omega arith in
     let none : 0 < 256 = omega arith in
     let word = to_le_bytes w32 (cast_unsigned w32 z) in
-    All-cons IsLow opcode ((rd * 16 + rs) ∷ size ∷ 0 ∷ word) o
-    (All-cons IsLow (rd * 16 + rs) (size ∷ 0 ∷ word) two (All-cons IsLow size (0 ∷ word) s (All-cons IsLow 0 word none (bytes_low 0 4 (cast_unsigned w32 z)))))
+    All-cons IsByte opcode ((rd * 16 + rs) ∷ size ∷ 0 ∷ word) o
+    (All-cons IsByte (rd * 16 + rs) (size ∷ 0 ∷ word) two (All-cons IsByte size (0 ∷ word) s (All-cons IsByte 0 word none (bytes_low 0 4 (cast_unsigned w32 z)))))
 
 code_low : (size : AccessSize) → code_of size < 256
 code_low One = omega arith
@@ -67,7 +67,7 @@ code_low Two = omega arith
 code_low Four = omega arith
 code_low Eight = omega arith
 
-encoding_low : (i : Instr) → IsValid i → All IsLow (encoding_of i)
+encoding_low : (i : Instr) → IsValid i → All IsByte (encoding_of i)
 unfolding encoding_of
 encoding_low Nop v = fields_low 0 0 0 0 (pos 0) (omega arith) zero_low zero_low (omega arith)
 encoding_low (Li rd imm) v = fields_low 1 rd 0 0 imm (omega arith) v zero_low (omega arith)
@@ -102,15 +102,15 @@ encoding_low Reti v = fields_low 27 0 0 0 (pos 0) (omega arith) zero_low zero_lo
 
 -- an item that begins here and ends there
 abbrev IsPlaced : ℕ → ℕ → Item → Type 0
-IsPlaced here to item = IsSeat here item × All IsLow (bytes_of_item item) × (here + length (bytes_of_item item) ≡ to)
+IsPlaced here to item = IsSeat here item × All IsByte (bytes_of_item item) × (here + length (bytes_of_item item) ≡ to)
 
 item_placed : (names : Names) (here : ℕ) (statement : Statement) → IsPassed here statement → Holds (IsPlaced here (behind here statement)) (item_of names here statement)
-item_placed names here Nothing h = (tt, All-nil IsLow, omega arith)
-item_placed names here (Definition left name number) h = (tt, All-nil IsLow, omega arith)
+item_placed names here Nothing h = (tt, All-nil IsByte, omega arith)
+item_placed names here (Definition left name number) h = (tt, All-nil IsByte, omega arith)
 item_placed names here (Offset left offset) h =
     let none : 0 < 256 = omega arith in
     let same : here + (offset - here) ≡ offset = omega arith in
-    (tt, All-replicate IsLow (offset - here) 0 none, filled here (offset - here) ∙ same)
+    (tt, All-replicate IsByte (offset - here) 0 none, filled here (offset - here) ∙ same)
 item_placed names here (Data left size values) h =
     holds_then (IsLong values) (IsPlaced here (behind here (Data left size values))) (numbers_of names size values) _ (numbers_many names size values) λ ns many.
     (tt, numbers_low size ns, ap (λ n. here + n) (numbers_long size ns ∙ ap (λ n. n * bytes_of size) many))

@@ -31,9 +31,7 @@ use Rattle.asm_listing.proofs.DataLines.{data_read}
 use Rattle.asm_listing.proofs.Instructions.{as_line, instruction_read}
 use Rattle.asm_listing.proofs.Seen.{Seen, data_seen, instruction_seen}
 use Rattle.asm_listing.proofs.Words.{is_seen}
-
-abbrev pub IsLow : ℕ → Type 0
-IsLow b = b < 256
+use Rattle.guest_isa.specs.Words.{IsByte}
 
 -- ---- what the line of a chunk says
 
@@ -59,14 +57,14 @@ record IsRead (chunk : List ℕ) (o : Option Instr) : Type 0 where
 moves_on : (left to here : ℕ) (names : Names) → to ≤ COMPONENT_FILE_MOST → moved left to (standing here names) ≡ Ok (standing to names)
 moves_on left to here names h = ap (λ b. if b then wanted left Room else Ok (standing to names)) (le-ltb COMPONENT_FILE_MOST to h)
 
-data_bytes : (bs : List ℕ) → All IsLow bs → flat_map (little_endian One) bs ≡ bs
+data_bytes : (bs : List ℕ) → All IsByte bs → flat_map (little_endian One) bs ≡ bs
 data_bytes [] all = refl
 data_bytes (b ∷ bs) all =
-    let low : b < 256 = All-head IsLow b bs all in
+    let low : b < 256 = All-head IsByte b bs all in
     let same : b % 256 ≡ b = omega arith in
-    λ i. same i ∷ data_bytes bs (All-tail IsLow b bs all) i
+    λ i. same i ∷ data_bytes bs (All-tail IsByte b bs all) i
 
-module _ (chunk : List ℕ) (some : 0 < length chunk) (all : All IsLow chunk) where
+module _ (chunk : List ℕ) (some : 0 < length chunk) (all : All IsByte chunk) where
   data_is : IsRead chunk None
   data_is =
       let d = data_read chunk some all in
@@ -131,27 +129,27 @@ no_lines = refl
 abbrev line_text : List ℕ → List ℕ
 line_text chunk = chunk_text chunk ++ codes "\n"
 
-pub front_low : (a b : List ℕ) → All IsLow (a ++ b) → All IsLow a
-front_low [] b all = All-nil IsLow
-front_low (x ∷ a) b all = All-cons IsLow x a (All-head IsLow x (a ++ b) all) (front_low a b (All-tail IsLow x (a ++ b) all))
+pub front_low : (a b : List ℕ) → All IsByte (a ++ b) → All IsByte a
+front_low [] b all = All-nil IsByte
+front_low (x ∷ a) b all = All-cons IsByte x a (All-head IsByte x (a ++ b) all) (front_low a b (All-tail IsByte x (a ++ b) all))
 
-back_low : (a b : List ℕ) → All IsLow (a ++ b) → All IsLow b
+back_low : (a b : List ℕ) → All IsByte (a ++ b) → All IsByte b
 back_low [] b all = all
-back_low (x ∷ a) b all = back_low a b (All-tail IsLow x (a ++ b) all)
+back_low (x ∷ a) b all = back_low a b (All-tail IsByte x (a ++ b) all)
 
-lines_printed : (bytes : List ℕ) → All IsLow bytes → lines_of (flat_map line_text (chunks_of bytes)) ≡ map chunk_text (chunks_of bytes)
-lines_printed = chunks_by (λ bytes. All IsLow bytes → lines_of (flat_map line_text (chunks_of bytes)) ≡ map chunk_text (chunks_of bytes)) none fewer full
+lines_printed : (bytes : List ℕ) → All IsByte bytes → lines_of (flat_map line_text (chunks_of bytes)) ≡ map chunk_text (chunks_of bytes)
+lines_printed = chunks_by (λ bytes. All IsByte bytes → lines_of (flat_map line_text (chunks_of bytes)) ≡ map chunk_text (chunks_of bytes)) none fewer full
   where
-    none : All IsLow [] → lines_of (flat_map line_text (chunks_of [])) ≡ map chunk_text (chunks_of [])
+    none : All IsByte [] → lines_of (flat_map line_text (chunks_of [])) ≡ map chunk_text (chunks_of [])
     none all = rw no_chunk no_lines
 
-    fewer : (chunk : List ℕ) → 0 < length chunk → length chunk < 8 → All IsLow chunk → lines_of (flat_map line_text (chunks_of chunk)) ≡ map chunk_text (chunks_of chunk)
+    fewer : (chunk : List ℕ) → 0 < length chunk → length chunk < 8 → All IsByte chunk → lines_of (flat_map line_text (chunks_of chunk)) ≡ map chunk_text (chunks_of chunk)
     fewer chunk some few all =
         subst (λ (cs : List (List ℕ)). lines_of (flat_map line_text cs) ≡ map chunk_text cs) (sym (one_chunk chunk some few))
         (first_line (chunk_text chunk) [] (chunk_is chunk some all).seen ∙ ap (λ (ls : List (List ℕ)). chunk_text chunk ∷ ls) no_lines)
 
-    full : (chunk more : List ℕ) → length chunk ≡ 8 → (All IsLow more → lines_of (flat_map line_text (chunks_of more)) ≡ map chunk_text (chunks_of more))
-        → All IsLow (chunk ++ more) → lines_of (flat_map line_text (chunks_of (chunk ++ more))) ≡ map chunk_text (chunks_of (chunk ++ more))
+    full : (chunk more : List ℕ) → length chunk ≡ 8 → (All IsByte more → lines_of (flat_map line_text (chunks_of more)) ≡ map chunk_text (chunks_of more))
+        → All IsByte (chunk ++ more) → lines_of (flat_map line_text (chunks_of (chunk ++ more))) ≡ map chunk_text (chunks_of (chunk ++ more))
     full chunk more l h all =
         subst (λ (cs : List (List ℕ)). lines_of (flat_map line_text cs) ≡ map chunk_text cs) (sym (first_chunk chunk more l))
         (first_line (chunk_text chunk) (flat_map line_text (chunks_of more)) (chunk_is chunk (omega arith) (front_low chunk more all)).seen
@@ -196,7 +194,7 @@ more_laid here n chunk chunks r aligned room rest =
     }
 
 abbrev WillBeLaid : List ℕ → Type 0
-WillBeLaid bytes = (here n : ℕ) → here % 8 ≡ 0 → here + length bytes ≤ COMPONENT_FILE_MOST → All IsLow bytes → AreLaid here n (chunks_of bytes)
+WillBeLaid bytes = (here n : ℕ) → here % 8 ≡ 0 → here + length bytes ≤ COMPONENT_FILE_MOST → All IsByte bytes → AreLaid here n (chunks_of bytes)
 
 all_laid : (bytes : List ℕ) → WillBeLaid bytes
 all_laid = chunks_by WillBeLaid none fewer full
@@ -229,19 +227,19 @@ source_says bytes h =
     ∙ ap (λ (r : Result Layout SourceFault). r >>= λ layout. items_of layout.names layout.lines) laid.laid
     ∙ laid.items laid.layout.names
 
-pub bytes_back : (bytes : List ℕ) → All IsLow bytes → bytes_of_items (map chunk_item (chunks_of bytes)) ≡ bytes
-bytes_back = chunks_by (λ bytes. All IsLow bytes → bytes_of_items (map chunk_item (chunks_of bytes)) ≡ bytes) none fewer full
+pub bytes_back : (bytes : List ℕ) → All IsByte bytes → bytes_of_items (map chunk_item (chunks_of bytes)) ≡ bytes
+bytes_back = chunks_by (λ bytes. All IsByte bytes → bytes_of_items (map chunk_item (chunks_of bytes)) ≡ bytes) none fewer full
   where
-    none : All IsLow [] → bytes_of_items (map chunk_item (chunks_of [])) ≡ []
+    none : All IsByte [] → bytes_of_items (map chunk_item (chunks_of [])) ≡ []
     none all = rw no_chunk refl
 
-    fewer : (chunk : List ℕ) → 0 < length chunk → length chunk < 8 → All IsLow chunk → bytes_of_items (map chunk_item (chunks_of chunk)) ≡ chunk
+    fewer : (chunk : List ℕ) → 0 < length chunk → length chunk < 8 → All IsByte chunk → bytes_of_items (map chunk_item (chunks_of chunk)) ≡ chunk
     fewer chunk some few all =
         ap (λ cs. bytes_of_items (map chunk_item cs)) (one_chunk chunk some few)
         ∙ ap (λ (bs : List ℕ). bs ++ []) (chunk_is chunk some all).bytes ∙ append-nil chunk
 
-    full : (chunk more : List ℕ) → length chunk ≡ 8 → (All IsLow more → bytes_of_items (map chunk_item (chunks_of more)) ≡ more)
-        → All IsLow (chunk ++ more) → bytes_of_items (map chunk_item (chunks_of (chunk ++ more))) ≡ chunk ++ more
+    full : (chunk more : List ℕ) → length chunk ≡ 8 → (All IsByte more → bytes_of_items (map chunk_item (chunks_of more)) ≡ more)
+        → All IsByte (chunk ++ more) → bytes_of_items (map chunk_item (chunks_of (chunk ++ more))) ≡ chunk ++ more
     full chunk more l h all =
         ap (λ cs. bytes_of_items (map chunk_item cs)) (first_chunk chunk more l)
         ∙ ap₂ (λ (a b : List ℕ). a ++ b) (chunk_is chunk (omega arith) (front_low chunk more all)).bytes (h (back_low chunk more all))

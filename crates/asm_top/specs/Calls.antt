@@ -10,6 +10,7 @@ use Rattle.asm_top.specs.Answers.{Answer, prints, writes, refuses, answer_of}
 use Rattle.asm_top.specs.Commands.{Command, command_of, file_of, most_of}
 use Rattle.asm_top.specs.declared.status.Status.{Status}
 use Rattle.asm_top.specs.declared.status.Status.TheVariants as statuses
+use Rattle.muen_num.specs.Memory.{no_memory_text}
 
 -- ---- texts
 
@@ -63,9 +64,6 @@ pub record PutsFront (e : Ends) (text : List ℕ) : Type 0 where
   pub ended : e.status ≡ statuses.OutputFault
   pub put : Failed text e.out e.out'
   pub told : Told (codes "output fault") e.err e.err'
-
-abbrev pub no_memory_text : List ℕ
-no_memory_text = codes "out of memory"
 
 -- a write that ended so
 abbrev pub WriteEnds : Ends → Result (Unit {0}) FileError → Type 0

@@ -1,4 +1,9 @@
+pub mod Behind
+pub mod Choices
+pub mod Fields
 pub mod Forms
+pub mod Gaps
+pub mod Items
 pub mod Leaves
 pub mod Loops
 pub mod NameLaws

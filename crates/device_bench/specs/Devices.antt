@@ -8,6 +8,7 @@ use Rattle.device_bench.specs.declared.effect.Effect.{Effect}
 use Rattle.device_bench.specs.declared.effect.Effect.TheVariants.{Mem}
 use Rattle.record_text.specs.declared.record.Record.{Record}
 use Rattle.record_text.specs.declared.record.TickInput.{TickInput}
+use Rattle.muen_num.specs.Numbers.{zeros}
 
 -- a record of what devices do, and the input byte of each port
 pub record BenchState : Type 0 where
@@ -36,10 +37,6 @@ inputs_at r tick = filter (λ i. i.tick == tick) r.inputs
 -- the order of the CPUs in a tick, if the record gives one
 abbrev pub order_at : Record Effect → ℕ → Option (List ℕ)
 order_at r tick = option_map (λ o. o.cpus) (find (λ o. o.tick == tick) r.orders)
-
--- so many zeros
-unfoldable pub zeros : ℕ → List ℕ
-zeros n = replicate n 0
 
 -- no port has had an input
 abbrev pub no_inputs : List ℕ

@@ -5,7 +5,8 @@ ghost use Rattle.std.specs.List.Sorted.{IsNonDecreasingBy};
 ghost use Rattle.machine_layout.specs.Memory.{le_number};
 ghost use Rattle.muen_num.specs.AccessSize.{bytes_of};
 ghost use Rattle.device_bench.specs.Before.{Splits};
-ghost use Rattle.device_bench.specs.Devices.{IsInOrder, inputs_at, order_at, zeros, no_inputs, value_of_ports};
+ghost use Rattle.device_bench.specs.Devices.{IsInOrder, inputs_at, order_at, no_inputs, value_of_ports};
+ghost use Rattle.muen_num.specs.Numbers.{zeros};
 
 use crate::at_tick::AtTick;
 use crate::effect::Effect;
@@ -87,7 +88,7 @@ fn number_of(bytes: &[u8]) -> u32
 }
 
 // So many zeros.
-#[tactic(auto, unfolding(crate::specs::Devices::zeros))]
+#[tactic(auto, unfolding(muen_num::specs::Numbers::zeros))]
 fn zeros(alloc: Global, count: usize) -> Result<Vec<u8>, NoMemory>
     ensures zeros { IfOk result (λ z. z.items ≡ zeros count) }
     ensures length { IfOk result (λ z. length z.items ≡ count) }

@@ -17,7 +17,7 @@ use Rattle.dma_emit.proofs.DomainRules.{IsDomain, devices_kept}
 use Rattle.dma_emit.proofs.DomainWindows.{AreTwo, are_two, each_domain}
 use Rattle.dma_emit.proofs.DomainsReady.{ready, stands}
 use Rattle.dma_emit.proofs.Found.{made_from, position_found}
-use Rattle.dma_emit.proofs.Unordered.{found_moved}
+use Rattle.muen_num.proofs.FoundOnce.{found_permuted}
 use Rattle.dma_emit.proofs.Walk.{by_domains, led, led_device}
 use Rattle.ept_emit.specs.Emitted.{holds as is_in, window_at}
 use Rattle.ept_emit.specs.declared.window.Window.{Window}
@@ -104,7 +104,7 @@ module _ (x : Placement) (placed : IsPlaced x) where
       let in_turn = filter_map (mapped x) d.memory in
       let moved : IsPermutation in_turn (windows_of x d) = in_order_permutes is_lower in_turn in
       let two = are_two x placed d (all_in (IsDomain p) domains (each_domain x placed) d i) in
-      ap (λ o. led o addr write) (found_moved (is_in addr) in_turn (windows_of x d) moved (λ j k w l n. not_both (get_or (windows_of x d) j w) (get_or (windows_of x d) k w) addr (two j k w l n)))
+      ap (λ o. led o addr write) (sym (found_permuted (is_in addr) in_turn (windows_of x d) moved (λ j k w l n. not_both (get_or (windows_of x d) j w) (get_or (windows_of x d) k w) addr (two j k w l n))))
       ∙ leads d.memory addr write
 
   -- ---- by the device

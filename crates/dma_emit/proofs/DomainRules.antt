@@ -14,7 +14,8 @@ use Rattle.muen_num.proofs.Pairs.{pairs_unmapped}
 use Rattle.muen_num.proofs.SearchLaws.{all_pass, none_both, unless_none}
 use Rattle.policy_lawful.specs.Domains.{Listed, device_has_bdf, domain_extent, domain_overlap, is_bdf, listed_devices, listed_regions, offence_21, offence_22, offence_23, region_size, same_bdf, stands_before}
 use Rattle.policy_lawful.specs.Offences.{alone, two}
-use Rattle.policy_lawful.specs.Rules.{are_apart, at_most, is_declared, is_page_aligned, repeated}
+use Rattle.policy_lawful.specs.Rules.{are_apart, at_most, is_declared, repeated}
+use Rattle.muen_num.specs.Numbers.{is_page_aligned}
 use Rattle.policy_lawful.specs.declared.offence.Offence.{Offence}
 use Rattle.policy_lawful.specs.Rights.{may_execute}
 use Rattle.policy_lawful.specs.source.Domain.{Domain}

@@ -27,7 +27,8 @@ use Rattle.muen_num.proofs.Pairs.{pairs_mapped}
 use Rattle.policy_lawful.specs.Domains.{domain_extent, region_size}
 use Rattle.policy_lawful.specs.Ranges.{in_a_block}
 use Rattle.policy_lawful.specs.Resolution.{source_of}
-use Rattle.policy_lawful.specs.Rules.{are_apart, is_alignment, is_fixed, is_laid, is_page_aligned, is_page_size}
+use Rattle.policy_lawful.specs.Rules.{are_apart, is_alignment, is_fixed, is_laid, is_page_size}
+use Rattle.muen_num.specs.Numbers.{is_page_aligned}
 use Rattle.policy_lawful.proofs.KeptAddresses.{addresses_kept}
 use Rattle.policy_lawful.proofs.KeptRules.{rules_of}
 use Rattle.policy_lawful.specs.source.Domain.{Domain}

@@ -11,7 +11,8 @@ use Rattle.muen_num.proofs.SearchLaws.{none_both, unless_none}
 use Rattle.muen_num.specs.declared.limits.TheConstants.{MOST_BLOCKS, PAGE, PHYSICAL_END}
 use Rattle.policy_lawful.specs.Lawful.{IsLawful}
 use Rattle.policy_lawful.specs.Offences.{alone}
-use Rattle.policy_lawful.specs.Rules.{at_most, extents_of, is_page_aligned, is_page_size, is_physical, offence_20}
+use Rattle.policy_lawful.specs.Rules.{at_most, extents_of, is_page_size, is_physical, offence_20}
+use Rattle.muen_num.specs.Numbers.{is_page_aligned}
 use Rattle.policy_lawful.specs.declared.offence.Extent.{Extent}
 use Rattle.policy_lawful.proofs.KeptAddresses.{addresses_kept, is_memory}
 use Rattle.policy_lawful.proofs.KeptLimits.{limits_kept}

@@ -17,7 +17,6 @@ pub mod MappedAt
 pub mod DomainWindows
 pub mod Counts
 pub mod DomainsReady
-pub mod Unordered
 pub mod Declared
 pub mod Extents
 pub mod FileMade

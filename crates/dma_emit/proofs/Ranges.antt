@@ -8,8 +8,7 @@ use Rattle.std.proofs.lemmas.Bool.{cases_Bool, le-leb, leb-false, leb-true, not-
 use Rattle.std.proofs.lemmas.List.Elements.{All-cons, All-nil, All-weaker}
 use Rattle.std.proofs.lemmas.List.Sorted.{All-permutation}
 use Rattle.expand_kernel.specs.Ordered.{in_order, inserted}
-use Rattle.expand_kernel.proofs.Ordered.{in_order_permutes}
-use Rattle.region_alloc.proofs.EachInTurn.{All-inserted}
+use Rattle.expand_kernel.proofs.Ordered.{in_order_permutes, All-inserted}
 use Rattle.span_emit.proofs.PairLaws.{ascend, pairs_permuted, pairs_weaker}
 
 -- ---- a list in the order of a number of its elements

@@ -4,7 +4,7 @@ use Rattle.std.specs.List.{All, AllPairs}
 use Rattle.dma_emit.specs.declared.devices.DomainDevice.{DomainDevice}
 use Rattle.dma_emit.specs.declared.domains.Domains.{Domains}
 use Rattle.dma_emit.specs.Layout.{page_count}
-use Rattle.dma_tables.specs.DmaConditions.{AreDistinct}
+use Rattle.dma_tables.specs.ImageConditions.{AreDistinct}
 use Rattle.dma_tables.specs.declared.file.TheConstants.{MOST_DMA_PAGES}
 use Rattle.ept_emit.specs.Entries.{IsEmittable}
 use Rattle.ept_emit.specs.Pages.{AreApart, ranges_of}

@@ -8,8 +8,10 @@ use Rattle.binary_form.specs.Form.{all_fit, byte, bytes_of, done, field, gap, it
 use Rattle.binary_form.proofs.NameLaws.{name_fits, name_kept}
 use Rattle.image_pack.proofs.DevicesFit.{still_new, distinct_behind}
 use Rattle.image_pack.proofs.DevicesKeep.{Differ, name_before}
-use Rattle.dma_tables.specs.DmaConditions.{AreDistinct, IsDmaDevice, KeepsConditions}
-use Rattle.dma_tables.specs.DmaFile.{after_device, device, dma_file, is_listed, pages_in}
+use Rattle.dma_tables.specs.DmaConditions.{IsDmaDevice, KeepsConditions}
+use Rattle.image_pack.specs.ImageConditions.{AreDistinct}
+use Rattle.dma_tables.specs.DmaFile.{after_device, device, dma_file, pages_in}
+use Rattle.image_pack.specs.Image.{is_listed}
 use Rattle.dma_tables.specs.Tables.{AreTables}
 use Rattle.dma_tables.specs.declared.file.TheConstants.{MOST_DMA_PAGES}
 use Rattle.dma_tables.specs.declared.file.DmaDevice.{DmaDevice}

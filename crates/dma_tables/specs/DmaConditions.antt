@@ -8,15 +8,13 @@ use Rattle.binary_form.specs.Form.{IsBytes}
 use Rattle.dma_tables.specs.declared.file.TheConstants.{MOST_DMA_PAGES}
 use Rattle.dma_tables.specs.declared.file.DmaDevice.{DmaDevice}
 use Rattle.dma_tables.specs.declared.file.DmaFile.{DmaFile}
+use Rattle.image_pack.specs.ImageConditions.{AreDistinct}
 
 -- a device has a name, and the number of its bus and its devfn are bytes
 pub record IsDmaDevice (d : DmaDevice) : Type 0 where
   pub called : is_name d.name ≡ true
   pub bus : d.bus < 256
   pub devfn : d.devfn < 256
-
-abbrev pub AreDistinct : List (List ℕ) → Type 0
-AreDistinct names = AllPairs (λ a b. bytes_eq a b ≡ false) names
 
 pub record KeepsConditions (t : DmaFile) : Type 0 where
   pub aligned : t.base % PAGE ≡ 0

@@ -11,15 +11,14 @@ use Rattle.binary_form.specs.declared.fault.Field.TheVariants as at
 use Rattle.dma_tables.specs.declared.file.TheConstants.{MOST_DMA_PAGES}
 use Rattle.dma_tables.specs.declared.file.DmaDevice.{DmaDevice}
 use Rattle.dma_tables.specs.declared.file.DmaFile.{DmaFile}
+use Rattle.image_pack.specs.Image.{is_listed}
+use Rattle.muen_num.specs.Numbers.{is_page_aligned}
 
 -- the bytes that a file begins with
 unfoldable pub mark_bytes : List ℕ
 mark_bytes = codes "MUENDMA1"
 
 -- ---- the pages: where they begin, and how many they are
-
-abbrev pub is_base : ℕ → Bool
-is_base base = base % PAGE == 0
 
 -- so many pages from there on, that end where physical addresses do, or before it
 abbrev pub is_size : ℕ → ℕ → Bool
@@ -29,9 +28,6 @@ abbrev pub pages_in : DmaFile → ℕ
 pages_in t = length t.pages / PAGE
 
 -- ---- devices: their names differ
-
-abbrev pub is_listed : List (List ℕ) → List ℕ → Bool
-is_listed names n = list_any (λ m. bytes_eq m n) names
 
 abbrev pub after_device : Unit {0} → List (List ℕ) → DmaDevice → List (List ℕ)
 after_device among names d = names ++ d.name ∷ []
@@ -49,7 +45,7 @@ device among names =
 unfoldable pub dma_file : Form DmaFile
 dma_file =
     tag mark_bytes at.Magic (
-    field (λ t. t.base) (only is_base at.Place (number w64)) (λ base.
+    field (λ t. t.base) (only is_page_aligned at.Place (number w64)) (λ base.
     field pages_in (only (is_size base) at.Pages (number w32)) (λ pages.
     field (λ t. length t.devices) (only (λ n. nat_le n MOST_DEVICES) at.Count byte) (λ count.
     gap 3 at.Zero (

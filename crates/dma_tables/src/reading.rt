@@ -6,7 +6,9 @@ ghost use Rattle.std.specs.Int.{w32, w64};
 ghost use Rattle.binary_form.specs.Form.{Form, Gives, byte, items, number, only, tag_at, whole};
 ghost use Rattle.binary_form.specs.Name.{name};
 ghost use Rattle.binary_form.specs.declared.fault.Field.{Field};
-ghost use Rattle.dma_tables.specs.DmaFile.{after_device, device, dma_file, is_base, is_listed, is_size, mark_bytes};
+ghost use Rattle.dma_tables.specs.DmaFile.{after_device, device, dma_file, is_size, mark_bytes};
+ghost use Rattle.muen_num.specs.Numbers.{is_page_aligned};
+ghost use Rattle.image_pack.specs.Image.{is_listed};
 ghost use Rattle.muen_num.specs.declared.limits.TheConstants.{MOST_DEVICES};
 
 use crate::file::{DmaDevice, DmaFile, MARK, MOST_DMA_PAGES};
@@ -35,7 +37,7 @@ fn mark_of(bytes: &[u8]) -> Result<&[u8], FormError>
 
 // The address of the first page.
 fn base_of(bytes: &[u8]) -> Result<(u64, &[u8]), FormError>
-    ensures { Gives (λ x. (x.0, x.1.now)) result ((only is_base Field.Place (number w64)).read bytes.now) }
+    ensures { Gives (λ x. (x.0, x.1.now)) result ((only is_page_aligned Field.Place (number w64)).read bytes.now) }
 {
     let (base, rest) = u64_of(bytes)?;
     if base % PAGE != 0 {

@@ -13,4 +13,5 @@ pub mod Sounds
 pub mod Marks
 pub mod Borders
 pub mod Loaded
+pub mod Following
 pub mod Given

@@ -6,7 +6,7 @@ use Rattle.std.proofs.Math.Bool.{or-true, and-false}
 use Rattle.std.proofs.lemmas.Bool.{eq-eqb, ne_eqb}
 use Rattle.std.proofs.lemmas.List.Sums.{sum_by-set}
 use Rattle.ept_check.specs.Looked.{IsNow, is_entered, marked}
-use Rattle.ept_check.specs.Tables.{is_among}
+use Rattle.muen_num.specs.Numbers.{is_among}
 use Rattle.ept_check.specs.declared.looked.Looked.{Looked}
 use Rattle.phys_mem.specs.Frames.{IsFirst, IsRising, NoneBelow}
 

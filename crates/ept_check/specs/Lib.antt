@@ -1,5 +1,5 @@
 pub use Rattle.ept_emit.specs.Emitted
-pub use Rattle.ept_emit.specs.Reads
+pub use Rattle.machine_layout.specs.Reads
 pub use Rattle.ept_emit.specs.declared.window
 pub use Rattle.machine_layout.specs.Memory
 pub use Rattle.machine_layout.specs.Walks

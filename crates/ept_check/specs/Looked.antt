@@ -1,7 +1,7 @@
 -- Which tables were entered.
 use Rattle.std.specs.Prelude.{◌≡◌, ◌≢◌, ℕ, ◌+◌, ◌==◌, ◌&&◌, ◌||◌, not, Bool, true, false, List, ◌∷◌}
 use Rattle.std.specs.List.{count_by}
-use Rattle.ept_check.specs.Tables.{is_among}
+use Rattle.muen_num.specs.Numbers.{is_among}
 use Rattle.ept_check.specs.declared.looked.Entering.{Entering}
 use Rattle.ept_check.specs.declared.looked.Entering.TheVariants.{Again, Now, Outside}
 use Rattle.ept_check.specs.declared.looked.Looked.{Looked}

@@ -2,7 +2,8 @@
 use Rattle.std.specs.Prelude.{◌≡◌, ℕ, ◌+◌, ◌*◌, ◌/◌, ◌%◌, ◌^◌, ◌<◌, ◌≤◌, Bool, true, List, length, slice_index}
 use Rattle.std.specs.List.{All, AllPairs}
 use Rattle.ept_check.specs.Known.{IsOnePath, Reads}
-use Rattle.ept_check.specs.Tables.{Tables, is_among, look_at, walk_at}
+use Rattle.ept_check.specs.Tables.{Tables, look_at, walk_at}
+use Rattle.muen_num.specs.Numbers.{is_among}
 use Rattle.ept_check.specs.declared.types.SubjectTables.{SubjectTables}
 use Rattle.ept_emit.specs.declared.window.Window.{Window}
 use Rattle.machine_layout.specs.Memory.{Page, is_there}

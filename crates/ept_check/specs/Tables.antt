@@ -10,6 +10,7 @@ use Rattle.machine_layout.specs.Walks.{addresses_from, entry_of, root_of, walk_f
 use Rattle.machine_layout.specs.declared.walk.Walk.{Walk}
 use Rattle.muen_num.specs.Access.{kind_bit}
 use Rattle.muen_num.specs.declared.access.AccessKind.{AccessKind}
+use Rattle.muen_num.specs.Numbers.{is_among}
 
 pub record Tables : Type 0 where
   -- entry i of the table in a page, where memory has it
@@ -22,9 +23,6 @@ pub record Tables : Type 0 where
   pub roots : List ℕ
   -- each subject's windows
   pub windows : List (List Window)
-
-abbrev pub is_among : List ℕ → ℕ → Bool
-is_among pages page = list_any (λ n. n == page) pages
 
 -- those in a memory, where these pages are declared to be tables
 abbrev pub tables_in : List Page → List ℕ → List SubjectTables → Tables

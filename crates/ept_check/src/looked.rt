@@ -1,7 +1,7 @@
 //! Which tables were entered.
 ghost use Rattle.std.specs.Prelude.{◌≡◌, length, MatchOption};
 ghost use Rattle.phys_mem.specs.Frames.{IsFirst, IsRising, NoneBelow};
-ghost use Rattle.ept_check.specs.Tables.{is_among};
+ghost use Rattle.muen_num.specs.Numbers.{is_among};
 
 use muen_num::NoMemory;
 use std::alloc::Global;

@@ -16,7 +16,7 @@ use Rattle.policy_types.specs.declared.rights.Rights.{Rights}
 use Rattle.policy_types.specs.declared.rights.Rights.TheVariants.{R, Rw, Rx, Rwx}
 use Rattle.ept_emit.specs.Entries.{IsEmittable, type_of, word_at}
 use Rattle.ept_emit.specs.Emitted.{HasAddresses, HasTables, IsGreatestSize, IsReadBy, eptp_of, translation, translation_in, window_at}
-use Rattle.ept_emit.specs.Reads.{Reads}
+use Rattle.machine_layout.specs.Reads.{Reads}
 use Rattle.ept_emit.specs.Tables.{AreNumbered, Below}
 use Rattle.ept_emit.proofs.Addresses.{IsRead, met, read}
 use Rattle.ept_emit.proofs.Walked.{Has, leads, level_low, walk_written, size_written, type_written}

@@ -9,7 +9,7 @@ use Rattle.machine_layout.specs.Walks.{addresses_read, entry_size, leaf_size, le
 use Rattle.muen_num.specs.declared.access.AccessKind.{AccessKind}
 use Rattle.policy_types.specs.Rights.{allows, rights_bits}
 use Rattle.ept_emit.specs.Entries.{level_of, type_of, word_at}
-use Rattle.ept_emit.specs.Reads.{Reads}
+use Rattle.machine_layout.specs.Reads.{Reads}
 
 -- the extended-page-table pointer of tables whose PML4 table is at `at`: write back in bits 2:0, the length of walks minus
 -- one in bits 5:3, no flags of accesses in bit 6

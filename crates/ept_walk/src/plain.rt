@@ -11,7 +11,9 @@ use muen_num::AccessKind;
 use muen_num::limits::PAGE;
 use phys_mem::PhysMem;
 
-/// Reads the tables at each walk, one entry of each level at most, and keeps nothing.
+/// No program runs it: tests hold `CachedWalk`, which runs use, against it (tests_machine/src/walks.rt,
+/// machine/stores.rt). It reads the tables at each walk, one entry of each level at most, and keeps
+/// nothing.
 #[derive(Clone, Copy, Debug)]
 pub struct PlainWalk;
 

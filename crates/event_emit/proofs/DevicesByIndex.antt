@@ -3,7 +3,8 @@ use Rattle.std.proofs.Common.{◌≡◌, ℕ, suc, ◌+◌, ◌<◌, true, List,
 use Rattle.std.specs.Prelude.{option_map, slice_get, IfSome}
 use Rattle.std.specs.List.{AllZip, enumerate_from, list_all}
 use Rattle.event_emit.specs.ByIndex.{AreFew, RouteFew, device_part, device_parts, has_name, irq_part, irq_target, port_span, window_parts}
-use Rattle.event_emit.specs.Tables.{AreDevices, IsDevice, IsIrq, IsIrqTarget, irq_named, span_ends}
+use Rattle.image_soundness.specs.TablesOf.{AreDevices, IsDevice, IsIrq, irq_named, span_ends}
+use Rattle.image_pack.specs.ImageConditions.{IsReached}
 use Rattle.event_emit.proofs.EntriesReach.{few_subjects, route_found}
 use Rattle.expand_grants.specs.Grants.{AreRoutes, route_for}
 use Rattle.expand_grants.specs.declared.granted.Route.{Route}
@@ -47,7 +48,7 @@ module _ (r : Resolution) (names : list_all has_name r.subjects ≡ true) (lawfu
     route_few : RouteFew routes device (length d.irqs)
     route_few irq l =
         let at = there d.irqs irq l in
-        elim (route_for routes device irq) as (λ o. IsIrqTarget (length r.subjects) (option_map irq_target o) → IfSome o (λ t. t.subject < 256)) [
+        elim (route_for routes device irq) as (λ o. IsReached (length r.subjects) (option_map irq_target o) → IfSome o (λ t. t.subject < 256)) [
           | None ↦ λ _. tt
           | Some t ↦ λ h. let there = h.0 in let few = few_subjects r names lawful in omega (arith, there, few)
         ] (route_found r names lawful routes device irq d at.0 are is at.1)

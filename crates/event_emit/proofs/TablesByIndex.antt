@@ -6,7 +6,8 @@ use Rattle.std.proofs.lemmas.List.{get_or-map, length-map}
 use Rattle.std.proofs.lemmas.List.Elements.{All-cons}
 use Rattle.std.proofs.lemmas.Option.{get_or_from_slice_get}
 use Rattle.event_emit.specs.ByIndex.{ReachFew, entry_at, event_part, has_name, has_way, source_way, table_of, tables_of}
-use Rattle.event_emit.specs.Tables.{AreTables, IsEntry, IsTable, part_raised}
+use Rattle.event_emit.specs.Tables.{AreTables}
+use Rattle.image_soundness.specs.TablesOf.{IsEntry, IsTable, part_raised}
 use Rattle.event_emit.specs.declared.event_tables.EventTables.{EventTables}
 use Rattle.event_emit.proofs.EntriesReach.{entry_found, few_subjects}
 use Rattle.expand_grants.specs.Grants.{AreGrants, AreGrantsOf}

@@ -1,2 +1,3 @@
 pub mod ByIndex
+pub mod Named
 pub mod Tables

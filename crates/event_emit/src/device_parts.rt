@@ -2,15 +2,16 @@
 ghost use Rattle.std.specs.Prelude.{◌≡◌, ◌+◌, ◌<◌, ◌^◌, true, length, map, option_map, IfOk, IfSome};
 ghost use Rattle.std.specs.List.{list_all, sum_by};
 ghost use Rattle.event_emit.specs.ByIndex.{AreFew, RouteFew, device_part, device_parts, irq_parts, irq_target, port_span, window_parts};
-ghost use Rattle.event_emit.specs.Tables.{AreDevices};
+ghost use Rattle.event_emit.specs.Named.{AreNamed, is_named};
+ghost use Rattle.image_soundness.specs.TablesOf.{AreDevices};
 ghost use Rattle.expand_grants.specs.ByIndex.{fits_device, fits_ports};
 ghost use Rattle.expand_grants.specs.Grants.{route_for};
+ghost use Rattle.muen_num.specs.Naming.{is_name};
 
-use crate::event_tables::are_named;
 use expand_grants::Route;
 use expand_kernel::Expanded;
 use image_pack::{DevicePart, IrqPart, WindowPart};
-use muen_num::{IrqTarget, NoMemory, PortSpan, Seq};
+use muen_num::{IrqTarget, Name, NoMemory, PortSpan, Seq};
 use policy_lawful::source::{Device, Irq, Ports};
 use std::alloc::Global;
 
@@ -78,6 +79,14 @@ fn target_of(routes: &[Route], device: usize, irq: usize) -> Option<IrqTarget>
     Some(irq_target(route))
 }
 
+// An interrupt of this name, which goes there.
+fn irq_from(name: Name, target: Option<IrqTarget>) -> IrqPart
+    ensures part { result ≡ record { name = name; target = target } }
+    ensures named { is_name name ≡ true }
+{
+    IrqPart { name, target }
+}
+
 // The interrupts of the device at an index.
 fn irq_parts(
     alloc: Global,
@@ -86,16 +95,32 @@ fn irq_parts(
     irqs: &[Irq],
 ) -> Result<Seq<IrqPart>, NoMemory>
     requires { RouteFew routes.now device (length irqs.now) }
-    ensures { IfOk result (λ parts. parts ≡ irq_parts routes.now device irqs.now) }
+    ensures parts { IfOk result (λ parts. parts ≡ irq_parts routes.now device irqs.now) }
+    ensures named { IfOk result (λ _. list_all (λ i. is_name i.name) irqs.now ≡ true) }
 {
     let mut parts = Seq::new(alloc);
     for (index, irq) in irqs.iter().enumerate() {
-        parts.push(IrqPart {
-            name: irq.name,
-            target: target_of(routes, device, index),
-        })?;
+        parts.push(irq_from(irq.name, target_of(routes, device, index)))?;
     }
     Ok(parts)
+}
+
+// A device of this name, with these ports, windows and interrupts.
+fn device_from(
+    name: Name,
+    ports: Seq<PortSpan>,
+    windows: Seq<WindowPart>,
+    irqs: Seq<IrqPart>,
+) -> DevicePart
+    ensures part { result ≡ record { name = name; ports = ports; windows = windows; irqs = irqs } }
+    ensures named { is_name name ≡ true }
+{
+    DevicePart {
+        name,
+        ports,
+        windows,
+        irqs,
+    }
 }
 
 // The device at an index, whose memory is numbered from `first` on.
@@ -109,14 +134,13 @@ fn device_part(
     requires ports { fits_device device.now ≡ true }
     requires routes { RouteFew routes.now index (length device.now.irqs) }
     requires spans { first + length device.now.memory < 2 ^ 16 }
-    ensures { IfOk result (λ part. part ≡ device_part routes.now index first device.now) }
+    ensures part { IfOk result (λ part. part ≡ device_part routes.now index first device.now) }
+    ensures named { IfOk result (λ _. is_named device.now ≡ true) }
 {
-    Ok(DevicePart {
-        name: device.name,
-        ports: port_spans(alloc, device.io_ports.items())?,
-        windows: window_parts(alloc, first, device.memory.len())?,
-        irqs: irq_parts(alloc, routes, index, device.irqs.items())?,
-    })
+    let ports = port_spans(alloc, device.io_ports.items())?;
+    let windows = window_parts(alloc, first, device.memory.len())?;
+    let irqs = irq_parts(alloc, routes, index, device.irqs.items())?;
+    Ok(device_from(device.name, ports, windows, irqs))
 }
 
 // These devices, whose memory is numbered on from one to the next, from `first` on.
@@ -130,7 +154,8 @@ fn device_parts(
     requires ports { list_all fits_device devices.now ≡ true }
     requires routes { AreFew routes.now devices.now }
     requires spans { first + sum_by (λ d. length d.memory) devices.now < 2 ^ 16 }
-    ensures { IfOk result (λ parts. parts ≡ device_parts routes.now 0 first devices.now) }
+    ensures parts { IfOk result (λ parts. parts ≡ device_parts routes.now 0 first devices.now) }
+    ensures named { IfOk result (λ _. list_all is_named devices.now ≡ true) }
 {
     let mut parts = Seq::new(alloc);
     let mut next = first;
@@ -146,10 +171,11 @@ fn device_parts(
 /// Answers `NoMemory` where memory was refused.
 pub fn devices(alloc: Global, expanded: &Expanded, first: u16) -> Result<Seq<DevicePart>, NoMemory>
     requires { first + sum_by (λ d. length d.memory) expanded.now.lawful.devices < 2 ^ 16 }
-    ensures { IfOk result (AreDevices expanded.now.lawful first expanded.now.lawful.devices) }
+    ensures devices { IfOk result (AreDevices expanded.now.lawful first expanded.now.lawful.devices) }
+    // names are names, as their type says
+    ensures named { IfOk result (λ _. AreNamed expanded.now.lawful) }
 {
     let policy = expanded.lawful().resolved();
     // A target that is named is one of the subjects, since no name is empty.
-    prove!(are_named(policy.subjects()));
     device_parts(alloc, expanded.routes(), first, policy.devices())
 }

@@ -1,7 +1,7 @@
 //! The tables of events of subjects.
-ghost use Rattle.std.specs.Prelude.{◌≡◌, ◌<◌, ◌^◌, true, map, option_map, IfOk, IfSome};
-ghost use Rattle.std.specs.List.{All, AllZip, find, list_all};
-ghost use Rattle.event_emit.specs.ByIndex.{ReachFew, entry_at, event_part, has_name, has_way, table_of, tables_of};
+ghost use Rattle.std.specs.Prelude.{◌≡◌, ◌<◌, ◌^◌, map, option_map, IfOk, IfSome};
+ghost use Rattle.std.specs.List.{All, AllZip, find};
+ghost use Rattle.event_emit.specs.ByIndex.{ReachFew, entry_at, event_part, has_way, table_of, tables_of};
 ghost use Rattle.event_emit.specs.Tables.{AreTables};
 ghost use Rattle.expand_grants.specs.declared.granted.Way.TheVariants.{Call, Trap};
 
@@ -10,7 +10,6 @@ use expand_kernel::Expanded;
 use image_pack::EventPart;
 use muen_num::limits::MOST_CALLS;
 use muen_num::{NoMemory, Seq};
-use policy_lawful::resolved::Subject;
 use std::alloc::Global;
 
 /// The tables of events of a subject.
@@ -20,20 +19,6 @@ pub struct EventTables {
     pub calls: Seq<Option<EventPart>>,
     /// What its traps raise, by their exit reasons, 64 of them.
     pub traps: Seq<Option<EventPart>>,
-}
-
-/// Whether each subject has a name that isn't empty: each has, as no name is empty.
-#[tactic(auto, unfolding(muen_num::specs::Naming::is_name))]
-pub(crate) fn are_named(subjects: &[Subject]) -> bool
-    ensures named { list_all has_name subjects.now ≡ true }
-    ensures holds { result ≡ true }
-{
-    for subject in subjects {
-        if subject.name.bytes().is_empty() {
-            return false;
-        }
-    }
-    true
 }
 
 fn has_way(entry: &EventEntry, way: Way) -> bool
@@ -126,8 +111,6 @@ fn all_tables(alloc: Global, grants: &[Grants]) -> Result<Seq<EventTables>, NoMe
 pub fn tables(alloc: Global, expanded: &Expanded) -> Result<Seq<EventTables>, NoMemory>
     ensures { IfOk result (AllZip (AreTables expanded.now.lawful) expanded.now.lawful.subjects) }
 {
-    let policy = expanded.lawful().resolved();
     // A target that is named is one of the subjects, since no name is empty.
-    prove!(are_named(policy.subjects()));
     all_tables(alloc, expanded.grants())
 }

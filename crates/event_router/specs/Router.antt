@@ -1,12 +1,12 @@
 -- Events and handovers between subjects, by numbers (this project's own, after Muen's events).
-use Rattle.std.specs.Prelude.{ℕ, Bool, false, ◌||◌, List, map, slice_get, Option, Some, None}
+use Rattle.std.specs.Prelude.{ℕ, Bool, List, map, slice_get, Option, Some, None}
 use Rattle.muen_num.specs.ListChange.{change_at}
 use Rattle.image_pack.specs.declared.parts.EventPart.{EventPart}
 use Rattle.image_pack.specs.declared.parts.SubjectPart.{SubjectPart}
 use Rattle.image_pack.specs.plan.GroupPart.{GroupPart}
 use Rattle.muen_num.specs.declared.mode.EventMode.{EventMode}
 use Rattle.muen_num.specs.declared.mode.EventMode.TheVariants.{Asap, Async, Own, Switch}
-use Rattle.event_router.specs.Vectors.{no_vectors, has, with_vector, without_vector, delivered}
+use Rattle.event_router.specs.Vectors.{no_vectors, with_vector, without_vector, delivered}
 
 pub record RouterState : Type 0 where
   -- each subject's pending vectors that are deliverable at any turn
@@ -72,12 +72,3 @@ abbrev pub taken : ℕ → Option ℕ → RouterState → RouterState
 taken subject None r = r
 taken subject (Some v) r =
     record r { pending_now = change_at subject (without_vector v) r.pending_now; pending_later = change_at subject (without_vector v) r.pending_later }
-
--- ---- what is pending
-
-abbrev pub has_in : Option (List Bool) → ℕ → Bool
-has_in None v = false
-has_in (Some s) v = has s v
-
-abbrev pub is_pending : RouterState → ℕ → ℕ → Bool
-is_pending r subject v = has_in (slice_get r.pending_now subject) v || has_in (slice_get r.pending_later subject) v

@@ -2,7 +2,7 @@
 ghost use Rattle.std.specs.Prelude.{◌≡◌, slice_get, map, Some, IfOk, option_map};
 ghost use Rattle.muen_num.specs.ListChange.{change_at};
 ghost use Rattle.event_router.specs.Vectors.{no_vectors, with_vector, without_vector};
-ghost use Rattle.event_router.specs.Router.{started, pends, pends_now, with_active, raised, delivered_by, deliverable, taken, is_pending, has_in};
+ghost use Rattle.event_router.specs.Router.{started, pends, pends_now, with_active, raised, delivered_by, deliverable, taken};
 
 use crate::vectors::{VectorSet, delivered};
 use image_pack::{EventPart, GroupPart, SubjectPart};
@@ -88,15 +88,6 @@ fn set_of(sets: &[VectorSet], subject: usize) -> Option<&VectorSet>
     sets.get(subject)
 }
 
-fn has_in(sets: &[VectorSet], subject: usize, vector: u8) -> bool
-    ensures { result ≡ has_in (slice_get (map (λ s. s.marks) sets.now) subject) vector }
-{
-    match set_of(sets, subject) {
-        None => false,
-        Some(set) => set.has(vector),
-    }
-}
-
 impl Router {
     /// Nothing is pending, and the first member of each group is active.
     ///
@@ -156,14 +147,6 @@ impl Router {
         take(&mut self.pending_now, index, vector);
         take(&mut self.pending_later, index, vector);
         Some(vector)
-    }
-
-    /// Whether a vector is pending for a subject.
-    pub fn pending(&self, subject: u8, vector: u8) -> bool
-        ensures { result ≡ is_pending self.now subject vector }
-    {
-        let index = subject as usize;
-        has_in(&self.pending_now, index, vector) || has_in(&self.pending_later, index, vector)
     }
 
     /// The active member of a group. None where there is no such group.

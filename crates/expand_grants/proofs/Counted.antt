@@ -5,7 +5,7 @@ use Rattle.std.specs.Option.{option_map_or}
 use Rattle.std.specs.List.{cons_option, count_by, filter_map, list_all, list_any, sum_by}
 use Rattle.std.proofs.lemmas.Bool.{and_parts, eqb-true, not-true}
 use Rattle.std.proofs.lemmas.List.Sums.{sum_by-cons}
-use Rattle.policy_lawful.specs.MoreRules.{are_distinct}
+use Rattle.muen_num.specs.Numbers.{are_distinct}
 
 -- ---- none
 

@@ -29,8 +29,9 @@ use Rattle.expand_grants.specs.declared.granted.Way.{Way}
 use Rattle.expand_grants.specs.declared.granted.Way.TheVariants.{Call}
 use Rattle.expand_grants.specs.declared.reached.Reached.{Reached}
 use Rattle.expand_grants.proofs.Elements.{all_at, found_filtered}
-use Rattle.expand_grants.proofs.ReadersByIndex.{call_raises, channel_by_index, channel_names}
-use Rattle.expand_grants.proofs.TargetsByIndex.{event_by_index, event_names, some_target}
+use Rattle.expand_grants.proofs.ReadersByIndex.{call_raises, channel_by_index}
+use Rattle.policy_lawful.proofs.UniqueNames.{channel_names, event_names}
+use Rattle.expand_grants.proofs.TargetsByIndex.{event_by_index, some_target}
 
 -- ---- ways
 

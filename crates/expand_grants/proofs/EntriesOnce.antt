@@ -7,7 +7,8 @@ use Rattle.std.proofs.lemmas.Bool.{and_parts}
 use Rattle.std.proofs.lemmas.List.Sums.{sum_by-append, sum_by-le-sum_by}
 use Rattle.muen_num.proofs.Lists.{all_true, passes_at}
 use Rattle.muen_num.proofs.SameAnswers.{sum_by_same}
-use Rattle.policy_lawful.specs.MoreRules.{are_distinct, are_numbers, call_number, calls_of, offence_14, offence_15}
+use Rattle.policy_lawful.specs.MoreRules.{are_numbers, call_number, calls_of, offence_14, offence_15}
+use Rattle.muen_num.specs.Numbers.{are_distinct}
 use Rattle.policy_lawful.specs.Resolution.{IsResolved, Resolution, source_of, subject_named, subject_in_range}
 use Rattle.policy_lawful.specs.declared.resolved.Subject.{Subject}
 use Rattle.policy_lawful.specs.Events.{ChannelEnd, channel_ends, is_call, same_way, writes_by, trap_number}

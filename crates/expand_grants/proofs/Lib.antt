@@ -3,6 +3,7 @@ pub mod Elements
 pub mod EntriesByIndex
 pub mod EntriesOnce
 pub mod FirstByIndex
+pub mod GrantedMsrs
 pub mod GrantedOnce
 pub mod LawfulSubjects
 pub mod Mapped

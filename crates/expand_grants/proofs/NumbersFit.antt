@@ -9,7 +9,8 @@ use Rattle.std.proofs.lemmas.List.Folds.{list_all-append, list_all-map}
 use Rattle.muen_num.proofs.Lists.{each_from, each_of}
 use Rattle.muen_num.proofs.SearchLaws.{all_pass}
 use Rattle.muen_num.specs.declared.limits.TheConstants.{FIRST_VECTOR, LAST_VECTOR, MOST_CALLS}
-use Rattle.policy_lawful.specs.MoreRules.{are_distinct, are_numbers, are_vectors, call_number, calls_of, has_vector, offence_14, offence_15, vectors_of}
+use Rattle.policy_lawful.specs.MoreRules.{are_numbers, are_vectors, call_number, calls_of, has_vector, offence_14, offence_15, vectors_of}
+use Rattle.muen_num.specs.Numbers.{are_distinct}
 use Rattle.policy_lawful.specs.Offences.{alone}
 use Rattle.policy_lawful.specs.Resolution.{IsResolved, Resolution, device_named, device_part, name_at, source_of, subject_named, subject_in_range}
 use Rattle.policy_lawful.specs.declared.resolved.DeviceUse.{DeviceUse}

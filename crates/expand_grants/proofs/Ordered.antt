@@ -1,8 +1,10 @@
 -- Lists in an order: what a list is when it is put in order, and what stays of it.
-use Rattle.std.proofs.Common.{◌≡◌, ◌⊎◌, inl, inr, ℕ, zero, suc, ◌<◌, Bool, true, false, not, List, [], ◌∷◌, length, get_or, map, refl, sym, ap, ◌∙◌, subst, arith}
+use Rattle.std.proofs.Common.{◌≡◌, ◌⊎◌, inl, inr, All, ℕ, zero, suc, ◌<◌, Bool, true, false, not, List, [], ◌∷◌, length, get_or, map, refl, sym, ap, ◌∙◌, subst, arith}
 use Rattle.std.specs.Prelude.{◌&&◌, ◌||◌, if◌then◌else◌}
 use Rattle.std.specs.List.{AllByRecursion, AllPairs, Contains, IsDistinct}
 use Rattle.std.specs.List.Sorted.{IsPermutation}
+use Rattle.std.proofs.lemmas.Bool.{cases_Bool}
+use Rattle.std.proofs.lemmas.List.Elements.{All-cons, All-head, All-nil, All-tail}
 use Rattle.std.proofs.lemmas.List.Sorted.{Contains-permutation, IsPermutation-cons, IsPermutation-middle, IsPermutation-refl, IsPermutation-sym, IsPermutation-trans}
 use Rattle.std.proofs.lemmas.Map.Keys.{IsDistinct-IsPermutation}
 use Rattle.expand_grants.specs.Ordered.{in_order, inserted}
@@ -180,3 +182,19 @@ module _ {X Y : Type 0} (f : X → Y) (may_precede : Y → Y → Bool) where
   unfolding in_order
   map_in_order [] = refl
   map_in_order (x ∷ xs) = map_inserted x (in_order (λ a b. may_precede (f a) (f b)) xs) ∙ ap (inserted may_precede (f x)) (map_in_order xs)
+
+-- ---- what holds of each
+
+pub All-inserted : {X : Type 0} (before : X → X → Bool) (P : X → Type 0) (x : X) (ys : List X) → P x → All P ys → All P (inserted before x ys)
+unfolding inserted
+All-inserted before P x [] p h = All-cons P x [] p h
+All-inserted before P x (y ∷ ys) p h = elim (cases_Bool (before x y)) [
+  | inl here ↦ rw here (All-cons P x (y ∷ ys) p h)
+  | inr later ↦ rw later (All-cons P y (inserted before x ys) (All-head P y ys h) (All-inserted before P x ys p (All-tail P y ys h)))
+]
+
+pub All-in_order : {X : Type 0} (before : X → X → Bool) (P : X → Type 0) (xs : List X) → All P xs → All P (in_order before xs)
+unfolding in_order
+All-in_order before P [] h = All-nil P
+All-in_order before P (x ∷ xs) h =
+    All-inserted before P x (in_order before xs) (All-head P x xs h) (All-in_order before P xs (All-tail P x xs h))

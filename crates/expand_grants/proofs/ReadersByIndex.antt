@@ -19,7 +19,7 @@ use Rattle.policy_lawful.specs.Resolution.{IsResolved, Resolution, name_at, sour
 use Rattle.policy_lawful.specs.declared.resolved.Subject.{Subject}
 use Rattle.policy_lawful.proofs.Indexes.{found_at_index, same_name}
 use Rattle.policy_lawful.proofs.SourceElements.{parts_in_range}
-use Rattle.policy_lawful.proofs.UniqueNames.{unique}
+use Rattle.policy_lawful.proofs.UniqueNames.{unique, channel_names}
 use Rattle.policy_lawful.specs.Events.{ChannelEnd, channel_ends, channel_event, channel_targets, reads_from}
 use Rattle.policy_lawful.specs.rights.Role.{Role}
 use Rattle.policy_lawful.specs.rights.Role.TheVariants.{Reader, Writer}
@@ -38,9 +38,6 @@ use Rattle.expand_grants.proofs.Elements.{first_there, lengths_same}
 use Rattle.policy_lawful.proofs.EachPasses.{all_filter, all_flat}
 use Rattle.expand_grants.proofs.FirstByIndex.{filter-flat, filter_same, filter_twice, filtered_some, first_by_index}
 use Rattle.expand_grants.proofs.TargetsByIndex.{reaches}
-
-abbrev pub channel_names : Resolution → List (List ℕ)
-channel_names r = map (λ x. x.name) r.channels
 
 -- what a channel's event reaches, and what is raised by that
 raised_by : (r : Resolution) (way : Way) (mode : EventMode) (o : Option Reached) → option_map (λ t. record { mode = mode; target = t }) (option_map (reaches r) o) ≡ option_map (raised_named r) (option_map (entry way mode) o)

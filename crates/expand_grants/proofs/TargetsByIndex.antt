@@ -14,7 +14,7 @@ use Rattle.policy_lawful.specs.declared.resolved.EventTarget.{EventTarget}
 use Rattle.policy_lawful.specs.declared.resolved.Subject.{Subject}
 use Rattle.policy_lawful.proofs.Indexes.{found_at_index, same_name}
 use Rattle.policy_lawful.proofs.SourceElements.{parts_in_range}
-use Rattle.policy_lawful.proofs.UniqueNames.{unique}
+use Rattle.policy_lawful.proofs.UniqueNames.{unique, event_names}
 use Rattle.policy_lawful.specs.Events.{Target, event_targets, named_event}
 use Rattle.policy_lawful.specs.source.Event.{Event}
 use Rattle.policy_lawful.specs.source.EventTarget.{EventTarget as NamedTarget}
@@ -26,9 +26,6 @@ use Rattle.expand_grants.specs.declared.granted.Way.{Way}
 use Rattle.expand_grants.specs.declared.reached.Reached.{Reached}
 use Rattle.expand_grants.proofs.Elements.{first_there, lengths_same}
 use Rattle.expand_grants.proofs.FirstByIndex.{filtered, first_by_index}
-
-abbrev pub event_names : Resolution → List (List ℕ)
-event_names r = map (λ x. x.name) r.events
 
 -- a subject that is reached, by its name
 abbrev pub reaches : Resolution → Reached → Target

@@ -11,6 +11,7 @@ use Rattle.policy_lawful.specs.source.Msrs.{Msrs}
 use Rattle.policy_lawful.specs.source.Ports.{Ports}
 use Rattle.policy_lawful.specs.source.Source.{Source}
 use Rattle.policy_lawful.specs.source.Subject.{Subject}
+use Rattle.policy_lawful.specs.PortRanges.{has_port}
 
 -- ---- ports
 
@@ -27,9 +28,6 @@ device_ranges p d =
 -- the ranges that are granted to a subject, in the grants' order
 unfoldable pub port_ranges_of : Source → Subject → List PortRange
 port_ranges_of p s = flat_map (device_ranges p) s.devices
-
-abbrev pub has_port : PortRange → ℕ → Bool
-has_port r port = nat_le r.start port && nat_le port r.end
 
 -- the ports that are granted to a subject, ascending
 unfoldable pub ports_of : Source → Subject → List ℕ

@@ -1,6 +1,8 @@
 pub use Rattle.expand_grants.proofs.Counted
 pub use Rattle.expand_grants.proofs.LawfulSubjects
 pub use Rattle.expand_grants.proofs.Ordered
+pub use Rattle.ept_emit.proofs.PageCounts
+pub use Rattle.expand_grants.proofs.GrantedMsrs
 pub mod BroughtByIndex
 pub mod ByKind
 pub mod GrantedViews
@@ -8,4 +10,3 @@ pub mod InTurn
 pub mod LowestFirst
 pub mod Numbering
 pub mod TablePages
-pub use Rattle.ept_emit.proofs.PageCounts

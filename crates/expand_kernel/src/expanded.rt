@@ -1,7 +1,7 @@
 //! Lawful policies with all that follows from them but addresses.
 ghost use Rattle.std.specs.Prelude.{◌≡◌, IfOk};
 ghost use Rattle.expand_grants.specs.Grants.{AreGrants, AreRoutes};
-ghost use Rattle.expand_kernel.specs.Expansion.{IsExpanded};
+ghost use Rattle.expand_kernel.specs.Expansion.{HaveNames, IsExpanded};
 ghost use Rattle.expand_kernel.specs.Regions.{regions_of};
 ghost use Rattle.policy_lawful.specs.Lawful.{IsLawful};
 ghost use Rattle.policy_lawful.specs.Resolution.{IsResolved, source_of};
@@ -26,7 +26,7 @@ pub struct Expanded {
 }
 
 impl Model for Expanded {
-    ghost use Rattle.expand_kernel.specs.Expansion.{Expansion, IsExpanded};
+    ghost use Rattle.expand_kernel.specs.Expansion.{Expansion, HaveNames, IsExpanded};
 
     ghost Value = { Expansion };
 
@@ -42,7 +42,7 @@ impl Model for Expanded {
       regions = p.regions;
       grants = p.grants;
       routes = p.routes;
-    }) };
+    }) × HaveNames p.lawful.subjects };
 }
 
 impl Expanded {
@@ -67,6 +67,8 @@ impl Expanded {
     pub fn grants(&self) -> &[Grants]
         ensures value { result.now ≡ self.now.grants }
         ensures grants { AreGrants self.now.lawful result.now }
+        ensures expanded { IsExpanded self.now }
+        ensures named { HaveNames self.now.lawful.subjects }
     {
         self.grants.items()
     }
@@ -75,6 +77,7 @@ impl Expanded {
     pub fn routes(&self) -> &[Route]
         ensures value { result.now ≡ self.now.routes }
         ensures routes { AreRoutes self.now.lawful result.now }
+        ensures named { HaveNames self.now.lawful.subjects }
     {
         self.routes.items()
     }
@@ -90,6 +93,7 @@ fn regions_by_number(
     ensures regions { IfOk result (λ regions. regions ≡ regions_of (source_of lawful.now)) }
     ensures resolved { IfOk result (λ _. IsResolved lawful.now) }
     ensures lawful { IfOk result (λ _. IsLawful (source_of lawful.now)) }
+    ensures named { IfOk result (λ _. HaveNames lawful.now.subjects) }
 {
     let policy = lawful.resolved();
     let subjects = policy.subjects();

@@ -1,9 +1,11 @@
 //! The regions of a policy that come from the policy itself, by number: memory, channels, and what
 //! the subjects' components bring along.
-ghost use Rattle.std.specs.Prelude.{◌≡◌, map, IfOk};
+ghost use Rattle.std.specs.Prelude.{◌≡◌, map, true, IfOk};
 ghost use Rattle.std.specs.List.{flat_map};
 ghost use Rattle.expand_kernel.specs.ByIndex.{brought_at, channel_region, own_region, provided_region};
+ghost use Rattle.expand_kernel.specs.Expansion.{HaveNames};
 ghost use Rattle.expand_kernel.specs.Regions.{anywhere};
+ghost use Rattle.muen_num.specs.Naming.{is_name};
 
 use crate::region::{Region, RegionKind};
 use muen_num::limits::PAGE;
@@ -85,7 +87,8 @@ fn of_provided(
     subject: Name,
     provides: &[Provided],
 ) -> Result<Vec<Region>, AllocError>
-    ensures { IfOk result (λ v. v.items ≡ map (provided_region subject) provides.now) }
+    ensures regions { IfOk result (λ v. v.items ≡ map (provided_region subject) provides.now) }
+    ensures named { is_name subject ≡ true }
 {
     provides
         .iter()
@@ -100,14 +103,16 @@ fn of_subject(
     policy: &Resolved,
     subject: &Subject,
 ) -> Result<Vec<Region>, AllocError>
-    ensures { IfOk result (λ v. v.items ≡ brought_at policy.now.components subject.now) }
+    ensures regions { IfOk result (λ v. v.items ≡ brought_at policy.now.components subject.now) }
+    ensures named { is_name subject.now.name ≡ true }
 {
     of_provided(alloc, subject.name, policy.provided_by(subject))
 }
 
 /// What each subject's component brings along, in the order of the subjects.
 pub(crate) fn of_subjects(alloc: Global, policy: &Resolved) -> Result<Vec<Region>, NoMemory>
-    ensures { IfOk result (λ v. v.items ≡ flat_map (brought_at policy.now.components) policy.now.subjects) }
+    ensures regions { IfOk result (λ v. v.items ≡ flat_map (brought_at policy.now.components) policy.now.subjects) }
+    ensures named { IfOk result (λ _. HaveNames policy.now.subjects) }
 {
     let mut regions = Vec::new(alloc);
     for subject in policy.subjects() {

@@ -27,7 +27,8 @@ use Rattle.policy_lawful.proofs.WindowsByIndex.{name_there}
 use Rattle.policy_flows.specs.Flows.{reaches}
 use Rattle.policy_flows.proofs.EventWays.{by_source}
 use Rattle.muen_num.proofs.Members.{any_agree}
-use Rattle.flow_report.specs.ByIndex.{first_target, has, reached_by}
+use Rattle.flow_report.specs.ByIndex.{first_target, reached_by}
+use Rattle.muen_num.specs.Numbers.{is_among}
 use Rattle.policy_flows.proofs.EventWaysFlow.{by_sources}
 use Rattle.flow_report.proofs.IndexesOfSubjects.{At, any_filter_map, same_subject}
 
@@ -78,7 +79,7 @@ module _ (r : Resolution) (q : IsResolved r) (j : ℕ) (s : Subject) (h : At r j
         | false ↦ later
       ]
 
-  -- the first of all is of the first subject that has one
+  -- the first of all is of the first subject that is_among one
   first_of_all : (k : ℕ) → nat_lt k (length r.events) ≡ true → (ts : List Subject) → list_all (subject_in_range r) ts ≡ true
       → hits s.name (slice_get (flat_map (λ t. map (λ e. record { subject = t.name; vector = e.vector }) (filter (λ e. bytes_eq e.event (name_at (event_names r) k)) t.targets)) (map (subject_named r) ts)) 0)
       ≡ option_map_or (λ t. bytes_eq t.name s.name) (find (λ t. list_any (λ e. e.event == k) t.targets) ts) false
@@ -133,7 +134,7 @@ module _ (r : Resolution) (q : IsResolved r) (j : ℕ) (s : Subject) (h : At r j
         | Some x ↦ λ e. event_same x.event (found_among test (λ (e : ResolvedSource). nat_lt e.event (length r.events)) u.sources x e in_range)
       ] refl
 
-  pub sources_same : (u : Subject) → subject_in_range r u ≡ true → by_sources (source_of r) (subject_named r u) (subject_named r s) ≡ has (filter_map (λ e. reached_by r.subjects u.sources e.way) u.sources) j
+  pub sources_same : (u : Subject) → subject_in_range r u ≡ true → by_sources (source_of r) (subject_named r u) (subject_named r s) ≡ is_among (filter_map (λ e. reached_by r.subjects u.sources e.way) u.sources) j
   sources_same u in_range =
       let own = sources_in_range r u in_range in
       list_any-map (λ (e : EventSource). reaches (by_source (source_of r) (subject_named r u) e.way) s.name) (source_named r) u.sources

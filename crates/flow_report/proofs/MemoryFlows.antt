@@ -22,7 +22,8 @@ use Rattle.policy_lawful.proofs.RegionsByIndex.{has_name, is_named, maps_at, ind
 use Rattle.policy_lawful.proofs.WindowsByIndex.{windows_by_index}
 use Rattle.policy_flows.specs.Flows.{by_memory, is_region}
 use Rattle.muen_num.proofs.Members.{any_agree, passes_in}
-use Rattle.flow_report.specs.ByIndex.{has, meet, region_changed, region_shown}
+use Rattle.flow_report.specs.ByIndex.{region_changed, region_shown}
+use Rattle.muen_num.specs.Numbers.{is_among, share}
 use Rattle.flow_report.proofs.IndexesOfSubjects.{any_filter_map}
 
 bytes_turned : (a b : List ℕ) → bytes_eq a b ≡ bytes_eq b a
@@ -54,7 +55,7 @@ module _ (r : Resolution) (q : IsResolved r) (s : Subject) (in_range : subject_i
   windows = windows_of (source_of r) (subject_named r s)
 
   -- it maps the region at an index
-  mapped_at : (name : List ℕ) (k : ℕ) → has_name r name (Memory k) ≡ true → list_any (λ w. same_thing (region name) w.thing) windows ≡ has numbers k
+  mapped_at : (name : List ℕ) (k : ℕ) → has_name r name (Memory k) ≡ true → list_any (λ w. same_thing (region name) w.thing) windows ≡ is_among numbers k
   mapped_at name k named =
       let at = index_there r name k named in
       any_agree (λ (w : Window Thing). same_thing (region name) w.thing) (λ w. same_thing w.thing (region name)) windows (λ w _. region_turned name w.thing)
@@ -64,7 +65,7 @@ module _ (r : Resolution) (q : IsResolved r) (s : Subject) (in_range : subject_i
       ∙ sym (any_filter_map (λ y. y == k) (λ (v : View). region_shown v.shows) (views_of r s))
 
   shown_at : (subject : List ℕ) (v : View) (shows : Shown) → has_name r v.name shows ≡ true
-      → (is_region (thing_shown r subject v shows) && list_any (λ w. same_thing (thing_shown r subject v shows) w.thing) windows) ≡ option_map_or (has numbers) (region_shown shows) false
+      → (is_region (thing_shown r subject v shows) && list_any (λ w. same_thing (thing_shown r subject v shows) w.thing) windows) ≡ option_map_or (is_among numbers) (region_shown shows) false
   shown_at subject v (Memory k) named = mapped_at v.name k named
   shown_at subject v (Channel k) named = refl
   shown_at subject v (Given k) named = refl
@@ -73,16 +74,16 @@ module _ (r : Resolution) (q : IsResolved r) (s : Subject) (in_range : subject_i
 
   changed_at : (subject : List ℕ) (v : View) (b : Bool) → has_name r v.name v.shows ≡ true
       → (b && is_region (thing_shown r subject v v.shows) && list_any (λ w. same_thing (thing_shown r subject v v.shows) w.thing) windows)
-      ≡ option_map_or (has numbers) (if b then region_shown v.shows else None) false
+      ≡ option_map_or (is_among numbers) (if b then region_shown v.shows else None) false
   changed_at subject v true named = shown_at subject v v.shows named
   changed_at subject v false named = refl
 
   pub memory_same : (u : Subject) → subject_in_range r u ≡ true
-      → by_memory (source_of r) (subject_named r u) (subject_named r s) ≡ meet (filter_map region_changed (views_of r u)) (filter_map (λ v. region_shown v.shows) (views_of r s))
+      → by_memory (source_of r) (subject_named r u) (subject_named r s) ≡ share (filter_map region_changed (views_of r u)) (filter_map (λ v. region_shown v.shows) (views_of r s))
   memory_same u a =
       let test : Window Thing → Bool = λ w. allows w.rights Write && is_region w.thing && list_any (λ v. same_thing w.thing v.thing) windows in
       ap (list_any test) (windows_by_index r u q a)
       ∙ list_any-map test (view_window r u.name) (views_of r u)
-      ∙ any_agree (λ v. test (view_window r u.name v)) (λ v. option_map_or (has numbers) (region_changed v) false) (views_of r u)
+      ∙ any_agree (λ v. test (view_window r u.name v)) (λ v. option_map_or (is_among numbers) (region_changed v) false) (views_of r u)
       (λ v i. changed_at u.name v (allows v.rights Write) (passes_in (is_named r) (views_of r u) (views_named r u) v i))
-      ∙ sym (any_filter_map (has numbers) region_changed (views_of r u))
+      ∙ sym (any_filter_map (is_among numbers) region_changed (views_of r u))

@@ -16,7 +16,8 @@ use Rattle.policy_lawful.specs.source.Monitor.{Monitor as NamedMonitor}
 use Rattle.policy_lawful.proofs.WindowsByIndex.{subject_parts}
 use Rattle.policy_flows.specs.Flows.{by_change, by_plan, by_sight}
 use Rattle.muen_num.proofs.Members.{any_agree, passes_in}
-use Rattle.flow_report.specs.ByIndex.{has, is_chooser, subject_changed}
+use Rattle.flow_report.specs.ByIndex.{is_chooser, subject_changed}
+use Rattle.muen_num.specs.Numbers.{is_among}
 use Rattle.flow_report.proofs.IndexesOfSubjects.{At, any_filter_map, is_in_range, same_subject}
 
 abbrev monitor_named : Resolution → Monitor → NamedMonitor
@@ -40,14 +41,14 @@ module _ (r : Resolution) (q : IsResolved r) (i j : ℕ) (u s : Subject) (left :
   monitored : (k : ℕ) (t : Subject) → At r k t → (m : Monitor) → nat_lt m.subject (length r.subjects) ≡ true → bytes_eq (name_at (subject_names r) m.subject) t.name ≡ (m.subject == k)
   monitored k t h m l = same_subject r q m.subject k t h (ltb-true m.subject (length r.subjects) l)
 
-  pub sight_same : by_sight (subject_named r u) (subject_named r s) ≡ has (map (λ m. m.subject) s.monitors) i
+  pub sight_same : by_sight (subject_named r u) (subject_named r s) ≡ is_among (map (λ m. m.subject) s.monitors) i
   sight_same =
       list_any-map (λ m. bytes_eq m.subject u.name) (monitor_named r) s.monitors
       ∙ any_agree (λ (m : Monitor). bytes_eq (name_at (subject_names r) m.subject) u.name) (λ m. m.subject == i) s.monitors
       (λ m h. monitored i u left m (passes_in (λ (m : Monitor). nat_lt m.subject (length r.subjects)) s.monitors (subject_parts r s (is_in_range r q j s right)).monitors m h))
       ∙ sym (list_any-map (λ y. y == i) (λ (m : Monitor). m.subject) s.monitors)
 
-  pub change_same : by_change (subject_named r u) (subject_named r s) ≡ has (filter_map subject_changed u.monitors) j
+  pub change_same : by_change (subject_named r u) (subject_named r s) ≡ is_among (filter_map subject_changed u.monitors) j
   change_same =
       list_any-map (λ m. bytes_eq m.subject s.name && allows m.rights Write) (monitor_named r) u.monitors
       ∙ any_agree (λ (m : Monitor). bytes_eq (name_at (subject_names r) m.subject) s.name && allows m.rights Write) (λ m. option_map_or (λ y. y == j) (subject_changed m) false) u.monitors

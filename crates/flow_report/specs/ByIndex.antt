@@ -19,6 +19,7 @@ use Rattle.policy_lawful.specs.declared.view.Shown.{Shown}
 use Rattle.policy_lawful.specs.declared.view.Shown.TheVariants.{Memory}
 use Rattle.policy_lawful.specs.declared.view.View.{View}
 use Rattle.flow_report.specs.declared.contacts.Contacts.{Contacts}
+use Rattle.muen_num.specs.Numbers.{share, is_among}
 
 -- ---- ends of channels and views
 
@@ -46,7 +47,7 @@ region_changed v = if allows v.rights Write then region_shown v.shows else None
 abbrev pub event_by : List EventSource → SourceWay → Option ℕ
 event_by sources way = option_map (λ e. e.event) (find (λ e. same_way e.way way) sources)
 
--- the first subject that has the event as a target
+-- the first subject that is_among the event as a target
 abbrev pub first_target : List Subject → ℕ → Option ℕ
 first_target subjects event = position (λ t. list_any (λ e. e.event == event) t.targets) subjects
 
@@ -85,17 +86,10 @@ all_contacts_of r = map (contacts_of r) (enumerate_from 0 r.subjects)
 
 -- ---- direct flows
 
-abbrev pub has : List ℕ → ℕ → Bool
-has ys x = list_any (λ y. y == x) ys
-
--- some number is in both lists
-abbrev pub meet : List ℕ → List ℕ → Bool
-meet xs ys = list_any (has ys) xs
-
 -- what the first does can reach the second
 unfoldable pub flows_between : Contacts → Contacts → Bool
 flows_between u s =
-    meet u.writes s.reads || meet u.changes s.maps || has u.reaches s.index || u.chooses || has s.watches u.index || has u.alters s.index
+    share u.writes s.reads || share u.changes s.maps || is_among u.reaches s.index || u.chooses || is_among s.watches u.index || is_among u.alters s.index
 
 -- for each subject the subjects to which it flows directly
 abbrev pub rows_of : List Contacts → List (List Bool)

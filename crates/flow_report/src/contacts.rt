@@ -3,7 +3,8 @@ ghost use Rattle.std.specs.Prelude.{◌≡◌, ◌==◌, map, slice_get, Some, I
 ghost use Rattle.std.specs.List.{filter_map, list_any};
 ghost use Rattle.policy_lawful.specs.Resolution.{IsResolved};
 ghost use Rattle.policy_lawful.specs.Events.{same_way};
-ghost use Rattle.flow_report.specs.ByIndex.{all_contacts_of, channel_read, channel_written, contacts_of, event_by, first_target, flows_between, has, is_chooser, meet, reached_by, region_changed, region_shown, subject_changed};
+ghost use Rattle.flow_report.specs.ByIndex.{all_contacts_of, channel_read, channel_written, contacts_of, event_by, first_target, flows_between, is_chooser, reached_by, region_changed, region_shown, subject_changed};
+ghost use Rattle.muen_num.specs.Numbers.{is_among, share};
 
 use muen_num::{AccessKind, Name, NoMemory, Seq};
 use policy_lawful::resolved::{EventSource, Monitor, Subject};
@@ -231,17 +232,17 @@ pub(crate) fn all_contacts(alloc: Global, policy: &Resolved) -> Result<Vec<Conta
     Ok(all_contacts)
 }
 
-fn has(indexes: &[usize], index: usize) -> bool
-    ensures { result ≡ has indexes.now index }
+fn is_among(indexes: &[usize], index: usize) -> bool
+    ensures { result ≡ is_among indexes.now index }
 {
     indexes.iter().any(|other| *other == index)
 }
 
 // Whether some index is in both lists.
-fn meet(first: &[usize], second: &[usize]) -> bool
-    ensures { result ≡ meet first.now second.now }
+fn share(first: &[usize], second: &[usize]) -> bool
+    ensures { result ≡ share first.now second.now }
 {
-    first.iter().any(|index| has(second, *index))
+    first.iter().any(|index| is_among(second, *index))
 }
 
 /// Whether what the first does can reach the second directly.
@@ -249,10 +250,10 @@ fn meet(first: &[usize], second: &[usize]) -> bool
 pub(crate) fn flows_between(from: &Contacts, to: &Contacts) -> bool
     ensures { result ≡ flows_between from.now to.now }
 {
-    meet(from.writes.items(), to.reads.items())
-        || meet(from.changes.items(), to.maps.items())
-        || has(from.reaches.items(), to.index)
+    share(from.writes.items(), to.reads.items())
+        || share(from.changes.items(), to.maps.items())
+        || is_among(from.reaches.items(), to.index)
         || from.chooses
-        || has(to.watches.items(), from.index)
-        || has(from.alters.items(), to.index)
+        || is_among(to.watches.items(), from.index)
+        || is_among(from.alters.items(), to.index)
 }

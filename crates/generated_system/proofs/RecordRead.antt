@@ -10,7 +10,8 @@ use Rattle.muen_num.specs.Range.{numbers_below}
 use Rattle.muen_num.specs.declared.limits.TheConstants.{LAST_PORT}
 use Rattle.record_text.specs.Bench.{Bench}
 use Rattle.record_text.specs.DeviceRecord.{DeviceRecord, port_input, irq_input}
-use Rattle.record_text.specs.Reading.{Standing, all_ascii, are_distinct, at_start, entry_at, record_after, record_of, standing_after, with_entry}
+use Rattle.record_text.specs.Reading.{Standing, all_ascii, at_start, entry_at, record_after, record_of, standing_after, with_entry}
+use Rattle.muen_num.specs.Numbers.{are_distinct}
 use Rattle.record_text.specs.Steps.{◌>>=◌, ◌>>◌}
 use Rattle.record_text.specs.Table.{Entry, input_entry, order_entry, end_entry, as_many, cpu_numbers, kind_of, read_words, end_line as said_end, irq_line as said_irq, order_line as said_order, port_line as said_port}
 use Rattle.record_text.specs.Words.{number_below, tick_of}

@@ -3,7 +3,7 @@ ghost use Rattle.std.specs.Prelude.{◌≡◌, ◌+◌, ◌*◌, ◌%◌, ◌^�
 ghost use Rattle.std.specs.Int.{w32, cast_unsigned};
 ghost use Rattle.guest_isa.specs.GuestIsa.{register, advanced, with_register, extended, offset_by, low_bytes, port_of, set_register, jumped, jumped_if, resumed, effect_of, CanExit, IsValid, IsValidWish, IsSmall};
 
-use crate::instr::{Asked, Instr, Wish};
+use crate::instr::{Instr, Wish};
 use muen_num::AccessSize;
 use state_page::SubjectState;
 
@@ -243,15 +243,4 @@ pub fn carry_out(s: &mut SubjectState, i: Instr) -> Wish
         Instr::Setv { rs } => set_handlers(register(s, rs), s),
         Instr::Reti => resume(s),
     }
-}
-
-/// The effect of an instruction in a state.
-pub fn ask(s: &SubjectState, i: Instr) -> Asked
-    requires { IsValid i }
-    ensures effect { result ≡ effect_of s.now i }
-    ensures valid { IsValidWish result.wish }
-{
-    let mut after = *s;
-    let wish = carry_out(&mut after, i);
-    Asked { after, wish }
 }

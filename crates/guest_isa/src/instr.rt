@@ -197,7 +197,7 @@ pub enum Wish {
     Halt,
 }
 
-/// The effect of an instruction.
+/// The effect of an instruction, for clauses alone: `carry_out` makes it in place.
 #[derive(Clone, Copy, Debug)]
 pub struct Asked {
     /// The state after it, where its wish doesn't exit.

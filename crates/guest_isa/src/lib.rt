@@ -13,7 +13,7 @@ mod reach;
 mod spelling;
 mod step_laws;
 
-pub use effect::{ask, carry_out, write_register};
+pub use effect::{carry_out, write_register};
 pub use end::{Change, StepEnd};
 pub use finish::{Finish, inject};
 pub use instr::{Asked, Instr, Wish};

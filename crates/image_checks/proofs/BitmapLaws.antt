@@ -6,7 +6,8 @@ use Rattle.std.proofs.lemmas.Bool.{and_parts, cases_lt, eqb-true, eq-eqb, false_
 use Rattle.std.proofs.lemmas.Bool.Decides.{nat_tests}
 use Rattle.std.proofs.lemmas.Map.Views.{any-filter_same}
 use Rattle.std.proofs.Math.Bool.{and-true, or-false}
-use Rattle.expand_kernel.specs.Resources.{are_granted, has_port, is_granted, msr_grant, msrs_of, port_ranges_of, ports_of}
+use Rattle.expand_kernel.specs.Resources.{are_granted, is_granted, msr_grant, msrs_of, port_ranges_of, ports_of}
+use Rattle.policy_lawful.specs.PortRanges.{has_port}
 use Rattle.image_checks.specs.Agree.{BitmapsAgree, MsrAgrees, MsrsAgree, PortsAgree}
 use Rattle.image_checks.specs.declared.bitmaps.TheConstants.{RANGE_SIZE}
 use Rattle.image_pack.specs.declared.parts.Image.{Image}
@@ -14,7 +15,7 @@ use Rattle.image_pack.specs.declared.parts.SubjectPart.{SubjectPart}
 use Rattle.image_soundness.specs.Memory.{page_at}
 use Rattle.image_soundness.specs.Sound.{HasBitmaps}
 use Rattle.machine_layout.specs.Exits.{msr_exits, port_exits, port_is_set}
-use Rattle.msrbm_emit.specs.Msrs.{allows, has_msr, is_granted as is_msr_granted}
+use Rattle.policy_lawful.specs.MsrGrants.{allows, has_msr, is_granted as is_msr_granted}
 use Rattle.muen_num.proofs.Lists.{list_any-map}
 use Rattle.muen_num.proofs.Members.{any_some, passes_in}
 use Rattle.muen_num.proofs.NumbersBelow.{all_or_one, any_below}
@@ -26,7 +27,7 @@ use Rattle.policy_lawful.specs.resources.PortRange.{PortRange}
 use Rattle.policy_lawful.specs.source.Msrs.{Msrs}
 use Rattle.policy_lawful.specs.source.Source.{Source}
 use Rattle.policy_lawful.specs.source.Subject.{Subject}
-use Rattle.proof_build.proofs.Bitmaps.{msr_granted}
+use Rattle.expand_kernel.proofs.GrantedMsrs.{msr_granted}
 
 -- ---- ports
 

@@ -3,7 +3,8 @@ use Rattle.std.proofs.Common.{◌≡◌, ◌∙◌, refl, sym, ap, ap₂, subst,
 use Rattle.std.specs.Prelude.{option_and_then, option_map}
 use Rattle.std.specs.List.{AllZip, filter_map, sum_by}
 use Rattle.std.proofs.lemmas.Option.{same_Some}
-use Rattle.event_emit.specs.Tables.{AreDevices, IsDevice, IsIrq, span_ends}
+use Rattle.image_soundness.proofs.DevicesOf.{devices_long, irqs_named}
+use Rattle.image_soundness.specs.TablesOf.{AreDevices, IsDevice, IsIrq, span_ends}
 use Rattle.image_checks.proofs.Places.{agrees_there, same_unmapped}
 use Rattle.image_checks.proofs.SubjectsTold.{one_target, same_reached}
 use Rattle.image_checks.proofs.Decided.{decided}
@@ -103,12 +104,6 @@ one_range a b e =
 
 -- ---- interrupts
 
-irqs_named : (r : Resolution) (d : Device) (irqs : List Irq) (parts : List IrqPart) → AllZip (IsIrq r d) irqs parts → map (λ q. q.name) parts ≡ map (λ j. j.name) irqs
-irqs_named r d [] [] h = refl
-irqs_named r d [] (q ∷ qs) h = absurd h
-irqs_named r d (j ∷ js) [] h = absurd h
-irqs_named r d (j ∷ js) (q ∷ qs) h = ap₂ (λ n ns. n ∷ ns) h.0.name (irqs_named r d js qs h.1)
-
 module _ (r : Resolution) (resolved : IsResolved r) (d : Device) where
   reaches : (j : Irq) (q : IrqPart) → IsIrq r d j q → IsIrqOf (source_of r) d j q
   reaches j q is = same_reached r resolved q.target is.granted ∙ ap (option_map (target_index (source_of r))) is.target
@@ -158,13 +153,6 @@ module _ (r : Resolution) (resolved : IsResolved r) (i : Image) (first : ℕ) (d
   }
 
 -- ---- devices by index
-
-pub made_long : (r : Resolution) (first : ℕ) (ds : List Device) (qs : List DevicePart) → AreDevices r first ds qs → length qs ≡ length ds
-unfolding AreDevices
-made_long r first [] [] h = refl
-made_long r first [] (q ∷ qs) h = absurd h
-made_long r first (d ∷ ds) [] h = absurd h
-made_long r first (d ∷ ds) (q ∷ qs) h = ap suc (made_long r (first + length d.memory) ds qs h.1)
 
 made_at : (r : Resolution) (first : ℕ) (ds : List Device) (qs : List DevicePart) → AreDevices r first ds qs → (k : ℕ) → k < length ds → (d : Device) (q : DevicePart) → (n : ℕ) × IsDevice r n (get_or ds k d) (get_or qs k q)
 unfolding AreDevices

@@ -13,7 +13,7 @@ use Rattle.image_pack.specs.plan.Plan.{Plan}
 use Rattle.image_checks.proofs.Places.{same_places, same_unmapped}
 use Rattle.muen_num.specs.Frame.{Frame}
 use Rattle.muen_num.specs.declared.limits.TheConstants.{MOST_MAJOR_FRAMES, MOST_MINOR_FRAMES, MOST_TICKS}
-use Rattle.plan_emit.specs.PlanOf.{IsPlanOf}
+use Rattle.image_soundness.specs.PlanOf.{IsPlanOf}
 use Rattle.policy_lawful.proofs.Indexes.{same_name}
 use Rattle.policy_lawful.specs.Resolution.{name_at}
 use Rattle.policy_lawful.specs.Rules.{repeated}

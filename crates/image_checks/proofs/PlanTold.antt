@@ -10,7 +10,7 @@ use Rattle.image_checks.specs.PlanFault.{HasChoice, HasPlan}
 use Rattle.image_pack.specs.declared.parts.Image.{Image}
 use Rattle.image_soundness.specs.Named.{tag_at}
 use Rattle.muen_num.specs.declared.tag.Tag.{Tag}
-use Rattle.plan_emit.specs.PlanOf.{IsPlanOf}
+use Rattle.image_soundness.specs.PlanOf.{IsPlanOf}
 use Rattle.plan_emit.proofs.ValidPlan.{processor_same}
 use Rattle.policy_lawful.proofs.UniqueNames.{unique}
 use Rattle.policy_lawful.specs.Resolution.{IsResolved, Resolution, source_of}
@@ -58,6 +58,6 @@ module _ (r : Resolution) (i : Image) where
   pub other_cpus : (i.header.cpus ≡ r.processor.logical_cpus → ⊥) → HasPlan (source_of r) i → ⊥
   other_cpus apart h = apart (h.cpus ∙ processor_same r)
 
-  pub plan_whole : IsPlanOf (source_of r) i.plan → i.header.cpus ≡ r.processor.logical_cpus → (b : Bool) → Decides (HasChoice (source_of r) i) b → Decides (HasPlan (source_of r) i) b
-  plan_whole plan cpus b d =
-      decided (HasChoice (source_of r) i) (HasPlan (source_of r) i) b (λ tau0. record { cpus = cpus ∙ sym (processor_same r); plan = plan; tau0 = tau0 }) (λ h. h.tau0) d
+  pub plan_whole : HasChoice (source_of r) i → i.header.cpus ≡ r.processor.logical_cpus → (b : Bool) → Decides (IsPlanOf (source_of r) i.plan) b → Decides (HasPlan (source_of r) i) b
+  plan_whole tau0 cpus b d =
+      decided (IsPlanOf (source_of r) i.plan) (HasPlan (source_of r) i) b (λ plan. record { cpus = cpus ∙ sym (processor_same r); plan = plan; tau0 = tau0 }) (λ h. h.plan) d

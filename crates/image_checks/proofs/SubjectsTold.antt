@@ -8,7 +8,10 @@ use Rattle.std.proofs.lemmas.List.{get_or-map, get_or_default, length-map}
 use Rattle.std.proofs.lemmas.List.Elements.{All-cons, All-head, All-nil, All-tail}
 use Rattle.std.proofs.lemmas.Slice.Zip.{get_or-zip}
 use Rattle.std.proofs.lemmas.Option.{get_or_from_slice_get, same_Some, slice_get-map, slice_get_within}
-use Rattle.event_emit.specs.Tables.{AreTables, IsEntry, IsIrqTarget, IsTable, irq_named, part_raised}
+use Rattle.event_emit.specs.Tables.{AreTables}
+use Rattle.image_soundness.proofs.GroupsByIndex.{group_with, in_group}
+use Rattle.image_soundness.specs.TablesOf.{IsEntry, IsTable, irq_named, part_raised}
+use Rattle.image_pack.specs.ImageConditions.{IsReached, IsSubject}
 use Rattle.event_emit.specs.declared.event_tables.EventTables.{EventTables}
 use Rattle.expand_kernel.specs.Grants.{target_named}
 use Rattle.expand_kernel.proofs.Counted.{uncounted}
@@ -19,7 +22,6 @@ use Rattle.image_checks.specs.Firsts.{Decides, HoldsAt}
 use Rattle.image_soundness.specs.Sound.{IsSubjectOf}
 use Rattle.image_soundness.specs.Targets.{IndexedEvent, IndexedTarget, at_index, entry_event, event_index, irq_target, subject_index, target_index}
 use Rattle.image_pack.proofs.PartsKeep.{parts_keep}
-use Rattle.image_pack.specs.ImageConditions.{IsSubject}
 use Rattle.image_pack.specs.Parts.{IsParts}
 use Rattle.image_pack.specs.declared.parts.EventPart.{EventPart}
 use Rattle.image_pack.specs.declared.parts.Image.{Image}
@@ -46,49 +48,7 @@ use Rattle.policy_lawful.specs.source.SourceWay.{SourceWay}
 use Rattle.policy_lawful.specs.source.Subject.{Subject as SourceSubject}
 use Rattle.policy_lawful.specs.source.SourceWay.TheVariants.{Call, Trap}
 
--- ---- groups
-
--- a group lists the name of a subject just where it has the subject's index
-lists_alike : (r : Resolution) (k : ℕ) → repeated (subject_names r) ≡ None → k < length r.subjects → (g : ResolvedGroup) → group_in_range r g ≡ true
-    → list_any (λ n. bytes_eq n (name_at (subject_names r) k)) (map (name_at (subject_names r)) g.subjects) ≡ list_any (λ n. n == k) g.subjects
-lists_alike r k unique within g placed =
-    let names = subject_names r in
-    let many : length names ≡ length r.subjects = length-map r.subjects (λ s. s.name) in
-    list_any-map (λ n. bytes_eq n (name_at names k)) (name_at names) g.subjects
-    ∙ any_same (λ i. bytes_eq (name_at names i) (name_at names k)) (λ i. i == k) (λ i. nat_lt i (length r.subjects))
-    (λ i ok. let l : i < length r.subjects = ltb-true i (length r.subjects) ok in same_name names i k unique (omega (arith, l, many)) (omega (arith, within, many)))
-    g.subjects placed
-
--- the number of the first group that has the subject at an index
-abbrev pub group_with : Resolution → ℕ → Option ℕ
-group_with r k = position (λ g. list_any (λ n. n == k) g.subjects) r.scheduling.groups
-
 module _ (r : Resolution) (resolved : IsResolved r) where
-  -- the group of a subject, by name and by index
-  in_group : IsLawful (source_of r) → (k : ℕ) (s : Subject) → slice_get r.subjects k ≡ Some s → group_of (source_of r) s.name ≡ group_with r k
-  unfolding source_of
-  in_group lawful k s at =
-      let groups = map (group_named r) r.scheduling.groups in
-      let test : Group → Bool = λ g. list_any (λ n. bytes_eq n s.name) g.subjects in
-      let has : ResolvedGroup → Bool = λ g. list_any (λ n. n == k) g.subjects in
-      let unique = subjects_unique r resolved.names in
-      let within = slice_get_within r.subjects k s at in
-      let kept = members_kept (source_of r) (rules_of lawful).rule_17 in
-      let once : times_listed (source_of r) s.name ≡ 1 =
-      eqb-true (times_listed (source_of r) s.name) 1
-      (passes_at (λ x. times_listed (source_of r) x.name == 1) (source_of r).subjects k (subject_named r s) kept.once (slice_get-map (subject_named r) r.subjects k ∙ ap (option_map (subject_named r)) at)) in
-      let some : position_or_len test groups < length groups =
-      some_passes test (λ g. count_by (λ n. bytes_eq n s.name) g.subjects) (λ g. uncounted (λ n. bytes_eq n s.name) g.subjects) groups (omega (arith, once)) in
-      let many : length groups ≡ length r.scheduling.groups = length-map r.scheduling.groups (group_named r) in
-      let alike : (g : ResolvedGroup) → group_in_range r g ≡ true → test (group_named r g) ≡ has g = λ g ok.
-      ap (λ name. list_any (λ n. bytes_eq n name) (group_named r g).subjects) (sym (name_of_subject r k s at)) ∙ lists_alike r k unique within g ok in
-      let same : position_or_len test groups ≡ position_or_len has r.scheduling.groups =
-      position-map test (group_named r) r.scheduling.groups
-      ∙ index_same (λ g. test (group_named r g)) has (group_in_range r) alike r.scheduling.groups (parts_in_range r resolved.in_range).groups in
-      position_there test groups some
-      ∙ ap Some same
-      ∙ sym (position_there has r.scheduling.groups (omega (arith, some, many, same)))
-
   -- ---- whom events and interrupts reach
 
   -- the index of a subject, by its name
@@ -118,7 +78,7 @@ module _ (r : Resolution) (resolved : IsResolved r) where
       let by : IndexedTarget → IndexedEvent = λ t. record { mode = e.mode; target = t } in
       ap (λ t. Some (by t)) (same_target e.target e.vector is.0)
 
-  pub same_reached : (o : Option IrqTarget) → IsIrqTarget (length r.subjects) o → option_map irq_target o ≡ option_map (target_index (source_of r)) (option_map (irq_named r) o)
+  pub same_reached : (o : Option IrqTarget) → IsReached (length r.subjects) o → option_map irq_target o ≡ option_map (target_index (source_of r)) (option_map (irq_named r) o)
   same_reached None is = refl
   same_reached (Some t) is = ap Some (same_target t.subject (Some t.vector) is.0)
 
@@ -172,7 +132,7 @@ module _ (r : Resolution) (resolved : IsResolved r) (lawful : IsLawful (source_o
   subject_is h = record {
     name = h.name;
     cpu = h.cpu;
-    in_group = in_group r resolved lawful k s at ∙ h.group;
+    in_group = (in_group r resolved lawful k s at).0 ∙ h.group;
     calls = λ n l. ap (λ (table : List (Option EventPart)). option_map entry_event (slice_index_or table n None)) h.calls ∙ events_are r resolved s Call t.calls are.calls n l;
     traps = λ n l. ap (λ (table : List (Option EventPart)). option_map entry_event (slice_index_or table n None)) h.traps ∙ events_are r resolved s Trap t.traps are.traps n l;
   }
@@ -182,7 +142,7 @@ module _ (r : Resolution) (resolved : IsResolved r) (lawful : IsLawful (source_o
   subject_agrees full h = record {
     name = h.name;
     cpu = h.cpu;
-    group = sym (in_group r resolved lawful k s at) ∙ h.in_group;
+    group = sym (in_group r resolved lawful k s at).0 ∙ h.in_group;
     calls = one_table q.calls t.calls full.calls are.calls.many (λ n l. h.calls n l ∙ sym (events_are r resolved s Call t.calls are.calls n l));
     traps = one_table q.traps t.traps full.traps are.traps.many (λ n l. h.traps n l ∙ sym (events_are r resolved s Trap t.traps are.traps n l));
   }

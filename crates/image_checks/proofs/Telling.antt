@@ -10,7 +10,7 @@ use Rattle.image_checks.proofs.SpansOfNumbers.{as_many, no_span, span_of, thing_
 use Rattle.image_checks.proofs.Wanted.{as_many_wanted, wanted_at}
 use Rattle.image_checks.specs.Contents.{FitsAt, HasSpanAt, IsFirstOther, expected_of, fits, thing_indexes}
 use Rattle.image_checks.specs.declared.contents.ExpectedSpan.{ExpectedSpan}
-use Rattle.proof_build.specs.Made.{thing_bytes}
+use Rattle.image_soundness.specs.ThingBytes.{thing_bytes}
 use Rattle.image_pack.specs.Parts.{IsParts}
 use Rattle.image_pack.specs.declared.parts.Image.{Image}
 use Rattle.image_pack.specs.declared.parts.SpanPart.{SpanPart}

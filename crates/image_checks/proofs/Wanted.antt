@@ -8,7 +8,7 @@ use Rattle.std.proofs.lemmas.Option.{same_Some, slice_get-map, slice_get_past}
 use Rattle.std.proofs.lemmas.Slice.Zip.{AllZip-long}
 use Rattle.image_checks.specs.Contents.{brought_spans, channel_span, device_spans, expected_of, memory_span_of, own_span, provided_span}
 use Rattle.image_checks.specs.declared.contents.ExpectedSpan.{ExpectedSpan}
-use Rattle.proof_build.specs.Made.{thing_bytes}
+use Rattle.image_soundness.specs.ThingBytes.{thing_bytes}
 use Rattle.image_pack.specs.Codes.{is_device}
 use Rattle.image_pack.specs.declared.parts.SpanKind.TheVariants.{Device as DeviceSpan}
 use Rattle.image_soundness.specs.Sound.{kind_of}
@@ -17,15 +17,14 @@ use Rattle.muen_num.proofs.Pairs.{both_at}
 use Rattle.muen_num.specs.declared.tag.Tag.{Tag}
 use Rattle.muen_num.specs.declared.tag.TagPart.{TagPart}
 use Rattle.muen_num.specs.declared.tag.TagPart.TheVariants.{Named, Whole}
-use Rattle.policy_lawful.specs.ByIndex.{provided_at}
+use Rattle.policy_lawful.specs.ByIndex.{provided_at, memories_of}
 use Rattle.policy_lawful.specs.Contents.{Held, initial_bytes}
 use Rattle.policy_lawful.specs.Resolution.{IsResolved, Resolution, source_of}
 use Rattle.policy_lawful.specs.Thing.{Thing, channel, declared_size, provided, region, thing_tag, things_of}
 use Rattle.policy_lawful.specs.source.DeviceMemory.{DeviceMemory}
-use Rattle.proof_build.proofs.PiecesOfLists.{flat_map_at, zip_append, zip_map_both, zip_pieces}
-use Rattle.proof_build.proofs.ThingBytes.{memory_bytes_are, memory_sizes_are, region_bytes_are, region_sizes_are}
-use Rattle.proof_build.proofs.ThingsInOrder.{memory_thing, memory_things, provided_things, region_things, things_are}
-use Rattle.proof_build.specs.Spans.{memories_of}
+use Rattle.muen_num.proofs.PiecesOfLists.{flat_map_at, zip_append, zip_map_both, zip_pieces}
+use Rattle.image_soundness.proofs.ThingBytes.{memory_bytes_are, memory_sizes_are, region_bytes_are, region_sizes_are}
+use Rattle.image_soundness.proofs.ThingsInOrder.{memory_thing, memory_things, provided_things, region_things, things_are}
 
 -- the bytes at the start: those that are expected, or zeros of a device's memory
 abbrev pub AreBytesOf : ExpectedSpan → Option (List ℕ) → List ℕ → Type 0

@@ -2,10 +2,10 @@
 use Rattle.std.specs.Prelude.{◌≡◌, ℕ, ◌+◌, ◌-◌, ◌<◌, ◌≤◌, not, Bool, List, length, map}
 use Rattle.std.specs.List.{flat_map, list_any}
 use Rattle.std.specs.List.Sorted.{IsPermutation}
-use Rattle.expand_kernel.specs.Resources.{has_port}
+use Rattle.policy_lawful.specs.PortRanges.{has_port}
 use Rattle.image_checks.specs.declared.bitmaps.TheConstants.{RANGE_SIZE}
 use Rattle.machine_layout.specs.Exits.{area_index, area_value, msr_exits, port_exits}
-use Rattle.msrbm_emit.specs.Msrs.{is_granted}
+use Rattle.policy_lawful.specs.MsrGrants.{is_granted}
 use Rattle.muen_num.specs.Range.{numbers_below}
 use Rattle.muen_num.specs.declared.limits.TheConstants.{HIGH_MSR_FIRST, LAST_PORT}
 use Rattle.policy_lawful.specs.resources.MsrGrant.{MsrGrant}

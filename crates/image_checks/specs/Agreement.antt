@@ -1,7 +1,7 @@
 -- When a subject and a device of an image agree with what the policy has at their indexes.
 use Rattle.std.specs.Prelude.{◌≡◌, ℕ, ◌*◌, List, length, zip, Option, Some, option_map}
 use Rattle.std.specs.List.{AllZip}
-use Rattle.event_emit.specs.Tables.{AreDevices}
+use Rattle.image_soundness.specs.TablesOf.{AreDevices}
 use Rattle.event_emit.specs.declared.event_tables.EventTables.{EventTables}
 use Rattle.image_pack.specs.declared.parts.DevicePart.{DevicePart}
 use Rattle.image_pack.specs.declared.parts.Image.{Image}

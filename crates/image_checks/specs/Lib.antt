@@ -1,6 +1,3 @@
-pub use Rattle.proof_build.specs.Made
-pub use Rattle.image_soundness.specs.Memory
-pub use Rattle.image_soundness.specs.Sound
 pub mod Agreement
 pub mod Firsts
 pub mod Contents

@@ -7,7 +7,7 @@ use Rattle.image_checks.specs.declared.plan_owner.PlanOwner.TheVariants.{Plan, S
 use Rattle.image_pack.specs.declared.parts.Image.{Image}
 use Rattle.image_soundness.specs.Named.{tag_at}
 use Rattle.image_soundness.specs.Sound.{ForEachSubject, HasPlanAndEvents, IsDeviceOf, IsSubjectOf}
-use Rattle.plan_emit.specs.PlanOf.{IsPlanOf}
+use Rattle.image_soundness.specs.PlanOf.{IsPlanOf}
 use Rattle.policy_lawful.specs.Thing.{region, thing_tag}
 use Rattle.policy_lawful.specs.source.Source.{Source}
 

@@ -1,12 +1,12 @@
 //! The bitmaps of each subject.
 ghost use Rattle.std.specs.Prelude.{◌≡◌, ◌≤◌, ◌+◌, ◌^◌, ◌&&◌, IfOk, zip};
 ghost use Rattle.std.specs.List.{list_any};
-ghost use Rattle.expand_kernel.specs.Resources.{has_port};
+ghost use Rattle.policy_lawful.specs.PortRanges.{has_port};
 ghost use Rattle.image_checks.specs.Agree.{BitmapsAgree, MsrAgrees, MsrsAgree, PortsAgree};
 ghost use Rattle.image_checks.specs.Firsts.{Decides, IsFirstFailing};
 ghost use Rattle.image_soundness.specs.Memory.{page_at};
 ghost use Rattle.image_soundness.specs.Sound.{HasBitmaps};
-ghost use Rattle.msrbm_emit.specs.Msrs.{allows, has_msr, is_granted};
+ghost use Rattle.policy_lawful.specs.MsrGrants.{allows, has_msr, is_granted};
 ghost use Rattle.policy_lawful.specs.Resolution.{source_of};
 
 use crate::span_pages::page_at;
@@ -52,7 +52,7 @@ fn allows(grant: &MsrGrant, index: u32, write: bool) -> bool
 }
 
 // Whether one of the grants has an MSR and allows it.
-#[tactic(auto, unfolding(msrbm_emit::specs::Msrs::is_granted))]
+#[tactic(auto, unfolding(policy_types::specs::MsrGrants::is_granted))]
 fn is_granted(msrs: &[MsrGrant], index: u32, write: bool) -> bool
     ensures { result ≡ is_granted msrs.now index write }
 {

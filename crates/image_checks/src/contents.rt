@@ -2,7 +2,7 @@
 ghost use Rattle.std.specs.Prelude.{◌≡◌, ◌==◌, ◌++◌, ◌<◌, All, map, length, option_to_list, position, slice_get, OnOk, IfOk, IfSome};
 ghost use Rattle.std.specs.List.{flat_map};
 ghost use Rattle.image_checks.specs.Contents.{IsContentsFault, brought_spans, channel_span, device_spans, expected_of, fits, has_bytes, is_expected, memory_span_of, own_span, provided_span, same_kind, same_part, thing_index, thing_indexes};
-ghost use Rattle.proof_build.specs.Made.{thing_bytes};
+ghost use Rattle.image_soundness.specs.ThingBytes.{thing_bytes};
 ghost use Rattle.image_soundness.specs.Sound.{is_kernel};
 ghost use Rattle.policy_lawful.specs.Contents.{Held};
 ghost use Rattle.policy_lawful.specs.Resolution.{IsResolved, source_of};

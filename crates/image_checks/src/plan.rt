@@ -1,15 +1,14 @@
 //! Whether the plan of an image, its CPUs and the region of its scheduler are a policy's.
-ghost use Rattle.std.specs.Prelude.{◌≡◌, length, IfOk, true};
+ghost use Rattle.std.specs.Prelude.{◌≡◌, length, IfOk};
 ghost use Rattle.image_checks.specs.Firsts.{Decides};
 ghost use Rattle.image_checks.specs.PlanFault.{HasChoice, HasPlan};
-ghost use Rattle.plan_emit.specs.PlanOf.{IsPlanOf};
 ghost use Rattle.policy_lawful.specs.Resolution.{IsResolved, source_of};
 
 use crate::spans::has_tag;
 use image_pack::{GroupPart, Image, Major, Parts, Plan};
 use muen_num::{NoMemory, Tag, TagPart};
 use plan_emit::plan;
-use policy_lawful::{Lawful, Resolved};
+use policy_lawful::Lawful;
 use std::alloc::Global;
 
 fn same_groups(a: &[GroupPart], b: &[GroupPart]) -> bool
@@ -31,28 +30,12 @@ fn same_plan(a: &Plan, b: &Plan) -> bool
         && same_majors(a.majors.items(), b.majors.items())
 }
 
-// Whether the subjects have different names: they do, since the policy's type says so.
-fn is_resolved(policy: &Resolved) -> bool
-    ensures is { IsResolved policy.now }
-    ensures holds { result ≡ true }
-{
-    policy.subjects().len() <= usize::MAX
-}
-
-// Whether a plan is that of the policy.
-fn is_plan(alloc: Global, lawful: &Lawful, given: &Plan) -> Result<bool, NoMemory>
-    ensures { IfOk result (Decides (IsPlanOf (source_of lawful.now) given.now)) }
-{
-    let made = plan(alloc, lawful)?;
-    // Subjects have different names, so there is one plan.
-    prove!(is_resolved(lawful.resolved()));
-    Ok(same_plan(&made, given))
-}
-
 // Whether the region whose first byte chooses the next major frame is the policy's.
 fn has_choice(lawful: &Lawful, image: &Image) -> bool
     requires { length image.now.contents ≡ length image.now.spans }
-    ensures { Decides (HasChoice (source_of lawful.now) image.now) result }
+    ensures choice { Decides (HasChoice (source_of lawful.now) image.now) result }
+    // Subjects have different names, since the policy's type says so.
+    ensures resolved { IsResolved lawful.now }
 {
     match (image.header.tau0, &lawful.resolved().scheduling().tau0) {
         (None, None) => true,
@@ -75,12 +58,14 @@ pub(crate) fn has_plan(alloc: Global, lawful: &Lawful, parts: &Parts) -> Result<
     ensures { IfOk result (Decides (HasPlan (source_of lawful.now) parts.now)) }
 {
     let image = parts.image();
-    if !is_plan(alloc, lawful, &image.plan)? {
+    if !has_choice(lawful, image) {
         return Ok(false);
     }
     let cpus = lawful.resolved().processor().logical_cpus;
     if u64::from(image.header.cpus) != cpus {
         return Ok(false);
     }
-    Ok(has_choice(lawful, image))
+    // Since subjects have different names, there is one plan.
+    let made = plan(alloc, lawful)?;
+    Ok(same_plan(&made, &image.plan))
 }

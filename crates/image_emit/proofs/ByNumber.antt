@@ -14,7 +14,8 @@ use Rattle.image_soundness.specs.Memory.{Span, by_number, span_at}
 use Rattle.image_pack.specs.declared.parts.SpanPart.{SpanPart}
 use Rattle.muen_num.proofs.Lists.{find-map, get_left, get_right}
 use Rattle.muen_num.specs.Range.{numbers_below}
-use Rattle.span_emit.specs.Spans.{device_span, device_spans, memories_of, region_span, region_spans}
+use Rattle.span_emit.specs.Spans.{device_span, device_spans, region_span, region_spans}
+use Rattle.policy_lawful.specs.ByIndex.{memories_of}
 use Rattle.span_emit.specs.SpansOf.{spans_of}
 use Rattle.policy_lawful.specs.Ranges.{in_a_block}
 

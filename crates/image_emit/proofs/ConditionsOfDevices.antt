@@ -7,13 +7,15 @@ use Rattle.std.proofs.lemmas.List.{length-map}
 use Rattle.std.proofs.lemmas.List.Elements.{All-cons, All-nil}
 use Rattle.std.proofs.lemmas.Option.{same_Some, slice_get-map, slice_get_within}
 use Rattle.std.proofs.lemmas.Slice.Zip.{AllZip-long}
-use Rattle.event_emit.specs.Tables.{AreDevices, IsDevice as IsDeviceFrom, IsIrq as IsIrqFrom, ports_ends, span_ends}
+use Rattle.image_soundness.specs.TablesOf.{AreDevices, IsDevice as IsDeviceFrom, IsIrq as IsIrqFrom, ports_ends, span_ends}
 use Rattle.image_emit.proofs.ByNumber.{span_found}
 use Rattle.image_emit.proofs.ConditionsOfPlan.{subjects_many}
 use Rattle.image_emit.proofs.NamesDiffer.{names_differ}
 use Rattle.policy_lawful.proofs.KeptLimits.{has_few_parts, limits_kept}
-use Rattle.policy_lawful.proofs.KeptPorts.{is_range, ports_kept}
-use Rattle.image_emit.proofs.PlanDevices.{irqs_named, memory_there}
+use Rattle.policy_lawful.proofs.KeptPorts.{ports_kept}
+use Rattle.policy_lawful.specs.Ranges.{is_port_range}
+use Rattle.image_emit.proofs.PlanDevices.{memory_there}
+use Rattle.image_soundness.proofs.DevicesOf.{irqs_named}
 use Rattle.image_emit.specs.Made.{IsMade, Made, image_of, policy_of, subject_parts}
 use Rattle.image_pack.specs.Image.{device_name, window_name}
 use Rattle.image_pack.specs.ImageConditions.{AreDistinct, IsDevice, IsIrq, IsRange, IsWindow}
@@ -36,7 +38,8 @@ use Rattle.policy_lawful.specs.source.Device.{Device}
 use Rattle.policy_lawful.specs.source.DeviceMemory.{DeviceMemory}
 use Rattle.policy_lawful.specs.source.Irq.{Irq}
 use Rattle.policy_lawful.specs.source.Ports.{Ports}
-use Rattle.span_emit.specs.Spans.{device_span, memories_of}
+use Rattle.span_emit.specs.Spans.{device_span}
+use Rattle.policy_lawful.specs.ByIndex.{memories_of}
 use Rattle.span_emit.specs.SpansOf.{spans_of}
 
 -- ---- lists
@@ -48,7 +51,7 @@ all_from_indexes P (x ∷ xs) h = All-cons P x xs (h 0 x refl) (all_from_indexes
 
 -- ---- ports
 
-range_kept : (p : PortSpan) (x : Ports) → span_ends p ≡ ports_ends x → is_range x ≡ true → IsRange p
+range_kept : (p : PortSpan) (x : Ports) → span_ends p ≡ ports_ends x → is_port_range x ≡ true → IsRange p
 range_kept p x same h =
     let parts = and_parts (nat_le x.start x.end) (nat_le x.end LAST_PORT) h in
     let some : x.start ≤ x.end = leb-true x.start x.end parts.0 in
@@ -57,11 +60,11 @@ range_kept p x same h =
     let end : p.end ≡ x.end = ap (λ (e : ℕ × ℕ). e.1) same in
     record { some = omega (arith, some, start, end); last = omega (arith, last, end) }
 
-ranges_kept : (ps : List PortSpan) (xs : List Ports) → map span_ends ps ≡ map ports_ends xs → list_all is_range xs ≡ true → All IsRange ps
+ranges_kept : (ps : List PortSpan) (xs : List Ports) → map span_ends ps ≡ map ports_ends xs → list_all is_port_range xs ≡ true → All IsRange ps
 ranges_kept [] xs same h = All-nil IsRange
 ranges_kept (p ∷ ps) [] same h = absurd (cc)
 ranges_kept (p ∷ ps) (x ∷ xs) same h =
-    let parts = and_parts (is_range x) (list_all is_range xs) h in
+    let parts = and_parts (is_port_range x) (list_all is_port_range xs) h in
     let here : span_ends p ≡ ports_ends x = cc in
     let rest : map span_ends ps ≡ map ports_ends xs = cc in
     All-cons IsRange p ps (range_kept p x here parts.0) (ranges_kept ps xs rest parts.1)
@@ -135,9 +138,9 @@ module _ (m : Made) (h : IsMade m) where
     unfolding source_of
     few = passes_at has_few_parts (policy_of m).devices j d (limits_kept (source_of (policy_of m)) (rules_of h.lawful).rule_20).device_parts at
 
-    ranges : list_all is_range d.io_ports ≡ true
+    ranges : list_all is_port_range d.io_ports ≡ true
     unfolding source_of
-    ranges = passes_at (λ d. list_all is_range d.io_ports) (policy_of m).devices j d (ports_kept (source_of (policy_of m)) (rules_of h.lawful).rule_10) at
+    ranges = passes_at (λ d. list_all is_port_range d.io_ports) (policy_of m).devices j d (ports_kept (source_of (policy_of m)) (rules_of h.lawful).rule_10) at
 
     parts_differ : UniqueParts d
     unfolding source_of

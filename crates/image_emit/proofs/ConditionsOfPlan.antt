@@ -19,7 +19,8 @@ use Rattle.image_pack.specs.SpanConditions.{HaveDifferentNumbers}
 use Rattle.image_pack.specs.declared.parts.SpanPart.{SpanPart}
 use Rattle.image_pack.specs.Plan.{cpus_of, is_major, is_plan}
 use Rattle.image_pack.specs.plan.Plan.{Plan}
-use Rattle.event_emit.specs.Tables.{AreDevices}
+use Rattle.image_soundness.proofs.DevicesOf.{devices_long}
+use Rattle.image_soundness.specs.TablesOf.{AreDevices}
 use Rattle.image_pack.specs.declared.parts.DevicePart.{DevicePart}
 use Rattle.muen_num.proofs.Lists.{there}
 use Rattle.muen_num.proofs.Lookups.{position_there}
@@ -56,13 +57,6 @@ pub groups_many : (m : Made) → IsMade m → length m.plan.groups ≡ length (s
 groups_many m h =
     let p = source_of (policy_of m) in
     sym (length-map m.plan.groups (λ g. g.cpu)) ∙ ap length h.plan.groups ∙ length-map p.scheduling.groups (λ g. g.cpu)
-
-pub devices_long : (r : Resolution) (first : ℕ) (ds : List Device) (qs : List DevicePart) → AreDevices r first ds qs → length qs ≡ length ds
-unfolding AreDevices
-devices_long r first [] [] h = refl
-devices_long r first [] (q ∷ qs) h = absurd h
-devices_long r first (d ∷ ds) [] h = absurd h
-devices_long r first (d ∷ ds) (q ∷ qs) h = ap suc (devices_long r (first + length d.memory) ds qs h.1)
 
 -- and as many devices
 pub devices_many : (m : Made) → IsMade m → length m.devices ≡ length (policy_of m).devices

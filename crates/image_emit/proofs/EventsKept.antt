@@ -4,7 +4,7 @@ use Rattle.std.specs.Prelude.{nat_le, option_map}
 use Rattle.std.specs.Option.{option_map_or}
 use Rattle.std.proofs.lemmas.Bool.{and_parts, leb-true}
 use Rattle.std.proofs.lemmas.List.{get_or_default}
-use Rattle.event_emit.specs.Tables.{IsEntry, IsTable, part_raised}
+use Rattle.image_soundness.specs.TablesOf.{IsEntry, IsTable, part_raised}
 use Rattle.policy_lawful.proofs.KeptVectors.{event_free, is_free_if_any, raised_free}
 use Rattle.image_pack.specs.Codes.{is_vector, vector_code}
 use Rattle.image_pack.specs.ImageConditions.{AreEvents, IsEvent, IsVector}

@@ -19,7 +19,7 @@ use Rattle.policy_lawful.specs.Resolution.{Resolution, source_of, subject_named}
 use Rattle.policy_lawful.specs.declared.resolved.Subject.{Subject}
 use Rattle.region_alloc.specs.Placed.{IsPlaced, Placement}
 use Rattle.span_emit.proofs.KeptSums.{sums_kept, windows_length}
-use Rattle.span_emit.specs.Spans.{memories_of}
+use Rattle.policy_lawful.specs.ByIndex.{memories_of}
 use Rattle.subject_emit.proofs.KeptMsrs.{msrs_few}
 use Rattle.subject_emit.proofs.Numbered.{has_addresses}
 use Rattle.subject_emit.proofs.AddressesFit.{tables_there}

@@ -3,12 +3,12 @@ use Rattle.std.proofs.Common.{◌≡◌, refl, sym, ap, ap₂, subst, ℕ, List,
 use Rattle.std.specs.List.{All}
 use Rattle.std.specs.List.Sorted.{IsPermutation}
 use Rattle.image_pack.specs.Form.{IsBytes}
-use Rattle.event_emit.specs.Tables.{AreDevices}
+use Rattle.event_emit.specs.Named.{AreNamed}
+use Rattle.image_soundness.specs.TablesOf.{AreDevices}
 use Rattle.image_emit.proofs.Conditions.{keeps}
 use Rattle.image_emit.proofs.ContentLengths.{contents_kept}
 use Rattle.image_emit.specs.Gathered.{AreParts, IsHeld}
 use Rattle.image_emit.specs.Made.{IsFilled, IsImageOf, IsMade, Made, choice_of, content_at, image_of}
-use Rattle.image_emit.specs.Named.{AreNamed}
 use Rattle.image_pack.proofs.ConditionsFit.{conditions_fit}
 use Rattle.image_pack.specs.Parts.{IsParts, counted}
 use Rattle.image_pack.specs.SpanConditions.{AreSpans}
@@ -17,7 +17,7 @@ use Rattle.image_pack.specs.declared.parts.Image.{Image}
 use Rattle.image_pack.specs.declared.parts.SpanPart.{SpanPart}
 use Rattle.image_pack.specs.declared.parts.SubjectPart.{SubjectPart}
 use Rattle.image_pack.specs.plan.Plan.{Plan}
-use Rattle.plan_emit.specs.PlanOf.{IsPlanOf}
+use Rattle.image_soundness.specs.PlanOf.{IsPlanOf}
 use Rattle.policy_lawful.specs.Resolution.{source_of}
 use Rattle.region_alloc.specs.Placed.{IsPlaced, Placement}
 use Rattle.span_emit.specs.SpansOf.{spans_of}

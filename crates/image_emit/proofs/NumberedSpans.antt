@@ -12,7 +12,8 @@ use Rattle.image_pack.specs.declared.parts.SpanPart.{SpanPart}
 use Rattle.muen_num.proofs.Lists.{get_left, get_right}
 use Rattle.muen_num.proofs.Pairs.{zipped_both}
 use Rattle.policy_lawful.specs.source.DeviceMemory.{DeviceMemory}
-use Rattle.span_emit.specs.Spans.{device_span, device_spans, memories_of, region_span, region_spans}
+use Rattle.span_emit.specs.Spans.{device_span, device_spans, region_span, region_spans}
+use Rattle.policy_lawful.specs.ByIndex.{memories_of}
 use Rattle.span_emit.specs.SpansOf.{spans_of}
 
 -- the span of the region of this number

@@ -4,7 +4,8 @@ use Rattle.std.specs.Prelude.{option_and_then, option_map, slice_get}
 use Rattle.std.specs.List.{All, AllZip, enumerate_from, filter_map}
 use Rattle.std.proofs.lemmas.List.{length-map}
 use Rattle.std.proofs.lemmas.Option.{get_or_from_slice_get, slice_get-map, slice_get_within}
-use Rattle.event_emit.specs.Tables.{AreDevices, IsDevice, IsIrq}
+use Rattle.image_soundness.proofs.DevicesOf.{irqs_named}
+use Rattle.image_soundness.specs.TablesOf.{AreDevices, IsDevice, IsIrq}
 use Rattle.image_emit.proofs.AtIndexes.{looked_up, none_missing}
 use Rattle.image_emit.proofs.ByNumber.{region_spans_length, span_numbered}
 use Rattle.image_emit.proofs.PlanSubjects.{same_reached}
@@ -29,7 +30,8 @@ use Rattle.policy_lawful.specs.source.Irq.{Irq}
 use Rattle.policy_lawful.proofs.KeptAddresses.{IsPhysical}
 use Rattle.policy_lawful.proofs.KeptRules.{rules_of}
 use Rattle.span_emit.proofs.KeptDevices.{devices_physical}
-use Rattle.span_emit.specs.Spans.{device_span, device_spans, memories_of, region_spans}
+use Rattle.span_emit.specs.Spans.{device_span, device_spans, region_spans}
+use Rattle.policy_lawful.specs.ByIndex.{memories_of}
 use Rattle.span_emit.specs.SpansOf.{spans_of}
 use Rattle.image_soundness.specs.Bench.{bench_device as device_of}
 
@@ -111,12 +113,6 @@ module _ (i : Image) (first : ℕ) (d : SourceDevice) (q : DevicePart) (r : Reso
 
   windows_are : map (λ w. tag_at i w.span) q.windows ≡ map (λ m. Some (thing_tag (device_memory d.name m.name))) d.memory
   windows_are = by_window (tag_at i) (λ x. Some (thing_tag (device_memory x.0 x.1.name))) (λ n x has. ap (option_map (λ e. e.0.tag)) has.is)
-
-pub irqs_named : (r : Resolution) (d : SourceDevice) (irqs : List Irq) (parts : List IrqPart) → AllZip (IsIrq r d) irqs parts → map (λ q. q.name) parts ≡ map (λ j. j.name) irqs
-irqs_named r d [] [] h = refl
-irqs_named r d [] (q ∷ qs) h = absurd h
-irqs_named r d (j ∷ js) [] h = absurd h
-irqs_named r d (j ∷ js) (q ∷ qs) h = ap (λ n. n ∷ map (λ x. x.name) qs) h.0.name ∙ ap (λ ns. j.name ∷ ns) (irqs_named r d js qs h.1)
 
 -- ---- all devices
 

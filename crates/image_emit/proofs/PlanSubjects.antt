@@ -7,7 +7,10 @@ use Rattle.std.proofs.lemmas.Bool.{eqb-true, ltb-true}
 use Rattle.std.proofs.lemmas.List.{length-map}
 use Rattle.std.proofs.lemmas.Option.{slice_get-map, slice_get_within}
 use Rattle.std.proofs.lemmas.Slice.Zip.{AllZip-long}
-use Rattle.event_emit.specs.Tables.{AreTables, IsEntry, IsIrqTarget, IsTable, irq_named, part_raised}
+use Rattle.event_emit.specs.Tables.{AreTables}
+use Rattle.image_soundness.proofs.GroupsByIndex.{in_group as group_by_index}
+use Rattle.image_soundness.specs.TablesOf.{IsEntry, IsTable, irq_named, part_raised}
+use Rattle.image_pack.specs.ImageConditions.{IsReached}
 use Rattle.event_emit.specs.declared.event_tables.EventTables.{EventTables}
 use Rattle.expand_kernel.proofs.Counted.{uncounted}
 use Rattle.expand_kernel.specs.Grants.{AreGrantsOf, target_named}
@@ -40,42 +43,11 @@ use Rattle.policy_lawful.specs.Frames.{group_of}
 
 -- ---- groups
 
--- a group lists the name of a subject just where it has the subject's index
-pub lists_alike : (r : Resolution) (k : ℕ) → repeated (subject_names r) ≡ None → k < length r.subjects → (g : ResolvedGroup) → group_in_range r g ≡ true
-    → list_any (λ n. bytes_eq n (name_at (subject_names r) k)) (map (name_at (subject_names r)) g.subjects) ≡ list_any (λ n. n == k) g.subjects
-lists_alike r k unique within g placed =
-    let names = subject_names r in
-    let many : length names ≡ length r.subjects = length-map r.subjects (λ s. s.name) in
-    list_any-map (λ n. bytes_eq n (name_at names k)) (name_at names) g.subjects
-    ∙ any_same (λ i. bytes_eq (name_at names i) (name_at names k)) (λ i. i == k) (λ i. nat_lt i (length r.subjects))
-    (λ i ok. let l : i < length r.subjects = ltb-true i (length r.subjects) ok in same_name names i k unique (omega (arith, l, many)) (omega (arith, within, many)))
-    g.subjects placed
-
 -- the group of a subject, by name and by index
 pub in_group : (m : Made) → IsMade m → (k : ℕ) (s : Subject) → slice_get (policy_of m).subjects k ≡ Some s → group_of (source_of (policy_of m)) s.name ≡ Some (group_at (policy_of m) k)
-unfolding source_of
 in_group m h k s at =
-    let r = policy_of m in
-    let groups = map (group_named r) r.scheduling.groups in
-    let test : Group → Bool = λ g. list_any (λ n. bytes_eq n s.name) g.subjects in
-    let has : ResolvedGroup → Bool = λ g. list_any (λ n. n == k) g.subjects in
-    let unique = subjects_unique r h.resolved.names in
-    let within = slice_get_within r.subjects k s at in
-    let kept = members_kept (source_of r) (rules_of h.lawful).rule_17 in
-    let once : times_listed (source_of r) s.name ≡ 1 =
-    eqb-true (times_listed (source_of r) s.name) 1
-    (passes_at (λ x. times_listed (source_of r) x.name == 1) (source_of r).subjects k (subject_named r s) kept.once (slice_get-map (subject_named r) r.subjects k ∙ ap (option_map (subject_named r)) at)) in
-    let some : position_or_len test groups < length groups =
-    some_passes test (λ g. count_by (λ n. bytes_eq n s.name) g.subjects) (λ g. uncounted (λ n. bytes_eq n s.name) g.subjects) groups (omega (arith, once)) in
-    let many : length groups ≡ length r.scheduling.groups = length-map r.scheduling.groups (group_named r) in
-    let alike : (g : ResolvedGroup) → group_in_range r g ≡ true → test (group_named r g) ≡ has g = λ g ok.
-    ap (λ name. list_any (λ n. bytes_eq n name) (group_named r g).subjects) (sym (name_of_subject r k s at)) ∙ lists_alike r k unique within g ok in
-    let same : position_or_len test groups ≡ position_or_len has r.scheduling.groups =
-    position-map test (group_named r) r.scheduling.groups
-    ∙ index_same (λ g. test (group_named r g)) has (group_in_range r) alike r.scheduling.groups (parts_in_range r h.resolved.in_range).groups in
-    let number : group_at r k ≡ position_or_len has r.scheduling.groups =
-    ap (λ o. unwrap_or o 0) (position_there has r.scheduling.groups (omega (arith, some, many, same))) in
-    position_there test groups some ∙ ap Some (same ∙ sym number)
+    let by_index = group_by_index (policy_of m) h.resolved h.lawful k s at in
+    by_index.0 ∙ by_index.1 ∙ ap Some (sym (ap (λ o. unwrap_or o 0) by_index.1))
 
 -- ---- whom events and interrupts reach
 
@@ -121,7 +93,7 @@ same_event m h (Some e) is =
     let by : IndexedTarget → IndexedEvent = λ t. record { mode = e.mode; target = t } in
     ap (λ t. Some (by t)) (same_target m h e.target e.vector is.0)
 
-pub same_reached : (m : Made) → IsMade m → (o : Option IrqTarget) → IsIrqTarget (length (policy_of m).subjects) o
+pub same_reached : (m : Made) → IsMade m → (o : Option IrqTarget) → IsReached (length (policy_of m).subjects) o
     → option_map irq_target o ≡ option_map (target_index (source_of (policy_of m))) (option_map (irq_named (policy_of m)) o)
 same_reached m h None is = refl
 same_reached m h (Some t) is = ap Some (same_target m h t.subject (Some t.vector) is.0)

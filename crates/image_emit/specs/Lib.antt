@@ -1,6 +1,5 @@
 pub mod Fitting
 pub mod Gathered
 pub mod Made
-pub mod Named
 pub mod Parting
 pub mod Taking

@@ -1,13 +1,13 @@
 -- What the image of a placed policy is made of, and the image that it makes (this project's own format).
-use Rattle.std.specs.Prelude.{◌≡◌, ℕ, ◌==◌, ◌&&◌, true, List, [], ◌∷◌, ◌++◌, length, map, zip, take, replicate, position, slice_index_or, Option, option_and_then, unwrap_or}
+use Rattle.std.specs.Prelude.{◌≡◌, ℕ, ◌==◌, ◌&&◌, true, List, [], ◌∷◌, ◌++◌, length, map, zip, take, position, slice_index_or, Option, option_and_then, unwrap_or}
 use Rattle.std.specs.Str.{bytes_eq}
 use Rattle.std.specs.List.{AllZip, enumerate_from, flat_map, list_all, list_any}
 use Rattle.std.specs.List.Sorted.{IsPermutation}
 use Rattle.ept_emit.specs.Emitted.{eptp_of}
-use Rattle.event_emit.specs.Tables.{AreDevices, AreTables}
+use Rattle.event_emit.specs.Tables.{AreTables}
+use Rattle.image_soundness.specs.TablesOf.{AreDevices}
 use Rattle.event_emit.specs.declared.event_tables.EventTables.{EventTables}
 use Rattle.expand_kernel.specs.granted.Grants.{Grants}
-use Rattle.policy_lawful.specs.ByIndex.{provided_at}
 use Rattle.expand_kernel.specs.Expansion.{IsExpansion}
 use Rattle.expand_kernel.specs.Regions.{kernel_number}
 use Rattle.expand_kernel.specs.declared.kernel.KernelRegion.TheVariants.{IoBitmaps, MsrArea, MsrBitmap, State}
@@ -20,11 +20,10 @@ use Rattle.image_pack.specs.declared.parts.SubjectPart.{SubjectPart}
 use Rattle.image_pack.specs.plan.Plan.{Plan}
 use Rattle.msrbm_emit.specs.Area.{count_of}
 use Rattle.muen_num.specs.Naming.{is_name}
-use Rattle.plan_emit.specs.PlanOf.{IsPlanOf}
+use Rattle.image_soundness.specs.PlanOf.{IsPlanOf}
 use Rattle.policy_lawful.specs.Lawful.{IsLawful}
 use Rattle.policy_lawful.specs.Resolution.{IsResolved, Resolution, source_of}
 use Rattle.policy_lawful.specs.declared.resolved.Subject.{Subject}
-use Rattle.policy_lawful.specs.Contents.{Held, content_bytes}
 use Rattle.region_alloc.specs.Placed.{AreDisjoint, AreInside, IsPlacement, Placement}
 use Rattle.span_emit.specs.SpansOf.{spans_of}
 use Rattle.subject_emit.specs.Mapped.{kernel_first}
@@ -94,13 +93,6 @@ image_of m =
     counted (policy_of m).processor.logical_cpus (choice_of (policy_of m)) m.spans (subject_parts m) m.plan m.devices (map (content_at m) m.spans)
 
 -- ---- what is known of what it is made of
-
--- the bytes of the regions that aren't the kernel's, by number, where files hold this
-abbrev pub thing_bytes : Held → Resolution → List (List ℕ)
-thing_bytes files r =
-    map (λ m. content_bytes files m.size m.content) r.memory
-    ++ map (λ c. replicate c.size 0) r.channels
-    ++ flat_map (λ s. map (λ x. content_bytes files x.size x.content) (provided_at r.components s.component)) r.subjects
 
 -- the regions that aren't the kernel's have as many bytes as their sizes say
 pub record IsFilled (x : Placement) (things : List (List ℕ)) : Type 0 where

@@ -5,7 +5,6 @@ ghost use Rattle.image_emit.specs.Gathered.{AreAllPages, AreParts, IsHeld};
 ghost use Rattle.image_emit.specs.Made.{IsEmitted, IsFilled};
 ghost use Rattle.image_pack.specs.SpanConditions.{HaveDifferentNumbers};
 
-use crate::names::are_named;
 use crate::span_bytes::{contents, region_bytes};
 use crate::subjects::{choice_of, grants_of, subject_parts, subjects_of};
 use event_emit::{devices, tables};
@@ -91,7 +90,6 @@ pub fn emit(alloc: Global, placed: &Placed, things: Seq<Seq<u8>>) -> Result<Part
 {
     let expanded = placed.expanded();
     let policy = policy_of(placed);
-    prove!(are_named(policy));
     let spans = spans(alloc, placed)?;
     let held = held(alloc, placed, things, spans.items())?;
     let subjects = subjects(alloc, placed)?;

@@ -2,7 +2,6 @@
 #![tactic(auto)]
 
 mod image;
-mod names;
 mod span_bytes;
 mod subjects;
 

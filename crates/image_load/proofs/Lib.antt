@@ -1,2 +1,2 @@
+pub use Rattle.image_memory.proofs.Rising
 pub mod Resolved
-pub mod Rising

@@ -13,7 +13,7 @@ use Rattle.image_pack.specs.declared.parts.SpanPart.{SpanPart}
 use Rattle.record_text.specs.Bench.{BenchDevice, bench_device, bench_of}
 use Rattle.record_text.specs.DeviceRecord.{DeviceRecord, NamedInput, port_input, memory_input, irq_input, dma_input}
 use Rattle.record_text.specs.Law.{IsInputOf, IsLowWrite, IsOrderly, IsRecordOf}
-use Rattle.record_text.specs.Resolving.{bytes_in, irq_of, is_in_span, memory_of, order_at, resolved, resolved_at, resolved_input, port_of, raised as record_raised}
+use Rattle.record_text.specs.Resolving.{bytes_in, irq_of, is_in_span, memory_of, order_at, resolved, resolved_at, resolved_input, port_of, raised}
 use Rattle.record_text.specs.Reading.{record_of}
 use Rattle.record_text.specs.Steps.{mapped}
 use Rattle.record_text.specs.declared.devices.RecordDevice.{RecordDevice}
@@ -27,7 +27,7 @@ use Rattle.record_text.specs.declared.record.Input.{Input}
 use Rattle.record_text.specs.declared.record.Input.TheVariants.{Port, Mem, Irq, Idle, Dma}
 use Rattle.record_text.specs.declared.record.Record.{Record}
 use Rattle.image_load.specs.RecordDevices.{HasDevices, IsRecordDevice, named_memory, record_irq}
-use Rattle.image_load.specs.Resolving.{bench_device_of, bytes_into, image_bench, image_record, input_of, irq_input_of, memories_of, memory_input_of, port_input_of, raised, tick_input_of}
+use Rattle.image_load.specs.Resolving.{bench_device_of, bytes_into, image_bench, image_record, input_of, irq_input_of, memories_of, memory_input_of, port_input_of, tick_input_of}
 
 -- ---- lists side by side
 
@@ -90,18 +90,14 @@ memories_same spans memory offset bytes d p h =
     bytes_same offset bytes (find (λ m. bytes_eq m.name memory) p.memories)
     ∙ ap (option_and_then (bytes_into offset bytes)) (sym (find-map (λ m. bytes_eq m.name memory) named_memory p.memories) ∙ ap (find (λ m. bytes_eq m.name memory)) h.memories)
 
-raised_same : (target : Option IrqTarget) → record_raised target ≡ raised target
-raised_same None = refl
-raised_same (Some t) = refl
-
-found_raised : (o : Option IrqPart) → option_map (λ q. record_raised q.target) (option_map record_irq o) ≡ option_map (λ q. raised q.target) o
+found_raised : (o : Option IrqPart) → option_map (λ q. raised q.target) (option_map record_irq o) ≡ option_map (λ q. raised q.target) o
 found_raised None = refl
-found_raised (Some q) = ap (λ r. Some r) (raised_same q.target)
+found_raised (Some q) = refl
 
 irqs_same : (spans : List SpanPart) (irq : List ℕ) (d : DevicePart) (p : RecordDevice) → IsRecordDevice spans d p → irq_of irq p ≡ irq_input_of irq d
 irqs_same spans irq d p h =
-    ap (λ qs. option_map (λ q. record_raised q.target) (find (λ q. bytes_eq q.name irq) qs)) h.irqs
-    ∙ ap (option_map (λ q. record_raised q.target)) (find-map (λ q. bytes_eq q.name irq) record_irq d.irqs)
+    ap (λ qs. option_map (λ q. raised q.target) (find (λ q. bytes_eq q.name irq) qs)) h.irqs
+    ∙ ap (option_map (λ q. raised q.target)) (find-map (λ q. bytes_eq q.name irq) record_irq d.irqs)
     ∙ found_raised (find (λ q. bytes_eq q.name irq) d.irqs)
 
 abbrev device_made : List ℕ → List (ℕ × ℕ) → List (List ℕ × ℕ) → List (List ℕ) → BenchDevice

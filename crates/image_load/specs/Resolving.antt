@@ -12,7 +12,7 @@ use Rattle.image_pack.specs.declared.parts.SpanPart.{SpanPart}
 use Rattle.image_pack.specs.declared.parts.WindowPart.{WindowPart}
 use Rattle.record_text.specs.Bench.{Bench, BenchDevice}
 use Rattle.record_text.specs.DeviceRecord.{DeviceRecord, NamedInput, port_input, memory_input, irq_input, dma_input}
-use Rattle.record_text.specs.Resolving.{order_at}
+use Rattle.record_text.specs.Resolving.{order_at, raised, is_in_span}
 use Rattle.record_text.specs.declared.record.Input.{Input}
 use Rattle.record_text.specs.declared.record.Input.TheVariants.{Port, Mem, Irq, Idle, Dma}
 use Rattle.record_text.specs.declared.record.Record.{Record}
@@ -50,11 +50,8 @@ image_bench i = record { cpus = i.header.cpus; devices = map (bench_device_of i.
 
 -- ---- where an input goes, if what it names is there
 
-abbrev pub is_in_range : ℕ → PortSpan → Bool
-is_in_range port r = nat_le r.start port && nat_le port r.end
-
 abbrev pub port_input_of : ℕ → ℕ → DevicePart → Option Input
-port_input_of port value d = if list_any (is_in_range port) d.ports then Some (Port port value) else None
+port_input_of port value d = if list_any (is_in_span port) d.ports then Some (Port port value) else None
 
 abbrev pub bytes_into : ℕ → List ℕ → NamedMemory → Option Input
 bytes_into offset bytes m = if nat_le (offset + length bytes) m.bytes then Some (Mem (m.address + offset) bytes) else None
@@ -62,10 +59,6 @@ bytes_into offset bytes m = if nat_le (offset + length bytes) m.bytes then Some 
 abbrev pub memory_input_of : List SpanPart → List ℕ → ℕ → List ℕ → DevicePart → Option Input
 memory_input_of spans memory offset bytes d =
     option_and_then (bytes_into offset bytes) (find (λ m. bytes_eq m.name memory) (memories_of spans d))
-
-abbrev pub raised : Option IrqTarget → Input
-raised None = Idle
-raised (Some t) = Irq t.subject t.vector
 
 abbrev pub irq_input_of : List ℕ → DevicePart → Option Input
 irq_input_of irq d = option_map (λ q. raised q.target) (find (λ q. bytes_eq q.name irq) d.irqs)

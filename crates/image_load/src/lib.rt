@@ -2,7 +2,6 @@
 #![tactic(auto)]
 
 mod loading;
-mod memory;
 mod reading;
 mod record_devices;
 mod setup;

@@ -4,8 +4,8 @@ ghost use Rattle.image_load.specs.Loading.{IsLoaded};
 ghost use Rattle.image_pack.specs.Parts.{IsParts};
 ghost use Rattle.phys_mem.specs.Spans.{AreSpans};
 
-use crate::memory::load_spans;
 use crate::setup::setup_of;
+use image_memory::memory_spans;
 use image_pack::{Image, Parts, SpanPart};
 use kernel_core::Setup;
 use muen_num::{NoMemory, Seq};
@@ -48,7 +48,7 @@ pub fn load(alloc: Global, parts: Parts) -> Result<Loaded, NoMemory>
         contents,
     } = image;
     let setup = setup_of(alloc, header.tau0, spans.items(), subjects, plan)?;
-    let memory = load_spans(alloc, spans.items(), contents)?;
+    let memory = memory_spans(alloc, spans.items(), contents)?;
     Ok(Loaded {
         cpus: header.cpus,
         setup,

@@ -2,7 +2,7 @@
 ghost use Rattle.std.specs.Prelude.{◌≡◌, ◌++◌, ◌≤◌, IfOk, OnOk, length, map, option_map, option_to_list};
 ghost use Rattle.std.specs.List.{AllZip, flat_map};
 ghost use Rattle.muen_num.specs.declared.limits.TheConstants.{MOST_DEVICES};
-ghost use Rattle.image_load.specs.Loading.{AreLow, IsLow};
+ghost use Rattle.image_memory.specs.Memory.{AreLow, IsLow};
 ghost use Rattle.image_load.specs.RecordDevices.{HasDevices, IsRecordDevice, named_memory, record_irq};
 ghost use Rattle.image_load.specs.Resolving.{memory_of_span, memory_of_window};
 

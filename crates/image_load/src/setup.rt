@@ -1,7 +1,7 @@
 //! What a kernel is told of an image's system.
 ghost use Rattle.std.specs.Prelude.{◌≡◌, IfOk, map, option_map};
-ghost use Rattle.image_load.specs.Loaded.{control_of, page_of_span};
-ghost use Rattle.image_load.specs.Loading.{AreLow};
+ghost use Rattle.image_load.specs.Loaded.{control_of};
+ghost use Rattle.image_memory.specs.Memory.{page_of_span, AreLow};
 
 use crate::spans::span_numbered;
 use image_pack::{Plan, SpanPart, SubjectPart};

@@ -1,7 +1,7 @@
 //! Spans by their numbers.
 ghost use Rattle.std.specs.Prelude.{◌≡◌, ◌==◌, IfSome, option_map};
 ghost use Rattle.std.specs.List.{find};
-ghost use Rattle.image_load.specs.Loading.{AreLow, IsLow};
+ghost use Rattle.image_memory.specs.Memory.{AreLow, IsLow};
 
 use image_pack::SpanPart;
 

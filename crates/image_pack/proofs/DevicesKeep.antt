@@ -23,12 +23,9 @@ use Rattle.muen_num.specs.declared.devices.IrqTarget.{IrqTarget}
 use Rattle.muen_num.specs.declared.devices.PortSpan.{PortSpan}
 use Rattle.image_pack.specs.declared.parts.WindowPart.{WindowPart}
 use Rattle.image_pack.proofs.SubjectsKeep.{each_kept}
+use Rattle.image_pack.proofs.DevicesFit.{AreNew}
 
 -- ---- names that differ
-
--- none of these names is listed
-abbrev pub AreNew : List (List ℕ) → List (List ℕ) → Type 0
-AreNew names texts = All (λ t. is_listed names t ≡ false) texts
 
 -- names that differ, and from those listed
 pub record Differ (names texts : List (List ℕ)) : Type 0 where

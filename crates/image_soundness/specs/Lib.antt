@@ -5,8 +5,12 @@ pub use Rattle.phys_mem.specs.Spans
 pub use Rattle.phys_mem.specs.declared.spans
 pub use Rattle.state_page.specs.StatePage
 pub use Rattle.state_page.specs.States
+pub use Rattle.image_memory.specs.Memory
 pub mod Bench
-pub mod Memory
 pub mod Named
+pub mod Paths
+pub mod PlanOf
 pub mod Sound
+pub mod TablesOf
 pub mod Targets
+pub mod ThingBytes

@@ -1,7 +1,7 @@
 -- What numbers in an image stand for, by name.
 use Rattle.std.specs.Prelude.{ℕ, ◌*◌, List, [], map, slice_index_or, Option, Some, option_map, option_and_then}
 use Rattle.std.specs.List.{filter_map}
-use Rattle.image_soundness.specs.Memory.{span_at}
+use Rattle.image_memory.specs.Memory.{span_at}
 use Rattle.image_pack.specs.Codes.{part_name}
 use Rattle.image_pack.specs.declared.parts.DevicePart.{DevicePart}
 use Rattle.image_pack.specs.declared.parts.EventPart.{EventPart}

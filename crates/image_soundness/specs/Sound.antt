@@ -4,7 +4,7 @@ use Rattle.std.specs.Option.{option_map_or}
 use Rattle.std.specs.List.{All, AllPairs, AllZip, find, list_any}
 use Rattle.std.specs.List.Sorted.{IsPermutation}
 use Rattle.expand_grants.specs.Resources.{are_granted, is_granted, msrs_of, ports_of}
-use Rattle.image_soundness.specs.Memory.{Span, bytes_at, bytes_of, by_number, memory_of, page_at, address_at}
+use Rattle.image_memory.specs.Memory.{Span, bytes_at, bytes_of, by_number, memory_of, page_at, address_at}
 use Rattle.image_soundness.specs.Named.{bench_device, tag_at}
 use Rattle.image_soundness.specs.Targets.{entry_event, event_index, irq_target, target_index}
 use Rattle.image_pack.specs.Codes.{part_code}
@@ -25,7 +25,7 @@ use Rattle.muen_num.specs.Range.{numbers_below}
 use Rattle.muen_num.specs.declared.access.AccessKind.{AccessKind}
 use Rattle.muen_num.specs.declared.limits.TheConstants.{GUEST_END, MOST_CALLS, PAGE}
 use Rattle.muen_num.specs.declared.tag.TagPart.TheVariants.{Ept}
-use Rattle.plan_emit.specs.PlanOf.{IsPlanOf}
+use Rattle.image_soundness.specs.PlanOf.{IsPlanOf}
 use Rattle.policy_lawful.specs.Lawful.{IsLawful}
 use Rattle.policy_lawful.specs.Contents.{Held, initial_bytes}
 use Rattle.policy_lawful.specs.Events.{event_of, irq_of}

@@ -1,7 +1,3 @@
-//! What an image means: the memory that it gives, and when it is sound for a policy. Definitions
-//! alone; see specs/.
+//! What an image means: what regions hold, the plan, events and devices that a policy asks for, and when an
+//! image is sound for a policy. Definitions alone; see specs/.
 #![tactic(auto)]
-
-mod laws;
-
-pub use laws::spans_are_in_memory;

@@ -12,8 +12,8 @@ use Rattle.image_pack.specs.declared.parts.SpanKind.{SpanKind}
 use Rattle.image_pack.specs.declared.parts.SpanKind.TheVariants.{Own, Channel as ChannelSpan, Provided as ProvidedSpan, Device as DeviceSpan, Kernel}
 use Rattle.image_pack.specs.declared.parts.SpanPart.{SpanPart}
 use Rattle.image_pack.specs.declared.parts.SubjectPart.{SubjectPart}
-use Rattle.image_checks.specs.Memory.{Span, address_at, by_number, span_at}
-use Rattle.image_checks.specs.Sound.{AreContents, IsSpanOf, address_of, is_kernel, kind_of, thing_spans}
+use Rattle.image_memory.specs.Memory.{Span, address_at, by_number, span_at}
+use Rattle.image_soundness.specs.Sound.{AreContents, IsSpanOf, address_of, is_kernel, kind_of, thing_spans}
 use Rattle.image_verify.specs.Windows.{is_named, is_span_of, shown_address, shown_span, spans_by_number, state_span}
 use Rattle.muen_num.proofs.Lists.{find-map, map-map}
 use Rattle.muen_num.proofs.Options.{from_some}
@@ -32,9 +32,9 @@ use Rattle.policy_lawful.specs.declared.view.View.{View}
 use Rattle.policy_lawful.specs.source.Device.{Device as SourceDevice}
 use Rattle.policy_lawful.specs.source.Source.{Source}
 use Rattle.policy_lawful.specs.source.Subject.{Subject as NamedSubject}
-use Rattle.proof_build.proofs.FirstIndexes.{IsFirstAt, beside_first, first_mapped, first_named}
-use Rattle.proof_build.proofs.NamedViews.{shown_name, view_called}
-use Rattle.subject_model.proofs.NoPages.{pages_apart}
+use Rattle.policy_lawful.proofs.FirstIndexes.{IsFirstAt, beside_first, first_mapped, first_named}
+use Rattle.image_soundness.proofs.NamedViews.{shown_name, view_called}
+use Rattle.policy_lawful.proofs.NoPages.{pages_apart}
 
 -- ---- by kind and name
 

@@ -8,7 +8,7 @@ use Rattle.expand_kernel.specs.granted.Grants.{Grants}
 use Rattle.expand_kernel.specs.Expansion.{Expansion}
 use Rattle.image_pack.specs.declared.parts.Image.{Image}
 use Rattle.image_pack.specs.declared.parts.SubjectPart.{SubjectPart}
-use Rattle.image_checks.specs.Sound.{ForEachSubject}
+use Rattle.image_soundness.specs.Sound.{ForEachSubject}
 use Rattle.image_verify.proofs.Rooms.{named_at, subject_of}
 use Rattle.image_verify.specs.Filled.{IsAt, IsFilled}
 use Rattle.image_verify.specs.Windows.{WithPart}

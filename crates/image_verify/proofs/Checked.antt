@@ -8,7 +8,8 @@ use Rattle.std.proofs.lemmas.List.Elements.{All-cons, All-map, All-nil}
 use Rattle.std.proofs.lemmas.Option.{get_or_from_slice_get, slice_get-map, slice_get_within}
 use Rattle.ept_check.specs.Known.{Reads}
 use Rattle.ept_check.specs.Sound.{AreSound, AreWindows, CanBeChecked, HasOnePathPerTable}
-use Rattle.ept_check.specs.Tables.{Tables, addr_of, addresses, is_among, look_at, subject_of, table_read, tables_in, walk_at}
+use Rattle.ept_check.specs.Tables.{Tables, addr_of, addresses, look_at, subject_of, table_read, tables_in, walk_at}
+use Rattle.muen_num.specs.Numbers.{is_among}
 use Rattle.ept_check.specs.declared.types.SubjectTables.{SubjectTables}
 use Rattle.ept_check.specs.Emitted.{translation}
 use Rattle.ept_check.specs.Reads.{Reads as ReadsTable}
@@ -17,8 +18,8 @@ use Rattle.expand_kernel.specs.Expansion.{Expansion}
 use Rattle.image_pack.proofs.PartsKeep.{parts_keep}
 use Rattle.image_pack.specs.declared.parts.Image.{Image}
 use Rattle.image_pack.specs.declared.parts.SubjectPart.{SubjectPart}
-use Rattle.image_checks.specs.Memory.{memory_of}
-use Rattle.image_checks.specs.Sound.{ForEachSubject, HasWalks, ReadsTables, address_of, is_in_tables, led}
+use Rattle.image_memory.specs.Memory.{memory_of}
+use Rattle.image_soundness.specs.Sound.{ForEachSubject, HasWalks, ReadsTables, address_of, is_in_tables, led}
 use Rattle.image_verify.proofs.AtIndexes.{at_pair, each_pair, granted_of, is_at, mapped_at, row_at, rows}
 use Rattle.image_verify.proofs.Leads.{are_windows, leads}
 use Rattle.image_verify.proofs.TablePages.{are_tables, entry_among}
@@ -39,7 +40,7 @@ use Rattle.policy_lawful.specs.Resolution.{Resolution, source_of, subject_named}
 use Rattle.policy_lawful.specs.Windows.{access_of, windows_of}
 use Rattle.policy_lawful.specs.declared.resolved.Subject.{Subject}
 use Rattle.policy_lawful.specs.source.Source.{Source}
-use Rattle.proof_build.specs.Built.{HasOnePathPerTable as HasOnePath, IsOnePath as IsSamePath}
+use Rattle.image_soundness.specs.Paths.{HasOnePathPerTable as HasOnePath, IsOnePath as IsSamePath}
 
 -- ---- entries lie at multiples of 8
 

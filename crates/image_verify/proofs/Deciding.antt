@@ -14,8 +14,8 @@ use Rattle.image_checks.specs.OwnPages.{SharesWithNone}
 use Rattle.image_checks.specs.PlanFault.{IsPlanFault}
 use Rattle.image_checks.specs.declared.plan_owner.PlanOwner.{PlanOwner}
 use Rattle.image_pack.specs.declared.parts.Image.{Image}
-use Rattle.image_checks.specs.Memory.{memory_of}
-use Rattle.image_checks.specs.Sound.{ForEachSubject, HasArea, HasBitmaps, HasPlanAndEvents, IsFresh}
+use Rattle.image_memory.specs.Memory.{memory_of}
+use Rattle.image_soundness.specs.Sound.{ForEachSubject, HasArea, HasBitmaps, HasPlanAndEvents, IsFresh}
 use Rattle.image_verify.specs.TablePages.{pages_of_all}
 use Rattle.image_verify.specs.Verdict.{FirstOf, common, in_order, plan_owner, tables_of}
 use Rattle.image_verify.specs.Windows.{tables_of_subject, tables_of_subjects}

@@ -10,15 +10,15 @@ use Rattle.ept_check.specs.Sound.{AreWindows, HasPages, IsWhole}
 use Rattle.ept_check.specs.Emitted.{holds as is_in, translation, translation_in, window_at}
 use Rattle.ept_check.specs.window.GuestRange.{GuestRange}
 use Rattle.ept_check.specs.window.Window.{Window as EptWindow}
-use Rattle.expand_kernel.proofs.Ordered.{in_order_permutes}
+use Rattle.expand_kernel.proofs.Ordered.{in_order_permutes, All-in_order}
 use Rattle.expand_kernel.specs.Grants.{AreGrantsOf, is_lower}
 use Rattle.expand_kernel.specs.granted.Grants.{Grants}
 use Rattle.expand_kernel.proofs.Numbering.{can_map_granted}
 use Rattle.expand_kernel.specs.ByIndex.{CanMap, view_range}
 use Rattle.expand_kernel.specs.Expansion.{Expansion}
 use Rattle.image_pack.specs.declared.parts.Image.{Image}
-use Rattle.image_checks.specs.Memory.{memory_of}
-use Rattle.image_checks.specs.Sound.{address_of, led}
+use Rattle.image_memory.specs.Memory.{memory_of}
+use Rattle.image_soundness.specs.Sound.{address_of, led}
 use Rattle.image_verify.proofs.Addresses.{address_shown}
 use Rattle.image_verify.proofs.Rooms.{Fits, as_many, keeps, views_fit}
 use Rattle.image_verify.specs.Filled.{IsFilled}
@@ -38,15 +38,10 @@ use Rattle.policy_lawful.specs.declared.resolved.Subject.{Subject}
 use Rattle.policy_lawful.specs.declared.view.View.{View}
 use Rattle.policy_lawful.specs.Rights.{allows}
 use Rattle.policy_lawful.specs.source.Source.{Source}
-use Rattle.proof_build.proofs.WalksByWindow.{ArePassedOnce, found_contained, found_permuted}
-use Rattle.proof_build.proofs.EachInTurn.{All-in_order}
-use Rattle.proof_build.proofs.Walks.{by_rights}
+use Rattle.muen_num.proofs.FoundOnce.{ArePassedOnce, found_contained, found_permuted}
+use Rattle.image_soundness.proofs.Led.{by_rights, on_view}
 
 -- ---- pairs of a list that is mapped
-
--- the view holds the address
-abbrev pub on_view : ℕ → View → Bool
-on_view addr v = nat_le v.guest addr && nat_lt addr (v.guest + v.size)
 
 abbrev ends_by : GuestRange → GuestRange → Type 0
 ends_by a b = a.guest + a.size ≤ b.guest

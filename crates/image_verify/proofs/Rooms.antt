@@ -15,8 +15,8 @@ use Rattle.image_pack.specs.ImageConditions.{KeepsConditions}
 use Rattle.image_pack.specs.SpanConditions.{IsSpan}
 use Rattle.image_pack.specs.declared.parts.Image.{Image}
 use Rattle.image_pack.specs.declared.parts.SpanPart.{SpanPart}
-use Rattle.image_checks.specs.Memory.{Span, bytes_of, by_number, memory_of, span_at}
-use Rattle.image_checks.specs.Sound.{IsSpanOf, address_of, is_kernel, thing_spans}
+use Rattle.image_memory.specs.Memory.{Span, bytes_of, by_number, memory_of, span_at}
+use Rattle.image_soundness.specs.Sound.{IsSpanOf, address_of, is_kernel, thing_spans}
 use Rattle.image_verify.proofs.Addresses.{HasSpan, address_shown, passes_as, state_is, there_too, thing_beside}
 use Rattle.image_verify.proofs.InSpans.{in_span_there}
 use Rattle.image_verify.specs.Filled.{IsFilled}
@@ -33,7 +33,8 @@ use Rattle.policy_lawful.proofs.SourceElements.{parts_in_range}
 use Rattle.policy_lawful.proofs.WindowsByIndex.{windows_by_index}
 use Rattle.policy_lawful.specs.Contents.{Held, initial_bytes}
 use Rattle.policy_lawful.specs.Resolution.{Resolution, source_of, subject_in_range, subject_named}
-use Rattle.policy_lawful.specs.Rules.{is_guest, is_page_aligned, is_page_size}
+use Rattle.policy_lawful.specs.Rules.{is_guest, is_page_size}
+use Rattle.muen_num.specs.Numbers.{is_page_aligned}
 use Rattle.policy_lawful.specs.Thing.{Thing, channel, device_memory, provided, region, same_thing, state, things_of}
 use Rattle.policy_lawful.specs.Views.{thing_shown, view_window, views_of}
 use Rattle.policy_lawful.specs.Windows.{Window, windows_of}
@@ -41,12 +42,12 @@ use Rattle.policy_lawful.specs.declared.resolved.Subject.{Subject}
 use Rattle.policy_lawful.specs.declared.view.View.{View}
 use Rattle.policy_lawful.specs.source.Source.{Source}
 use Rattle.policy_lawful.specs.source.Subject.{Subject as NamedSubject}
-use Rattle.proof_start.proofs.ListFacts.{any_passing, filtered_at, found_at, found_some, kept_at}
-use Rattle.proof_start.proofs.MemoryFacts.{span_by}
-use Rattle.proof_start.proofs.SubjectFacts.{subject_spans}
-use Rattle.proof_start.proofs.WindowFacts.{IsOn, IsOnState, IsOnThing, each_window}
-use Rattle.proof_start.proofs.KeyLaws.{same_things}
-use Rattle.subject_model.proofs.NoPages.{pages_apart}
+use Rattle.muen_num.proofs.Indexed.{any_passing, filtered_at, found_at, found_some, kept_at}
+use Rattle.image_memory.proofs.SpanPages.{span_by}
+use Rattle.image_memory.proofs.SubjectSpans.{subject_spans}
+use Rattle.image_soundness.proofs.WindowsOn.{IsOn, IsOnState, IsOnThing, each_window}
+use Rattle.policy_lawful.proofs.SameThings.{same_things}
+use Rattle.policy_lawful.proofs.NoPages.{pages_apart}
 
 -- ---- numbers
 

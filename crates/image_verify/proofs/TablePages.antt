@@ -10,7 +10,7 @@ use Rattle.std.proofs.lemmas.List.Folds.{list_any-append}
 use Rattle.std.proofs.lemmas.List.Sums.{sum_by-cons}
 use Rattle.std.proofs.Math.Bool.{or-false}
 use Rattle.ept_check.specs.Sound.{AreTables}
-use Rattle.ept_check.specs.Tables.{is_among}
+use Rattle.muen_num.specs.Numbers.{is_among}
 use Rattle.image_pack.proofs.PartsKeep.{parts_keep}
 use Rattle.image_pack.specs.Codes.{is_device, part_code}
 use Rattle.image_pack.specs.Parts.{IsParts}
@@ -19,8 +19,8 @@ use Rattle.image_pack.specs.declared.parts.Image.{Image}
 use Rattle.image_pack.specs.declared.parts.SpanKind.{SpanKind}
 use Rattle.image_pack.specs.declared.parts.SpanKind.TheVariants.{Own, Channel, Provided, Kernel, Device}
 use Rattle.image_pack.specs.declared.parts.SpanPart.{SpanPart}
-use Rattle.image_checks.specs.Memory.{memory_of}
-use Rattle.image_checks.specs.Sound.{is_in_tables, is_kernel, is_tables}
+use Rattle.image_memory.specs.Memory.{memory_of}
+use Rattle.image_soundness.specs.Sound.{is_in_tables, is_kernel, is_tables}
 use Rattle.image_verify.proofs.InSpans.{in_span_there}
 use Rattle.image_verify.specs.TablePages.{pages_of_all, pages_of_tables}
 use Rattle.muen_num.specs.Range.{numbers_below}
@@ -28,7 +28,7 @@ use Rattle.muen_num.specs.declared.tag.TagPart.TheVariants.{Ept}
 use Rattle.muen_num.proofs.NumbersBelow.{length_numbers}
 use Rattle.muen_num.proofs.Lists.{all_at}
 use Rattle.phys_mem.specs.Frames.{IsRising}
-use Rattle.proof_start.proofs.ListFacts.{any_passing}
+use Rattle.muen_num.proofs.Indexed.{any_passing}
 
 -- ---- numbers in a row
 

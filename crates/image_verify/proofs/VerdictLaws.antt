@@ -19,8 +19,8 @@ use Rattle.image_checks.specs.OwnPages.{SharesWithNone}
 use Rattle.image_pack.specs.Parts.{IsParts}
 use Rattle.image_pack.specs.declared.parts.Image.{Image}
 use Rattle.image_pack.specs.declared.parts.SubjectPart.{SubjectPart}
-use Rattle.image_checks.specs.Memory.{Span, memory_of}
-use Rattle.image_checks.specs.Sound.{AreContents, ForEachSubject, HasArea, HasBitmaps, HasPlanAndEvents, HaveOwnPages, IsFresh, IsSound, IsSpanOf, thing_spans}
+use Rattle.image_memory.specs.Memory.{Span, memory_of}
+use Rattle.image_soundness.specs.Sound.{AreContents, ForEachSubject, HasArea, HasBitmaps, HasPlanAndEvents, HaveOwnPages, IsFresh, IsSound, IsSpanOf, thing_spans}
 use Rattle.image_verify.proofs.Checked.{stand_for}
 use Rattle.image_verify.specs.Filled.{IsFilled}
 use Rattle.image_verify.specs.Stand.{StandForTables}
@@ -41,7 +41,7 @@ use Rattle.policy_lawful.specs.Resolution.{Resolution, source_of}
 use Rattle.policy_lawful.specs.Thing.{Thing, thing_tag, things_of}
 use Rattle.policy_lawful.specs.source.Source.{Source}
 use Rattle.policy_lawful.specs.source.Subject.{Subject}
-use Rattle.proof_build.specs.Built.{HasOnePathPerTable}
+use Rattle.image_soundness.specs.Paths.{HasOnePathPerTable}
 
 -- ---- contents
 

@@ -5,7 +5,7 @@ use Rattle.expand_kernel.specs.Expansion.{Expansion, IsExpanded}
 use Rattle.image_pack.specs.Parts.{IsParts}
 use Rattle.image_pack.specs.declared.parts.Image.{Image}
 use Rattle.image_pack.specs.declared.parts.SubjectPart.{SubjectPart}
-use Rattle.image_checks.specs.Sound.{AreContents}
+use Rattle.image_soundness.specs.Sound.{AreContents}
 use Rattle.policy_lawful.specs.Contents.{Held}
 use Rattle.policy_lawful.specs.Resolution.{source_of}
 use Rattle.policy_lawful.specs.declared.resolved.Subject.{Subject}

@@ -1,5 +1,3 @@
-pub use Rattle.image_checks.specs.Made
-pub use Rattle.proof_build.specs.Built
 pub mod FaultText
 pub mod Filled
 pub mod Stand

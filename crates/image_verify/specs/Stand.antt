@@ -4,10 +4,10 @@ use Rattle.ept_check.specs.Sound.{AreSound, CanBeChecked, HasOnePathPerTable}
 use Rattle.ept_check.specs.Tables.{tables_in}
 use Rattle.ept_check.specs.declared.types.SubjectTables.{SubjectTables}
 use Rattle.image_pack.specs.declared.parts.Image.{Image}
-use Rattle.image_checks.specs.Memory.{memory_of}
-use Rattle.image_checks.specs.Sound.{ForEachSubject, HasWalks, ReadsTables}
+use Rattle.image_memory.specs.Memory.{memory_of}
+use Rattle.image_soundness.specs.Sound.{ForEachSubject, HasWalks, ReadsTables}
 use Rattle.policy_lawful.specs.source.Source.{Source}
-use Rattle.proof_build.specs.Built.{HasOnePathPerTable as HasOnePath}
+use Rattle.image_soundness.specs.Paths.{HasOnePathPerTable as HasOnePath}
 use Rattle.expand_kernel.specs.Expansion.{Expansion}
 use Rattle.policy_lawful.specs.Contents.{Held}
 use Rattle.policy_lawful.specs.Resolution.{source_of}

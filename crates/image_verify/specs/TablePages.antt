@@ -2,7 +2,7 @@
 use Rattle.std.specs.Prelude.{ℕ, ◌+◌, ◌/◌, List, [], map, if◌then◌else◌}
 use Rattle.std.specs.List.{flat_map}
 use Rattle.image_pack.specs.declared.parts.SpanPart.{SpanPart}
-use Rattle.image_checks.specs.Sound.{is_tables}
+use Rattle.image_soundness.specs.Sound.{is_tables}
 use Rattle.muen_num.specs.Range.{numbers_below}
 
 abbrev pub pages_of_span : SpanPart → List ℕ

@@ -13,11 +13,11 @@ use Rattle.image_checks.specs.OwnPages.{SharesWithNone}
 use Rattle.image_checks.specs.PlanFault.{IsPlanFault}
 use Rattle.image_checks.specs.declared.plan_owner.PlanOwner.{PlanOwner}
 use Rattle.image_checks.specs.declared.plan_owner.PlanOwner.TheVariants.{Plan as PlanItself, Subject as OfSubject, Device as OfDevice}
-use Rattle.image_checks.specs.Made.{thing_bytes}
+use Rattle.image_soundness.specs.ThingBytes.{thing_bytes}
+use Rattle.image_pack.specs.Parts.{IsParts}
 use Rattle.image_pack.specs.declared.parts.Image.{Image}
-use Rattle.image_checks.specs.Memory.{memory_of}
-use Rattle.image_checks.specs.Sound.{AreContents, ForEachSubject, HasArea, HasBitmaps, HasPlanAndEvents, HaveOwnPages, IsFresh}
-use Rattle.image_verify.specs.Filled.{IsFilled}
+use Rattle.image_memory.specs.Memory.{memory_of}
+use Rattle.image_soundness.specs.Sound.{AreContents, ForEachSubject, HasArea, HasBitmaps, HasPlanAndEvents, HaveOwnPages, IsFresh}
 use Rattle.image_verify.specs.TablePages.{pages_of_all}
 use Rattle.image_verify.specs.Windows.{tables_of_subjects}
 use Rattle.image_verify.specs.declared.fault.Condition.{Condition}
@@ -154,7 +154,9 @@ pub record HasContents (p : Source) (i : Image) : Type 0 where
   pub files : Held
   pub contents : AreContents p files i
 
--- .. and as many subjects
+-- .. and as many subjects, and keeps the conditions of its format
 pub record IsReadyFor (x : Expansion) (i : Image) : Type 0 where
   pub files : Held
-  pub filled : IsFilled x files i
+  pub parts : IsParts i
+  pub contents : AreContents (source_of x.lawful) files i
+  pub many : length i.subjects ≡ length (source_of x.lawful).subjects

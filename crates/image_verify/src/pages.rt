@@ -1,9 +1,9 @@
 //! The pages of the spans that have tables.
 ghost use Rattle.std.specs.Prelude.{◌≡◌, ℕ, ◌/◌, ◌%◌, ◌++◌, IfOk, OnOk};
 ghost use Rattle.ept_check.specs.Sound.{AreTables};
-ghost use Rattle.ept_check.specs.Tables.{is_among};
-ghost use Rattle.image_checks.specs.Memory.{memory_of};
-ghost use Rattle.image_checks.specs.Sound.{is_in_tables, is_tables};
+ghost use Rattle.muen_num.specs.Numbers.{is_among};
+ghost use Rattle.image_memory.specs.Memory.{memory_of};
+ghost use Rattle.image_soundness.specs.Sound.{is_in_tables, is_tables};
 ghost use Rattle.image_verify.specs.TablePages.{pages_of_all, pages_of_span};
 
 use image_pack::{Parts, SpanKind, SpanPart};

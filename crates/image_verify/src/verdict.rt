@@ -1,20 +1,18 @@
 //! The verdict on an image.
-ghost use Rattle.std.specs.Prelude.{◌≡◌, ◌<◌, ◌⊎◌, Option, None, Some, true, length, IfOk};
+ghost use Rattle.std.specs.Prelude.{◌≡◌, ◌<◌, ◌⊎◌, Option, None, Some, length, IfOk};
 ghost use Rattle.expand_kernel.specs.Expansion.{Expansion, IsExpanded};
 ghost use Rattle.image_checks.specs.PlanFault.{IsPlanFault};
-ghost use Rattle.image_checks.specs.Made.{thing_bytes};
-ghost use Rattle.image_checks.specs.Memory.{memory_of};
+ghost use Rattle.image_soundness.specs.ThingBytes.{thing_bytes};
 ghost use Rattle.image_pack.specs.Parts.{IsParts};
 ghost use Rattle.image_pack.specs.declared.parts.Image.{Image};
-ghost use Rattle.image_checks.specs.Sound.{IsSound};
+ghost use Rattle.image_soundness.specs.Sound.{IsSound};
 ghost use Rattle.image_verify.specs.Verdict.{AreOfFiles, FirstOf, IsReadyFor, IsTableFault, IsTwice, IsVerdict, device_owner, in_order, named, plan_owner, subject_name, subject_owner};
 ghost use Rattle.image_verify.specs.declared.fault.Fault.{Fault};
 ghost use Rattle.image_verify.specs.declared.fault.Fault.TheVariants.{Fails};
 ghost use Rattle.image_verify.specs.declared.fault.Owner.TheVariants.{Named};
-ghost use Rattle.phys_mem.specs.Found.{frames_kept};
 ghost use Rattle.policy_lawful.specs.Contents.{Held};
 ghost use Rattle.policy_lawful.specs.Resolution.{source_of};
-ghost use Rattle.proof_build.specs.Built.{HasOnePathPerTable};
+ghost use Rattle.image_soundness.specs.Paths.{HasOnePathPerTable};
 
 use crate::fault::{Condition, Fault, Owner};
 use crate::pages::table_pages;
@@ -25,10 +23,9 @@ use image_checks::{
     PlanOwner, contents_fault, first_by_area, first_by_bitmaps, first_by_own_pages, first_by_state,
     plan_fault,
 };
-use image_load::load;
+use image_memory::memory_of;
 use image_pack::{Image, Parts};
 use muen_num::{Name, NoMemory, Seq};
-use phys_mem::FrameMem;
 use policy_lawful::Resolved;
 use std::alloc::Global;
 
@@ -36,14 +33,6 @@ fn policy_of(expanded: &Expanded) -> &Resolved
     ensures { result.now ≡ expanded.now.lawful }
 {
     expanded.lawful().resolved()
-}
-
-// Whether all stands that follows from a policy: it does, since its type says so.
-fn is_expanded(expanded: &Expanded) -> bool
-    ensures is { IsExpanded expanded.now }
-    ensures holds { result ≡ true }
-{
-    expanded.regions().len() <= usize::MAX
 }
 
 // The name of the subject at an index.
@@ -132,14 +121,6 @@ fn of_tables(policy: &Resolved, fault: TableFault) -> Fault
     }
 }
 
-// The memory of an image at the start.
-fn memory_of(alloc: Global, image: Parts) -> Result<FrameMem, NoMemory>
-    ensures { IfOk result (λ m. frames_kept m ≡ memory_of image) }
-{
-    let loaded = load(alloc, image)?;
-    FrameMem::start(alloc, loaded.memory)
-}
-
 // The first fault of the tables of an image that has the contents of the policy and its subjects.
 fn tables_fault(alloc: Global, expanded: &Expanded, image: Parts) -> Result<Option<Fault>, NoMemory>
     requires { IsReadyFor expanded.now image }
@@ -184,7 +165,6 @@ pub fn verify(
     if let Some(fault) = kept_fault(alloc, expanded, &image)? {
         return Ok(Some(fault));
     }
-    prove!(is_expanded(expanded));
     tables_fault(alloc, expanded, image)
 }
 

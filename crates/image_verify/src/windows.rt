@@ -1,6 +1,7 @@
 //! Each subject's windows, where an image has what they show.
 ghost use Rattle.std.specs.Prelude.{◌≡◌, ◌==◌, ◌++◌, [], map, IfOk, OnOk, option_map};
 ghost use Rattle.std.specs.List.{cons_option, find};
+ghost use Rattle.expand_kernel.specs.Expansion.{IsExpanded};
 ghost use Rattle.image_verify.specs.Stand.{StandWhereFilled};
 ghost use Rattle.image_verify.specs.Windows.{is_span_of, shown_span, spans_by_number, state_span, tables_of_subjects, window_on};
 ghost use Rattle.policy_lawful.specs.Thing.{region, channel, provided, device_memory};
@@ -208,6 +209,8 @@ pub fn subject_tables(
     ensures tables { IfOk result (λ v. v.items ≡ tables_of_subjects expanded.now image.now) }
     // over an image that has the contents of the policy they stand for the walks that it needs
     ensures stand { IfOk result (λ v. StandWhereFilled expanded.now image.now v.items) }
+    // all stands that follows from the policy, since its type says so
+    ensures expanded { IsExpanded expanded.now }
 {
     let policy = expanded.lawful().resolved();
     let subjects = policy.subjects();

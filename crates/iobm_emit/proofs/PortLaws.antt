@@ -9,7 +9,8 @@ use Rattle.muen_num.proofs.NumbersBelow.{all_or_one}
 use Rattle.machine_layout.specs.Exits.{is_set, port_is_set, port_exits}
 use Rattle.machine_layout.specs.Bitmaps.{is_between}
 use Rattle.policy_types.specs.declared.resources.PortRange.{PortRange}
-use Rattle.iobm_emit.specs.Ports.{has_port, is_granted, is_granted_access}
+use Rattle.iobm_emit.specs.Ports.{is_granted, is_granted_access}
+use Rattle.policy_types.specs.PortRanges.{has_port}
 
 -- the bits of a range
 range_bits : (r : PortRange) (base bit : ℕ) → bit < 0x8000 → is_between (min (r.start - base) 0x8000) (min (r.end + 1 - base) 0x8000) bit ≡ has_port r (base + bit)

@@ -4,10 +4,7 @@ use Rattle.std.specs.List.{list_any, list_all}
 use Rattle.muen_num.specs.Range.{numbers_below}
 use Rattle.muen_num.specs.declared.limits.TheConstants.{LAST_PORT}
 use Rattle.policy_types.specs.declared.resources.PortRange.{PortRange}
-
--- the range has the port
-abbrev pub has_port : PortRange → ℕ → Bool
-has_port r port = nat_le r.start port && nat_le port r.end
+use Rattle.policy_types.specs.PortRanges.{has_port}
 
 -- one of the ranges has it
 unfoldable pub is_granted : List PortRange → ℕ → Bool

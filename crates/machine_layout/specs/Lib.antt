@@ -1,8 +1,9 @@
-pub mod Exits
-pub mod Pending
-pub mod Memory
-pub mod Walks
-pub mod Same
-pub mod Laws
 pub mod Bitmaps
+pub mod Exits
+pub mod Laws
+pub mod Memory
 pub mod PageFields
+pub mod Pending
+pub mod Reads
+pub mod Same
+pub mod Walks

@@ -13,10 +13,6 @@ use Rattle.machine_layout.specs.declared.walk.Walk.TheVariants.{At, Violation, M
 abbrev pub bits_of : ℕ → ℕ → ℕ → ℕ
 bits_of word lo hi = word / 2 ^ lo % 2 ^ (hi + 1 - lo)
 
--- the word with these bits set to the number v, and the others as they are
-abbrev pub with_bits_of : ℕ → ℕ → ℕ → ℕ → ℕ
-with_bits_of word lo hi v = word / 2 ^ (hi + 1) * 2 ^ (hi + 1) + (v * 2 ^ lo + word % 2 ^ lo)
-
 -- ---- entries. A level is that of a table: 3 of the PML4 table, 2 of a page directory pointer table, 1 of a page directory,
 -- 0 of a page table
 

@@ -13,7 +13,7 @@ mod msr_area;
 mod page_fields;
 mod walk;
 
-pub use bit_fields::{bits, with_bits};
+pub use bit_fields::bits;
 pub use bitmaps::{clear_bits, set_all};
 pub use exits::{BITMAP_PORTS, msr_bit, msr_exits, port_exits};
 pub use laws::{

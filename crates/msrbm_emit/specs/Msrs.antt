@@ -1,6 +1,5 @@
--- The MSRs that are granted.
-use Rattle.std.specs.Prelude.{ℕ, ◌&&◌, ◌||◌, Bool, nat_le, List, if◌then◌else◌}
-use Rattle.std.specs.List.{list_any}
+-- The MSRs that can be granted.
+use Rattle.std.specs.Prelude.{◌&&◌, ◌||◌, Bool, nat_le}
 use Rattle.muen_num.specs.declared.limits.TheConstants.{LOW_MSR_LAST, HIGH_MSR_FIRST, HIGH_MSR_LAST}
 use Rattle.policy_types.specs.declared.resources.MsrGrant.{MsrGrant}
 
@@ -8,15 +7,3 @@ use Rattle.policy_types.specs.declared.resources.MsrGrant.{MsrGrant}
 abbrev pub is_covered : MsrGrant → Bool
 is_covered m =
     nat_le m.start m.end && (nat_le m.end LOW_MSR_LAST || (nat_le HIGH_MSR_FIRST m.start && nat_le m.end HIGH_MSR_LAST))
-
--- the grant has the MSR
-abbrev pub has_msr : MsrGrant → ℕ → Bool
-has_msr m index = nat_le m.start index && nat_le index m.end
-
--- it allows writes, or reads
-abbrev pub allows : MsrGrant → Bool → Bool
-allows m write = if write then m.write else m.read
-
--- one of the grants has the MSR and allows it
-unfoldable pub is_granted : List MsrGrant → ℕ → Bool → Bool
-is_granted msrs index write = list_any (λ m. has_msr m index && allows m write) msrs

@@ -2,7 +2,8 @@
 ghost use Rattle.std.specs.Prelude.{◌≡◌, ◌&&◌, ℕ, Bool, not, IsTrue, length};
 ghost use Rattle.std.specs.List.{list_all};
 ghost use Rattle.machine_layout.specs.Exits.{msr_exits};
-ghost use Rattle.msrbm_emit.specs.Msrs.{allows, has_msr, is_covered, is_granted};
+ghost use Rattle.msrbm_emit.specs.Msrs.{is_covered};
+ghost use Rattle.policy_types.specs.MsrGrants.{allows, has_msr, is_granted};
 
 use machine_layout::{clear_bits, msr_bit, set_all};
 use muen_num::limits::PAGE;

@@ -4,7 +4,8 @@ use Rattle.std.specs.FinMap.{insert}
 use Rattle.std.specs.Prelude.{IfOk, Result}
 use Rattle.std.proofs.lemmas.Result.{IfOk-weaker}
 use Rattle.expand_kernel.specs.Expansion.{Expansion}
-use Rattle.image_emit.specs.Made.{IsFilled, thing_bytes}
+use Rattle.image_emit.specs.Made.{IsFilled}
+use Rattle.proof_build.specs.ThingBytes.{thing_bytes}
 use Rattle.proof_build.specs.Sound.{IsSound}
 use Rattle.image_pack.specs.declared.parts.Image.{Image}
 use Rattle.muen_outside.specs.Looks.{ShowAll}

@@ -9,7 +9,7 @@ use Rattle.std.specs.Cmp.Lexicographic.{nat_list_cmp_total, texts_ties}
 use Rattle.std.proofs.lemmas.List.{take_all}
 use Rattle.std.proofs.lemmas.Bool.Decides.{nat_tests}
 use Rattle.policy_lawful.specs.ByIndex.{provided_at}
-use Rattle.image_emit.specs.Made.{thing_bytes}
+use Rattle.proof_build.specs.ThingBytes.{thing_bytes}
 use Rattle.muen_num.specs.Search.{first_in}
 use Rattle.muen_num.specs.declared.limits.TheConstants.{COMPONENT_FILE_MOST}
 use Rattle.muen_num.proofs.SearchLaws.{none_append, none_both}

@@ -13,7 +13,7 @@ use Rattle.muen_outside.specs.States.{History, Look}
 use Rattle.muen_outside.specs.Store.{Store, find_bytes}
 use Rattle.muen_outside.proofs.HeldMap.{keeps_others}
 use Rattle.muen_build.specs.Accepting.{ErrorSays, Files, HasContents, IsAskedBy, LacksContents, LookedBeside, Names, RefusesContents, WithGiven, insert_all}
-use Rattle.image_emit.specs.Made.{thing_bytes}
+use Rattle.proof_build.specs.ThingBytes.{thing_bytes}
 use Rattle.muen_build.specs.Looks.{names_file}
 use Rattle.muen_build.specs.Refusals.{contents_refused}
 use Rattle.muen_build.specs.declared.accepted.BuildError.{BuildError}

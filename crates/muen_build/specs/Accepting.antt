@@ -2,7 +2,7 @@
 use Rattle.std.specs.Prelude.{◌≡◌, ◌⊎◌, ℕ, Bool, true, List, ◌∷◌, [], ◌++◌, ◌-◌, min, length, map, Option, Some, None, IfSome, Result, Ok, Err}
 use Rattle.std.specs.List.{All, list_any}
 use Rattle.std.specs.FinMap.{get, insert}
-use Rattle.image_emit.specs.Made.{thing_bytes}
+use Rattle.proof_build.specs.ThingBytes.{thing_bytes}
 use Rattle.muen_num.specs.Search.{first_in}
 use Rattle.muen_num.specs.declared.limits.TheConstants.{COMPONENT_FILE_MOST}
 use Rattle.muen_outside.specs.Looks.{AreOthers, AreSingle, EndsInFault, IsPossibleEnd, ShowAll, Shows}

@@ -1,6 +1,7 @@
 -- When bytes are an image for a policy over files.
 use Rattle.std.specs.Prelude.{ℕ, List}
-use Rattle.proof_build.specs.Built.{HasGreatestPages, HasKernelSpans, HasMemoryTypes, HasNoSpareTables, HasOnePathPerTable, HasSpans, TablesAscend}
+use Rattle.proof_build.specs.Built.{HasGreatestPages, HasKernelSpans, HasMemoryTypes, HasNoSpareTables, HasSpans, TablesAscend}
+use Rattle.proof_build.specs.Paths.{HasOnePathPerTable}
 use Rattle.proof_build.specs.Sound.{ForEachSubject, IsSound}
 use Rattle.image_pack.specs.Parts.{IsImage}
 use Rattle.image_pack.specs.declared.parts.Image.{Image}

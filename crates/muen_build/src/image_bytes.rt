@@ -1,7 +1,8 @@
 //! The image of a document's policy.
 ghost use Rattle.std.specs.Prelude.{◌≡◌, IfErr, IfOk, Ok};
 ghost use Rattle.std.specs.FinMap.{insert};
-ghost use Rattle.proof_build.specs.Built.{HasGreatestPages, HasKernelSpans, HasMemoryTypes, HasNoSpareTables, HasOnePathPerTable, HasSpans, TablesAscend};
+ghost use Rattle.proof_build.specs.Built.{HasGreatestPages, HasKernelSpans, HasMemoryTypes, HasNoSpareTables, HasSpans, TablesAscend};
+ghost use Rattle.proof_build.specs.Paths.{HasOnePathPerTable};
 ghost use Rattle.proof_build.specs.Sound.{ForEachSubject, IsSound};
 ghost use Rattle.muen_build.specs.Accepting.{Accepts, FailsWith, looks_of};
 ghost use Rattle.muen_build.specs.Building.{Builds};

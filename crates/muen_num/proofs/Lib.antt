@@ -1,8 +1,13 @@
 mod Examples
+pub mod Booleans
+pub mod ChangeLaws
+pub mod Each
 pub mod FirstNumber
 pub mod FirstPair
 pub mod FirstSteps
-pub mod Booleans
+pub mod FoundOnce
+pub mod HexPairs
+pub mod Indexed
 pub mod Lists
 pub mod Lookups
 pub mod Members
@@ -11,8 +16,7 @@ pub mod Numbers
 pub mod NumbersBelow
 pub mod Options
 pub mod Pairs
+pub mod PiecesOfLists
 pub mod Room
 pub mod SameAnswers
 pub mod SearchLaws
-pub mod ChangeLaws
-pub mod Each

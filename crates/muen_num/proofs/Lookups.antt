@@ -1,7 +1,7 @@
 -- Laws of names that are compared, and of what is found first in a list and the index at which it stands.
 use Rattle.std.proofs.Common.{◌≡◌, ℕ, zero, suc, ◌+◌, ◌<◌, ◌≤◌, Bool, true, false, cond, not, List, [], ◌∷◌, ◌++◌, length, Some, None, is_some, find, position, nat_lt, refl, sym, ap, ◌∙◌, arith}
-use Rattle.std.specs.Prelude.{slice_get}
-use Rattle.std.specs.List.{list_all, position_or_len, sum_by}
+use Rattle.std.specs.Prelude.{◌||◌, slice_get}
+use Rattle.std.specs.List.{list_all, list_any, position_or_len, sum_by}
 use Rattle.std.specs.Option.{option_or}
 use Rattle.std.specs.Str.{bytes_eq}
 use Rattle.std.specs.Cmp.Lexicographic.{nat_list_eq_equiv}
@@ -34,6 +34,15 @@ found_passes test xs x h = (find_in test xs x h).1
 pub found_behind : {X : Type 0} (test : X → Bool) (xs ys : List X) → find test xs ≡ None → find test (xs ++ ys) ≡ find test ys
 found_behind test xs ys none = find-append test xs ys ∙ ap (λ o. option_or o (find test ys)) none
 
+-- something is found just where something passes
+pub found_any : {X : Type 0} (test : X → Bool) (xs : List X) → is_some (find test xs) ≡ list_any test xs
+found_any test [] = refl
+found_any test (x ∷ xs) =
+    elim (test x) as (λ b. is_some (cond b (Some x) (find test xs)) ≡ (b || list_any test xs)) [
+      | true ↦ refl
+      | false ↦ found_any test xs
+    ]
+
 -- ---- the index at which it stands
 
 -- something is found where this index is one of the list
@@ -44,6 +53,10 @@ found_position p (x ∷ xs) =
       | true ↦ grind (arith, nat_tests)
       | false ↦ let e : nat_lt (1 + position_or_len p xs) (length (x ∷ xs)) ≡ nat_lt (position_or_len p xs) (length xs) = grind (arith, nat_tests) in e ∙ found_position p xs
     ]
+
+-- what is found has an index
+pub found_index : {X : Type 0} (test : X → Bool) (xs : List X) (x : X) → find test xs ≡ Some x → (k : ℕ) × (slice_get xs k ≡ Some x)
+found_index test xs x h = (position_or_len test xs, sym (find_at test xs) ∙ h)
 
 -- and where there is an index
 pub found_number : {X : Type 0} (p : X → Bool) (xs : List X) → is_some (position p xs) ≡ is_some (find p xs)

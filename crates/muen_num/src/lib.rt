@@ -5,6 +5,7 @@
 
 pub mod access;
 pub mod devices;
+mod digits;
 pub mod limits;
 pub mod list_change;
 pub mod mode;

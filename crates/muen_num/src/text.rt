@@ -3,6 +3,7 @@ ghost use Rattle.std.specs.Prelude.{◌≡◌, ◌+◌, ◌≤◌, ◌++◌, len
 ghost use Rattle.muen_num.specs.Fixed.{hex16, hex8, hex4};
 ghost use Rattle.hex.specs.Hex.{encode_lower};
 
+use crate::digits::append_bytes;
 use itoa::Buffer;
 
 /// Writes the bytes.
@@ -47,36 +48,33 @@ pub fn append_decimal8(out: &mut [u8], at: usize, n: u8) -> usize
 }
 
 /// Writes a number in sixteen hexadecimal digits, in lower case.
+#[inline]
 pub fn append_hex16(out: &mut [u8], at: usize, n: u64) -> usize
     requires { at + 16 ≤ length out.old }
     ensures end { result ≡ at + 16 }
     ensures text { take result out.new ≡ take at out.old ++ hex16 n }
 {
-    let mut digits = [0u8; 16];
-    let _ = hex::encode_to_slice(n.to_be_bytes(), &mut digits);
-    append(out, at, &digits)
+    append_bytes(out, at, &n.to_be_bytes())
 }
 
 /// Writes a number in eight hexadecimal digits, in lower case.
+#[inline]
 pub fn append_hex8(out: &mut [u8], at: usize, n: u32) -> usize
     requires { at + 8 ≤ length out.old }
     ensures end { result ≡ at + 8 }
     ensures text { take result out.new ≡ take at out.old ++ hex8 n }
 {
-    let mut digits = [0u8; 8];
-    let _ = hex::encode_to_slice(n.to_be_bytes(), &mut digits);
-    append(out, at, &digits)
+    append_bytes(out, at, &n.to_be_bytes())
 }
 
 /// Writes a number in four hexadecimal digits, in lower case.
+#[inline]
 pub fn append_hex4(out: &mut [u8], at: usize, n: u16) -> usize
     requires { at + 4 ≤ length out.old }
     ensures end { result ≡ at + 4 }
     ensures text { take result out.new ≡ take at out.old ++ hex4 n }
 {
-    let mut digits = [0u8; 4];
-    let _ = hex::encode_to_slice(n.to_be_bytes(), &mut digits);
-    append(out, at, &digits)
+    append_bytes(out, at, &n.to_be_bytes())
 }
 
 /// Writes thirty-two bytes, as a digest, in hexadecimal digits, in lower case.
@@ -85,7 +83,5 @@ pub fn append_hex32(out: &mut [u8], at: usize, bytes: &[u8; 32]) -> usize
     ensures end { result ≡ at + 64 }
     ensures text { take result out.new ≡ take at out.old ++ encode_lower bytes.now }
 {
-    let mut digits = [0u8; 64];
-    let _ = hex::encode_to_slice(bytes.as_slice(), &mut digits);
-    append(out, at, &digits)
+    append_bytes(out, at, bytes.as_slice())
 }

@@ -5,7 +5,8 @@ use Rattle.std.specs.List.{find}
 use Rattle.std.proofs.lemmas.Option.{none-some}
 use Rattle.image_pack.specs.declared.parts.SpanPart.{SpanPart}
 use Rattle.std.proofs.lemmas.List.Elements.{All-head, All-tail}
-use Rattle.image_load.specs.Loading.{AreLow, IsLoaded, IsLow}
+use Rattle.image_load.specs.Loading.{IsLoaded}
+use Rattle.image_load.specs.Memory.{AreLow, IsLow}
 use Rattle.image_load.specs.declared.loading.Loaded.{Loaded}
 use Rattle.image_load.proofs.Rising.{parts_low}
 use Rattle.image_pack.specs.Parts.{IsParts}

@@ -3,7 +3,8 @@ use Rattle.std.specs.Prelude.{◌≡◌}
 use Rattle.device_bench.specs.record.Record.{Record}
 use Rattle.device_bench.specs.declared.effect.Effect.{Effect}
 use Rattle.image_pack.specs.declared.parts.Image.{Image}
-use Rattle.image_load.specs.Loaded.{memory_of, setup_of}
+use Rattle.image_load.specs.Loaded.{setup_of}
+use Rattle.image_load.specs.Memory.{memory_of}
 use Rattle.kernel_core.specs.Ticks.{kernel_started}
 use Rattle.muen_run.specs.declared.system.Ready.{Ready}
 

@@ -25,7 +25,8 @@ use Rattle.kernel_core.specs.Run.{Ran}
 use Rattle.kernel_core.specs.Kernel.{Live}
 use Rattle.kernel_core.specs.Ticks.{kernel_run_to, ended}
 use Rattle.kernel_core.specs.declared.setup.Setup.{Setup}
-use Rattle.image_load.specs.Loaded.{memory_of, setup_of}
+use Rattle.image_load.specs.Loaded.{setup_of}
+use Rattle.image_load.specs.Memory.{memory_of}
 
 -- ---- the final states: what each subject's state page has
 

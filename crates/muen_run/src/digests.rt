@@ -5,7 +5,7 @@ ghost use Rattle.sha2.specs.Sha256.{sha256};
 ghost use Rattle.muen_outside.specs.Prints.{Prints};
 ghost use Rattle.kernel_core.specs.Machine.{page_at};
 ghost use Rattle.view_text.specs.ViewText.{region_text};
-ghost use Rattle.image_load.specs.Loading.{AreLow, IsLow};
+ghost use Rattle.image_load.specs.Memory.{AreLow, IsLow};
 ghost use Rattle.muen_run.specs.RunText.{bytes_from, digest_in, numbered_span_text, prints_as, spans_text};
 
 use ept_walk::PhysMem;

@@ -1,6 +1,6 @@
 //! Systems that are ready to run.
 ghost use Rattle.std.specs.Prelude.{◌≡◌, []};
-ghost use Rattle.image_load.specs.Loading.{AreLow};
+ghost use Rattle.image_load.specs.Memory.{AreLow};
 
 use ept_walk::CachedWalk;
 use image_pack::SpanPart;

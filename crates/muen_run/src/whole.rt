@@ -2,7 +2,7 @@
 ghost use Rattle.std.specs.Prelude.{◌≡◌, ◌++◌, [], false, true};
 ghost use Rattle.muen_outside.specs.Prints.{Prints};
 ghost use Rattle.muen_outside.specs.Puts.{Puts};
-ghost use Rattle.image_load.specs.Loading.{AreLow};
+ghost use Rattle.image_load.specs.Memory.{AreLow};
 ghost use Rattle.muen_run.specs.RunText.{final_text, ran_text, spans_text};
 ghost use Rattle.muen_run.specs.Turns.{ticks_in};
 

@@ -28,7 +28,7 @@ use Rattle.policy_lawful.specs.source.Source.{Source}
 use Rattle.record_text.specs.DeviceRecord.{DeviceRecord}
 use Rattle.record_text.specs.Reading.{record_of}
 use Rattle.record_text.specs.declared.fault.RecordFault.{RecordFault}
-use Rattle.image_verify.specs.Built.{HasSpans}
+use Rattle.proof_domains.specs.Built.{HasSpans}
 use Rattle.proof_runs.proofs.ImageRuns.{image_bench_is, image_runs}
 use Rattle.proof_runs.specs.Fit.{Fit}
 use Rattle.muen_top.specs.Answers.{Answer, prints, stops, refused as refused_for, of_file, input_answer, named_answer, policy_answer, trace_answer, boot_answer}

@@ -14,7 +14,7 @@ use Rattle.image_pack.specs.declared.parts.Image.{Image}
 use Rattle.muen_num.specs.declared.limits.TheConstants.{IMAGE_MOST}
 use Rattle.muen_outside.specs.declared.files.FileError.{FileError}
 use Rattle.muen_outside.specs.Looks.{ShowAll}
-use Rattle.muen_outside.specs.States.{History, Look, look}
+use Rattle.muen_outside.specs.States.{History, Look}
 use Rattle.muen_outside.specs.Store.{Store, Reading, whole, reading_of}
 use Rattle.muen_top.specs.Answers.{Answer, stops, dma_refused, of_file, dma_answer, unpacked_answer, run_answer}
 use Rattle.muen_top.specs.Asked.{Asks, AsksRecord, IsAtMost}
@@ -29,21 +29,27 @@ use Rattle.muen_top.specs.declared.outcome.CommandError.{CommandError}
 use Rattle.muen_top.specs.declared.run.TablesRead.{TablesRead}
 use Rattle.muen_top.proofs.FilesSeen.{SeenAfter, first_known, gives_none, known_too, seen_after}
 use Rattle.muen_top.proofs.FirstFile.{AsksOn, RestsOn, SaysOf, image_refused_by, not_read, says_of, stopped_by}
+use Rattle.muen_top.specs.Verifying.{image_looks}
+use Rattle.muen_top.proofs.FirstImage.{HasImage}
 
 -- ---- the answer
 
+-- what follows the image's file
 run_next : List ℕ → Option (List ℕ) → Store → List ℕ → Answer
 run_next name dma m bytes = unpacked_answer m name dma (unpacked image_form bytes)
 
+-- the answer is what follows it
 rests : (image name : List ℕ) (dma : Option (List ℕ)) → RestsOn IMAGE_MOST image (run_next name dma) (run image name dma)
 unfolding run_answer run_next
 rests image name dma m = refl
 
+-- no other file is looked at first
 asks : (image name : List ℕ) (dma : Option (List ℕ)) → AsksOn IMAGE_MOST image (AsksRecord image name dma) (run image name dma)
 asks image name dma = record { asks = λ looks a. a; none = λ bytes. inl refl }
 
-by_image : (m : Store) (image name : List ℕ) (dma : Option (List ℕ)) (bytes : List ℕ) (answer : Result Image ImageFault) → reading_of (get m image) IMAGE_MOST ≡ whole bytes → unpacked image_form bytes ≡ answer
-    → run_answer m image name dma ≡ unpacked_answer m name dma answer
+-- .. and of the image that its bytes are
+by_image : (m : Store) (image name : List ℕ) (dma : Option (List ℕ)) (bytes : List ℕ) (answer : Result Image ImageFault)
+    → reading_of (get m image) IMAGE_MOST ≡ whole bytes → unpacked image_form bytes ≡ answer → run_answer m image name dma ≡ unpacked_answer m name dma answer
 unfolding run_answer
 by_image m image name dma bytes answer is eq =
     ap (λ reading. of_file image (λ bytes. unpacked_answer m name dma (unpacked image_form bytes)) reading) is ∙ ap (unpacked_answer m name dma) eq
@@ -54,147 +60,151 @@ tables_read bytes t file = ap (unpacked dma_file) file.bytes_are ∙ back dma_fi
 
 -- ---- the image's file
 
-pub image_not_read : (image name : List ℕ) (dma : Option (List ℕ)) (held : Option Store) (old new : History) (error : CommandError) → NotRead image IMAGE_MOST held old new error → StopsCommand (run image name dma) held old new error
+-- it isn't read
+pub image_not_read : (image name : List ℕ) (dma : Option (List ℕ)) (held : Option Store) (old new : History) (error : CommandError)
+    → NotRead image IMAGE_MOST held old new error → StopsCommand (run image name dma) held old new error
 image_not_read image name dma held old new error h =
     not_read IMAGE_MOST image (run_next name dma) (AsksRecord image name dma) (run image name dma) (rests image name dma) (asks image name dma) held old new error h
 
--- ---- the image
+-- its bytes are no image
+pub image_refused_so : (image name : List ℕ) (dma : Option (List ℕ)) (held : Option Store) (old mid : History) (bytes : List ℕ) → Saw held old mid (image_looks image bytes)
+    → (fault : ImageFault) (error : CommandError) → Tells (unpacked image_form bytes) (Err fault) → error ≡ error_of_image_fault fault
+    → StopsCommand (run image name dma) held old mid error
+unfolding run_next
+image_refused_so image name dma held old mid bytes saw fault error h made =
+    image_refused_by IMAGE_MOST image (run_next name dma) (AsksRecord image name dma) (run image name dma) (rests image name dma) (asks image name dma) held old mid bytes saw
+    (λ fault e m. ap (unpacked_answer m name dma) e) fault error h made
 
-module _ (image : List ℕ) (held : Option Store) (old mid : History) (bytes : List ℕ) (saw : Saw held old mid (look image IMAGE_MOST (Ok (whole bytes)) ∷ [])) where
-  abbrev first : List Look
-  first = look image IMAGE_MOST (Ok (whole bytes)) ∷ []
+-- ---- the tables' file, where the image is one
 
-  pub image_refused_so : (name : List ℕ) (dma : Option (List ℕ)) (fault : ImageFault) (error : CommandError) → Tells (unpacked image_form bytes) (Err fault) → error ≡ error_of_image_fault fault → StopsCommand (run image name dma) held old mid error
-  unfolding run_next
-  image_refused_so name dma fault error h made =
-      image_refused_by IMAGE_MOST image (run_next name dma) (AsksRecord image name dma) (run image name dma) (rests image name dma) (asks image name dma) held old mid bytes saw (λ fault e m. ap (unpacked_answer m name dma) e) fault error h made
+module _ {image : List ℕ} {held held' : Option Store} {old mid : History} {bytes : List ℕ} {i : Image}
+    (read : HasImage image held held' old mid bytes i) (dma : List ℕ) (new : History) where
+  -- the looks at it behind that at the image's
+  seen : (got : Result Reading FileError) → SawAfter (image_looks image bytes) dma DMA_MOST got held' mid new → SeenAfter (image_looks image bytes) dma DMA_MOST got held old new
+  seen got after = seen_after (image_looks image bytes) dma DMA_MOST got held held' old mid new read.same read.saw after
 
-  -- ---- the tables' file, where the image is one
+  module _ (name : List ℕ) where
+    abbrev answer : Store → Answer
+    answer m = run_answer m image name (Some dma)
 
-  module _ (held' : Option Store) (same : held' ≡ held) (i : Image) (is : unpacked image_form bytes ≡ Ok i) (new : History) where
-    module _ (dma : List ℕ) where
-      abbrev After : Result Reading FileError → Type 0
-      After got = SawAfter first dma DMA_MOST got held' mid new
+    -- what follows it
+    next : Store → List ℕ → Answer
+    next m file = dma_answer m name i (unpacked dma_file file)
 
-      seen : (got : Result Reading FileError) → After got → SeenAfter first dma DMA_MOST got held old new
-      seen got after = seen_after first dma DMA_MOST got held held' old mid new same saw after
+    -- the answer goes on with what is read of it
+    by_reading : (m : Store) (reading : Reading) → ShowAll m (image_looks image bytes) → reading_of (get m dma) DMA_MOST ≡ reading → answer m ≡ of_file dma (next m) reading
+    unfolding next
+    by_reading m reading s shows = by_image m image name (Some dma) bytes (Ok i) s.0 read.is ∙ ap (of_file dma (λ file. dma_answer m name i (unpacked dma_file file))) shows
 
-      module _ (name : List ℕ) where
-        abbrev answer : Store → Answer
-        answer m = run_answer m image name (Some dma)
-
-        next : Store → List ℕ → Answer
-        next m file = dma_answer m name i (unpacked dma_file file)
-
-        -- the answer goes on with what is read of it
-        by_reading : (m : Store) (reading : Reading) → ShowAll m first → reading_of (get m dma) DMA_MOST ≡ reading → answer m ≡ of_file dma (next m) reading
-        unfolding next
-        by_reading m reading s shows = by_image m image name (Some dma) bytes (Ok i) s.0 is ∙ ap (of_file dma (λ file. dma_answer m name i (unpacked dma_file file))) shows
-
-        asks_tables : (more : List Look) → IsAtMost dma DMA_MOST more → Asks (Some (run image name (Some dma))) (first ++ more)
-        asks_tables more one = record {
-          got = Ok (whole bytes);
-          more = more;
-          is = refl;
-          goes_on = inr (i, is, record { middle = more; last = []; is = sym (append-nil more); tables = one; inputs_last = inl refl });
-        }
-
-        read_so : (got : Result Reading FileError) → After got → HasRead (run image name (Some dma)) held old new (SaysOf answer dma got)
-        read_so got after =
-            let s = seen got after in
-            record {
-              looks = first ++ s.more;
-              saw = s.saw;
-              asked = asks_tables s.more s.one;
-              says = says_of answer dma DMA_MOST next (first ++ s.more) (λ m reading shows is. by_reading m reading (s.shows m shows).0 is) got (λ m shows. (s.shows m shows).1) s.fault;
-            }
-
-        not_tables_read : (error : CommandError) → NotReadAfter first dma DMA_MOST held' mid new error → StopsCommand (run image name (Some dma)) held old new error
-        not_tables_read error h =
-            stopped_by (run image name (Some dma)) held old new dma error
-            (gives_none dma After (λ got. HasRead (run image name (Some dma)) held old new (SaysOf answer dma got)) read_so error h)
-
-        -- its bytes are of no tables
-        module _ (file : List ℕ) (after : After (Ok (whole file))) where
-          fault_of : (fault : ImageFault) → unpacked dma_file file ≡ Err fault → OverLooks (first ++ (seen (Ok (whole file)) after).more) (λ m. answer m ≡ stops (dma_refused fault))
-          unfolding next
-          fault_of fault e m shows =
-              let s = seen (Ok (whole file)) after in
-              by_reading m (whole file) (s.shows m shows).0 (s.shows m shows).1 ∙ ap (dma_answer m name i) e
-
-          of_dma_fault : (fault : ImageFault) → Tells (unpacked dma_file file) (Err fault) → StopsFor answer (first ++ (seen (Ok (whole file)) after).more) [] (error_of_dma_fault fault)
-          of_dma_fault NoMemoryForImage h = inl refl
-          of_dma_fault (Short at) h = (fault_of (Short at) h, refl)
-          of_dma_fault (Bad at field) h = (fault_of (Bad at field) h, refl)
-          of_dma_fault (Trailing at) h = (fault_of (Trailing at) h, refl)
-
-          faulty_so : (fault : ImageFault) (error : CommandError) → Tells (unpacked dma_file file) (Err fault) → error ≡ error_of_dma_fault fault → StopsCommand (run image name (Some dma)) held old new error
-          faulty_so fault error h made =
-              let s = seen (Ok (whole file)) after in
-              record {
-                looks = first ++ s.more;
-                saw = s.saw;
-                asked = asks_tables s.more s.one;
-                says = subst (StopsFor answer (first ++ s.more) []) (sym made) (of_dma_fault fault h);
-              }
-
-        not_tables : (error : CommandError) → NotTables first dma held' mid new error → StopsCommand (run image name (Some dma)) held old new error
-        not_tables error (unread h) = not_tables_read error h
-        not_tables error (faulty file fault after h made) = faulty_so file after fault error h made
-
-      -- they are such
-      tables_ready : (t : TablesRead) → After (Ok (whole t.bytes)) → IsDmaFile t.bytes t.tables → IsReady (λ name. run image name (Some dma)) held old new ((dma, t.bytes) ∷ (image, bytes) ∷ []) i (Some t.tables)
-      tables_ready t after file =
-          let s = seen (Ok (whole t.bytes)) after in
-          record {
-            looks = first ++ s.more;
-            saw = s.saw;
-            known = known_too first ((image, bytes) ∷ []) dma DMA_MOST t.bytes held old new s (first_known image IMAGE_MOST bytes);
-            asked = λ name more one. record {
-              got = Ok (whole bytes);
-              more = s.more ++ more;
-              is = refl;
-              goes_on = inr (
-                i,
-                is,
-                record {
-                  middle = s.more;
-                  last = more;
-                  is = refl;
-                  tables = s.one;
-                  inputs_last = inr ((t.tables, λ m shows. record { bytes = t.bytes; read = (s.shows m shows).1; file = file }), one);
-                },
-              );
-            };
-            answers = λ name m shows.
-                by_image m image name (Some dma) bytes (Ok i) (s.shows m shows).0.0 is
-                ∙ ap (of_file dma (λ read. dma_answer m name i (unpacked dma_file read))) (s.shows m shows).1
-                ∙ ap (dma_answer m name i) (tables_read t.bytes t.tables file);
-          }
-
-    -- the words name none
-    none_ready : new ≡ mid → IsReady (λ name. run image name None) held old new ((image, bytes) ∷ []) i None
-    none_ready still = record {
-      looks = first;
-      saw = subst (λ h. Saw held old h first) (sym still) saw;
-      known = first_known image IMAGE_MOST bytes;
-      asked = λ name more one. record {
-        got = Ok (whole bytes);
-        more = more;
-        is = refl;
-        goes_on = inr (i, is, record { middle = []; last = more; is = refl; tables = refl; inputs_last = inr (tt, one) });
-      };
-      answers = λ name m s. by_image m image name None bytes (Ok i) s.0 is;
+    -- the looks so far are those that the command asks for
+    asks_tables : (more : List Look) → IsAtMost dma DMA_MOST more → Asks (Some (run image name (Some dma))) (image_looks image bytes ++ more)
+    asks_tables more one = record {
+      got = Ok (whole bytes);
+      more = more;
+      is = refl;
+      goes_on = inr (i, read.is, record { middle = more; last = []; is = sym (append-nil more); tables = one; inputs_last = inl refl });
     }
 
-    -- ---- both forms
+    -- what the answer is where the file gives no bytes
+    read_so : (got : Result Reading FileError) → SawAfter (image_looks image bytes) dma DMA_MOST got held' mid new → HasRead (run image name (Some dma)) held old new (SaysOf answer dma got)
+    read_so got after =
+        let s = seen got after in
+        let both = image_looks image bytes ++ s.more in
+        record {
+          looks = both;
+          saw = s.saw;
+          asked = asks_tables s.more s.one;
+          says = says_of answer dma DMA_MOST next both (λ m reading shows is. by_reading m reading (s.shows m shows).0 is) got (λ m shows. (s.shows m shows).1) s.fault;
+        }
 
-    pub lacks_tables : (dma : Option (List ℕ)) (error : CommandError) → LacksTables first dma held' mid new error → (name : List ℕ) → StopsCommand (run image name dma) held old new error
-    lacks_tables None error h name = absurd h
-    lacks_tables (Some dma) error h name = not_tables dma name error h
+    -- the file isn't read
+    not_tables_read : (error : CommandError) → NotReadAfter (image_looks image bytes) dma DMA_MOST held' mid new error → StopsCommand (run image name (Some dma)) held old new error
+    not_tables_read error h =
+        stopped_by (run image name (Some dma)) held old new dma error
+        (gives_none dma (λ got. SawAfter (image_looks image bytes) dma DMA_MOST got held' mid new)
+        (λ got. HasRead (run image name (Some dma)) held old new (SaysOf answer dma got)) read_so error h)
 
-    pub run_ready : (dma : Option (List ℕ)) (tables : Option TablesRead) → HasTables first dma held' mid new tables → IsReady (λ name. run image name dma) held old new (read_before image bytes dma tables) i (option_map (λ t. t.tables) tables)
-    run_ready None None still = none_ready still
-    run_ready (Some dma) (Some t) h = tables_ready dma t h.0 h.1
-    run_ready None (Some t) h = absurd h
-    run_ready (Some dma) None h = absurd h
+    -- its bytes are of no tables
+    fault_of : (file : List ℕ) (s : SeenAfter (image_looks image bytes) dma DMA_MOST (Ok (whole file)) held old new) (fault : ImageFault) → unpacked dma_file file ≡ Err fault
+        → OverLooks (image_looks image bytes ++ s.more) (λ m. answer m ≡ stops (dma_refused fault))
+    unfolding next
+    fault_of file s fault e m shows = by_reading m (whole file) (s.shows m shows).0 (s.shows m shows).1 ∙ ap (dma_answer m name i) e
+
+    -- .. so the command stops for this fault
+    of_dma_fault : (file : List ℕ) (s : SeenAfter (image_looks image bytes) dma DMA_MOST (Ok (whole file)) held old new) (fault : ImageFault) → Tells (unpacked dma_file file) (Err fault)
+        → StopsFor answer (image_looks image bytes ++ s.more) [] (error_of_dma_fault fault)
+    of_dma_fault file s NoMemoryForImage h = inl refl
+    of_dma_fault file s (Short at) h = (fault_of file s (Short at) h, refl)
+    of_dma_fault file s (Bad at field) h = (fault_of file s (Bad at field) h, refl)
+    of_dma_fault file s (Trailing at) h = (fault_of file s (Trailing at) h, refl)
+
+    -- there are no tables
+    not_tables : (error : CommandError) → NotTables (image_looks image bytes) dma held' mid new error → StopsCommand (run image name (Some dma)) held old new error
+    not_tables error (unread h) = not_tables_read error h
+    not_tables error (faulty file fault after h made) =
+        let s = seen (Ok (whole file)) after in
+        let both = image_looks image bytes ++ s.more in
+        record { looks = both; saw = s.saw; asked = asks_tables s.more s.one; says = subst (StopsFor answer both []) (sym made) (of_dma_fault file s fault h) }
+
+  -- the bytes of the file are tables
+  tables_ready : (t : TablesRead) → SawAfter (image_looks image bytes) dma DMA_MOST (Ok (whole t.bytes)) held' mid new → IsDmaFile t.bytes t.tables
+      → IsReady (λ name. run image name (Some dma)) held old new ((dma, t.bytes) ∷ (image, bytes) ∷ []) i (Some t.tables)
+  tables_ready t after file =
+      let s = seen (Ok (whole t.bytes)) after in
+      record {
+        looks = image_looks image bytes ++ s.more;
+        saw = s.saw;
+        known = known_too (image_looks image bytes) ((image, bytes) ∷ []) dma DMA_MOST t.bytes held old new s (first_known image IMAGE_MOST bytes);
+        asked = λ name more one. record {
+          got = Ok (whole bytes);
+          more = s.more ++ more;
+          is = refl;
+          goes_on = inr (
+            i,
+            read.is,
+            record {
+              middle = s.more;
+              last = more;
+              is = refl;
+              tables = s.one;
+              inputs_last = inr ((t.tables, λ m shows. record { bytes = t.bytes; read = (s.shows m shows).1; file = file }), one);
+            },
+          );
+        };
+        answers = λ name m shows.
+            by_image m image name (Some dma) bytes (Ok i) (s.shows m shows).0.0 read.is
+            ∙ ap (of_file dma (λ read. dma_answer m name i (unpacked dma_file read))) (s.shows m shows).1
+            ∙ ap (dma_answer m name i) (tables_read t.bytes t.tables file);
+      }
+
+-- ---- with tables and without
+
+module _ {image : List ℕ} {held held' : Option Store} {old mid : History} {bytes : List ℕ} {i : Image} (read : HasImage image held held' old mid bytes i) (new : History) where
+  -- the words name none
+  none_ready : new ≡ mid → IsReady (λ name. run image name None) held old new ((image, bytes) ∷ []) i None
+  none_ready still = record {
+    looks = image_looks image bytes;
+    saw = subst (λ h. Saw held old h (image_looks image bytes)) (sym still) read.saw;
+    known = first_known image IMAGE_MOST bytes;
+    asked = λ name more one. record {
+      got = Ok (whole bytes);
+      more = more;
+      is = refl;
+      goes_on = inr (i, read.is, record { middle = []; last = more; is = refl; tables = refl; inputs_last = inr (tt, one) });
+    };
+    answers = λ name m s. by_image m image name None bytes (Ok i) s.0 read.is;
+  }
+
+  -- the words name some, and there are none
+  pub lacks_tables : (dma : Option (List ℕ)) (error : CommandError) → LacksTables (image_looks image bytes) dma held' mid new error
+      → (name : List ℕ) → StopsCommand (run image name dma) held old new error
+  lacks_tables None error h name = absurd h
+  lacks_tables (Some dma) error h name = not_tables read dma new name error h
+
+  -- all is read but the record
+  pub run_ready : (dma : Option (List ℕ)) (tables : Option TablesRead) → HasTables (image_looks image bytes) dma held' mid new tables
+      → IsReady (λ name. run image name dma) held old new (read_before image bytes dma tables) i (option_map (λ t. t.tables) tables)
+  run_ready None None still = none_ready still
+  run_ready (Some dma) (Some t) h = tables_ready read dma new t h.0 h.1
+  run_ready None (Some t) h = absurd h
+  run_ready (Some dma) None h = absurd h

@@ -18,7 +18,8 @@ use Rattle.policy_lawful.specs.Contents.{Held}
 use Rattle.policy_lawful.specs.source.Source.{Source}
 use Rattle.record_text.specs.DeviceRecord.{DeviceRecord}
 use Rattle.record_text.specs.Law.{NamesEachOnce}
-use Rattle.record_text.specs.Reading.{are_distinct, record_of}
+use Rattle.record_text.specs.Reading.{record_of}
+use Rattle.muen_num.specs.Numbers.{are_distinct}
 use Rattle.proof_runs.proofs.ImageRuns.{image_bench_is, image_runs}
 use Rattle.flow_report.specs.TwoTexts.{HasDistinctOrders, PrintsMembersAlike}
 use Rattle.flow_report.proofs.TwoEnds.{printed_alike}

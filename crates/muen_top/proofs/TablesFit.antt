@@ -14,7 +14,7 @@ use Rattle.policy_lawful.specs.Contents.{Held}
 use Rattle.policy_lawful.specs.Dma.{dma_access}
 use Rattle.policy_lawful.specs.Resolution.{source_of}
 use Rattle.policy_lawful.specs.source.Source.{Source}
-use Rattle.image_verify.specs.Built.{HasSpans}
+use Rattle.proof_domains.specs.Built.{HasSpans}
 use Rattle.proof_domains.proofs.Fitting.{fits}
 use Rattle.proof_runs.specs.Fit.{Fit}
 use Rattle.dma_emit.specs.Placed.{IsPlaced, Placement}

@@ -1,5 +1,5 @@
 -- What `build` makes and writes.
-use Rattle.std.specs.Prelude.{◌≡◌, ℕ, List, [], ◌∷◌, Option, Some, None, IfSome, Result, Ok, Err}
+use Rattle.std.specs.Prelude.{◌≡◌, ℕ, List, [], ◌∷◌, Option, Some, None, IfSome, Result, Ok, Err, option_map}
 use Rattle.muen_build.specs.ImageFor.{IsImageFor}
 use Rattle.muen_outside.specs.States.{History, Look, Write, write}
 use Rattle.muen_outside.specs.Store.{Store}
@@ -10,6 +10,7 @@ use Rattle.muen_top.specs.Asked.{Asks}
 use Rattle.muen_top.specs.Commands.{build}
 use Rattle.muen_top.specs.FilesSeen.{OverLooks, Saw}
 use Rattle.muen_top.specs.Tables.{IsTablesFor}
+use Rattle.muen_top.specs.declared.build.Built.{Built}
 
 -- ---- what is written
 
@@ -41,3 +42,7 @@ pub record IsBuilt (policy : List ℕ) (held : Option Store) (old new : History)
   pub saw : Saw held old new looks
   pub asked : (image : List ℕ) (dma : Option (List ℕ)) → Asks (Some (build policy image dma)) looks
   pub says : OverLooks looks (AnswersImage policy bytes tables)
+
+-- .. of what was built
+abbrev pub HasBuilt : List ℕ → Option Store → History → History → Built → Type 0
+HasBuilt policy held old new b = IsBuilt policy held old new b.image.items (option_map (λ v. v.items) b.tables)

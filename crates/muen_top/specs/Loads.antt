@@ -7,6 +7,7 @@ use Rattle.image_pack.specs.fault.ImageFault.{ImageFault}
 use Rattle.dma_tables.specs.DmaFile.{dma_file}
 use Rattle.dma_tables.specs.Tables.{IsDmaFile}
 use Rattle.image_soundness.specs.Sound.{IsSound}
+use Rattle.proof_domains.specs.Built.{HasSpans}
 use Rattle.image_pack.specs.declared.parts.Image.{Image}
 use Rattle.dma_tables.specs.declared.file.DmaFile.{DmaFile}
 use Rattle.muen_build.specs.Accepting.{Accepts, FailsWith, Files, WithDocument, looks_of}
@@ -22,11 +23,13 @@ use Rattle.policy_lawful.specs.source.Source.{Source}
 use Rattle.proof_runs.specs.Fit.{Fit}
 use Rattle.muen_top.specs.Answers.{answer_of, input_answer}
 use Rattle.muen_top.specs.Asked.{Asks, IsAtMost}
-use Rattle.muen_top.specs.Commands.{Command, run}
+use Rattle.muen_top.specs.Commands.{Command, boot, run}
 use Rattle.muen_top.specs.FilesSeen.{OverLooks, Saw, SawAfter}
 use Rattle.muen_top.specs.Runs.{OnlyMemory}
 use Rattle.muen_top.specs.CommandErrors.{error_of_build, error_of_dma_fault}
 use Rattle.muen_top.specs.declared.limits.TheConstants.{DMA_MOST}
+use Rattle.muen_top.specs.declared.boot.BeforeRecord.{BeforeRecord as BeforeBoot}
+use Rattle.muen_top.specs.declared.boot.Made.{Made}
 use Rattle.muen_top.specs.declared.run.TablesRead.{TablesRead}
 use Rattle.muen_top.specs.declared.outcome.CommandError.{CommandError}
 use Rattle.muen_top.specs.declared.outcome.CommandError.TheVariants.{Missing, TooLong, FileFault, NoMemory}
@@ -76,6 +79,10 @@ ReadAfter looks name most held old new bytes = SawAfter looks name most (Ok (who
 
 -- ---- tables, after these looks
 
+-- the error that bytes give which are of no tables
+abbrev pub TellsDmaFault : List ℕ → CommandError → Type 0
+TellsDmaFault bytes error = (fault : ImageFault) × Tells (unpacked dma_file bytes) (Err fault) × (error ≡ error_of_dma_fault fault)
+
 -- the bytes of the file of this name were read, and they are of these tables
 abbrev pub HasTables : List Look → Option (List ℕ) → Option Store → History → History → Option TablesRead → Type 0
 HasTables looks None held old new None = new ≡ old
@@ -118,12 +125,25 @@ abbrev pub IsReadyToRun : List ℕ → Option (List ℕ) → Option Store → Hi
 IsReadyToRun image dma held old new x =
     IsReady (λ inputs. run image inputs dma) held old new (read_before image x.bytes dma x.tables) x.parts (option_map (λ t. t.tables) x.tables)
 
+-- .. `boot` has, of the image of a policy and of its tables
+abbrev pub IsReadyToBoot : List ℕ → Option Store → History → History → BeforeBoot → Type 0
+IsReadyToBoot policy held old new x = IsReady (boot policy) held old new ((policy, x.document) ∷ x.made.files) x.made.parts (Some x.made.tables)
+
 -- ---- the image of an accepted policy, read again
 
 -- what reading the bytes of an image of these parts comes to
 abbrev pub IsReadOf : Image → Result Image CommandError → Type 0
 IsReadOf i (Ok j) = i ≡ j
 IsReadOf i (Err error) = OnlyMemory error
+
+-- these are the parts of an image that is sound for this policy, whose spans it has, over whatever files agree with the looks at the
+-- document of this name and at these component files
+abbrev pub ArePartsFor : List ℕ → List ℕ → Files → Source → Image → Type 0
+ArePartsFor name document found p i = WithDocument name document (looks_of found) (λ files. IsSound p files i × HasSpans p i)
+
+-- where there are such files, only memory was wanting
+abbrev pub OnlyMemoryWith : List ℕ → List ℕ → Files → CommandError → Type 0
+OnlyMemoryWith name document found error = WithDocument name document (looks_of found) (λ files. OnlyMemory error)
 
 -- ---- what a policy's document gives, after the look at it
 
@@ -140,7 +160,11 @@ pub record IsMade (policy document : List ℕ) (held : Option Store) (old new : 
   pub accepts : Accepts policy (looks_of found) document source
   pub back : WithDocument policy document (looks_of found) (λ files. IsSound source files i × Fit source i (Some tables))
 
+-- .. that was made
+abbrev pub HasMade : List ℕ → List ℕ → Option Store → History → History → Made → Type 0
+HasMade policy document held old new m = IsMade policy document held old new m.files m.parts m.tables
+
 -- why it gives none: the policy isn't accepted, or memory was refused for the image or the tables
 pub data NotMade (policy document : List ℕ) (held : Option Store) (old new : History) (error : CommandError) : Type 0 where
   refused : (build_error : BuildError) → FailsWith policy document held old new build_error → error ≡ error_of_build build_error → NotMade policy document held old new error
-  unmade : (found : Files) → Looked policy held old new (looks_of found) → All (IsAsked document) (looks_of found) → WithDocument policy document (looks_of found) (λ files. OnlyMemory error) → NotMade policy document held old new error
+  unmade : (found : Files) → Looked policy held old new (looks_of found) → All (IsAsked document) (looks_of found) → OnlyMemoryWith policy document found error → NotMade policy document held old new error

@@ -118,3 +118,7 @@ abbrev pub Reported : SinkState → SinkState → Outcome → Type 0
 Reported old new Done = new ≡ old
 Reported old new (Stopped error) = Told (error_text error) old new
 Reported old new OutputFault = Told (codes "output fault") old new
+
+-- .. an outcome of this status
+abbrev pub IsReported : SinkState → SinkState → Status → Type 0
+IsReported old new status = (outcome : Outcome) × (status ≡ status_of outcome) × Reported old new outcome

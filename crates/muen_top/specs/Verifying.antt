@@ -1,6 +1,8 @@
 -- What reading the files of `verify`, and the verdict, come to.
 use Rattle.std.specs.Prelude.{◌≡◌, ℕ, List, [], ◌∷◌, Option, Some, None, Ok, Err}
-use Rattle.image_verify.specs.Made.{thing_bytes}
+use Rattle.image_soundness.specs.ThingBytes.{thing_bytes}
+use Rattle.image_pack.specs.Faults.{unpacked}
+use Rattle.image_pack.specs.Image.{image as image_form}
 use Rattle.image_pack.specs.Parts.{IsImage}
 use Rattle.image_pack.specs.declared.parts.Image.{Image}
 use Rattle.image_verify.specs.declared.fault.Fault.{Fault}
@@ -20,7 +22,7 @@ use Rattle.muen_top.specs.Answers.{judges, verify_answer}
 use Rattle.policy_lawful.specs.source.Source.{Source}
 use Rattle.muen_top.specs.CommandErrors.{error_of_build, error_of_refusal}
 use Rattle.muen_top.specs.Commands.{verify}
-use Rattle.muen_top.specs.FilesSeen.{OverLooks, SawAfter}
+use Rattle.muen_top.specs.FilesSeen.{OverLooks, Saw, SawAfter}
 use Rattle.muen_top.specs.Loads.{NotReadAfter}
 use Rattle.muen_top.specs.PolicyCommands.{HasRead}
 use Rattle.muen_top.specs.Reports.{sound_text}
@@ -30,10 +32,21 @@ use Rattle.muen_top.specs.declared.outcome.CommandError.{CommandError}
 use Rattle.muen_top.specs.declared.outcome.CommandError.TheVariants.{NotSound}
 use Rattle.muen_top.specs.declared.outcome.Outcome.{Outcome}
 use Rattle.muen_top.specs.declared.outcome.Outcome.TheVariants.{Done, Stopped, OutputFault}
+use Rattle.muen_top.specs.declared.verify.ImageRead.{ImageRead}
+use Rattle.muen_top.specs.declared.verify.PolicyRead.{PolicyRead}
+use Rattle.muen_top.specs.declared.verify.ToJudge.{ToJudge}
 
 -- the look at an image that gave these bytes
 abbrev pub image_looks : List ℕ → List ℕ → List Look
 image_looks image bytes = look image IMAGE_MOST (Ok (whole bytes)) ∷ []
+
+-- .. that were read
+abbrev pub SawImage : List ℕ → Option Store → History → History → ImageRead → Type 0
+SawImage image held old new x = Saw held old new (image_looks image x.bytes)
+
+-- and they are of these parts
+abbrev pub HasItsParts : ImageRead → Type 0
+HasItsParts x = IsImage x.bytes x.parts × (unpacked image_form x.bytes ≡ Ok x.parts)
 
 -- ---- the policy, after these looks
 
@@ -41,6 +54,10 @@ image_looks image bytes = look image IMAGE_MOST (Ok (whole bytes)) ∷ []
 pub record HasLawful (looks : List Look) (policy : List ℕ) (held : Option Store) (old new : History) (document : List ℕ) (r : Resolution) : Type 0 where
   pub read : SawAfter looks policy POLICY_MOST (Ok (whole document)) held old new
   pub lawful : lawful_policy_of document ≡ Ok (source_of r)
+
+-- .. and this policy of it
+abbrev pub HasPolicy : List Look → List ℕ → Option Store → History → History → PolicyRead → Type 0
+HasPolicy looks policy held old new x = HasLawful looks policy held old new x.document x.policy
 
 -- why there is none: the file isn't read, or the policy is refused
 pub data NotLawful (looks : List Look) (policy : List ℕ) (held : Option Store) (old new : History) (error : CommandError) : Type 0 where
@@ -71,6 +88,10 @@ pub record IsToJudge (image policy : List ℕ) (i : Image) (r : Resolution) (thi
 
 abbrev pub HasAllRead : List ℕ → List ℕ → Option Store → History → History → Image → Resolution → List (List ℕ) → Type 0
 HasAllRead image policy held old new i r things = HasRead (verify image policy) held old new (IsToJudge image policy i r things)
+
+-- .. of what was read
+abbrev pub HasToJudge : List ℕ → List ℕ → Option Store → History → History → ToJudge → Type 0
+HasToJudge image policy held old new x = HasAllRead image policy held old new x.parts x.policy x.things
 
 -- ---- the verdict
 

@@ -1,23 +1,18 @@
 // The command `boot`: a policy and a record are read, and the run of the policy's image is printed. The
 // image is written in memory, as `build` writes it, and is read again and run as `run` does it, with the
 // tables of the policy's domains of devices.
-ghost use Rattle.std.specs.Prelude.{◌≡◌, ◌∷◌, List, ℕ, Some, Ok, IfOk, IfErr, option_map};
-ghost use Rattle.image_soundness.specs.Sound.{IsSound};
+ghost use Rattle.std.specs.Prelude.{◌≡◌, ◌∷◌, Some, Ok, IfOk, IfErr, option_map};
 ghost use Rattle.image_pack.specs.Parts.{IsImage};
 ghost use Rattle.image_pack.specs.declared.parts.Image.{Image};
-ghost use Rattle.muen_build.specs.Accepting.{Accepts, WithDocument, looks_of};
+ghost use Rattle.muen_build.specs.Accepting.{Accepts, looks_of};
 ghost use Rattle.muen_build.specs.Refusals.{lawful_policy_of};
 ghost use Rattle.muen_outside.specs.Store.{find_bytes};
-ghost use Rattle.muen_run.specs.RunText.{run_text};
 ghost use Rattle.policy_lawful.specs.Resolution.{source_of};
-ghost use Rattle.image_verify.specs.Built.{HasSpans};
 ghost use Rattle.record_text.specs.Law.{IsOrderly};
-ghost use Rattle.muen_top.specs.Answers.{prints};
 ghost use Rattle.muen_top.specs.Calls.{ComesOfCommand};
 ghost use Rattle.muen_top.specs.Commands.{boot as boot_command};
-ghost use Rattle.muen_top.specs.Loads.{IsMade, IsReadOf, IsReady, NotMade};
-ghost use Rattle.muen_top.specs.PolicyCommands.{IsAnswered, StopsCommand};
-ghost use Rattle.muen_top.specs.Runs.{OnlyMemory};
+ghost use Rattle.muen_top.specs.Loads.{ArePartsFor, HasMade, IsReadOf, IsReadyToBoot, NotMade, OnlyMemoryWith};
+ghost use Rattle.muen_top.specs.PolicyCommands.{IsAnsweredByRun, StopsCommand, StopsEach};
 
 use crate::loading::{load, load_too};
 use crate::outcome::{CommandError, Outcome};
@@ -51,8 +46,8 @@ fn parts_of<'a>(
 ) -> Result<Parts, CommandError<'a>>
     requires lawful { lawful_policy_of document.now ≡ Ok (source_of placed.now.expanded.lawful) }
     requires accepts { Accepts name.now (looks_of found.now) document.now (source_of placed.now.expanded.lawful) }
-    ensures ok { IfOk result (λ i. WithDocument name.now document.now (looks_of found.now) (λ files. IsSound (source_of placed.now.expanded.lawful) files i × HasSpans (source_of placed.now.expanded.lawful) i)) }
-    ensures err { IfErr result (λ error. WithDocument name.now document.now (looks_of found.now) (λ files. OnlyMemory error)) }
+    ensures ok { IfOk result (ArePartsFor name.now document.now found.now (source_of placed.now.expanded.lawful)) }
+    ensures err { IfErr result (OnlyMemoryWith name.now document.now found.now) }
 {
     let bytes = image(alloc, name, document, placed, found)?;
     read_back(alloc, &bytes)
@@ -73,7 +68,7 @@ fn make<'a, F: Files>(
     document: &[u8],
     files: &mut F,
 ) -> Result<Made, CommandError<'a>>
-    ensures ok { IfOk result (λ m. IsMade policy.now document.now (F.held files.old) (F.history files.old) (F.history files.new) m.files m.parts m.tables) }
+    ensures ok { IfOk result (HasMade policy.now document.now (F.held files.old) (F.history files.old) (F.history files.new)) }
     ensures err { IfErr result (NotMade policy.now document.now (F.held files.old) (F.history files.old) (F.history files.new)) }
     ensures held { F.held files.new ≡ F.held files.old }
 {
@@ -104,8 +99,8 @@ fn ready<'a, F: Files>(
     policy: &'a str,
     files: &mut F,
 ) -> Result<BeforeRecord, CommandError<'a>>
-    ensures ok { IfOk result (λ x. IsReady (boot_command policy.now) (F.held files.old) (F.history files.old) (F.history files.new) ((policy.now, x.document) ∷ x.made.files) x.made.parts (Some x.made.tables)) }
-    ensures err { IfErr result (λ error. (inputs : List ℕ) → StopsCommand (boot_command policy.now inputs) (F.held files.old) (F.history files.old) (F.history files.new) error) }
+    ensures ok { IfOk result (IsReadyToBoot policy.now (F.held files.old) (F.history files.old) (F.history files.new)) }
+    ensures err { IfErr result (StopsEach (boot_command policy.now) (F.held files.old) (F.history files.old) (F.history files.new)) }
     ensures held { F.held files.new ≡ F.held files.old }
 {
     let document = load(alloc, policy, POLICY_MOST, files)?;
@@ -135,7 +130,7 @@ fn read_all<'a, F: Files>(
     inputs: &'a str,
     files: &mut F,
 ) -> Result<Loaded, CommandError<'a>>
-    ensures ok { IfOk result (λ x. IsAnswered (boot_command policy.now inputs.now) (F.held files.old) (F.history files.old) (F.history files.new) (prints (run_text x.tables x.parts x.input))) }
+    ensures ok { IfOk result (IsAnsweredByRun (boot_command policy.now inputs.now) (F.held files.old) (F.history files.old) (F.history files.new)) }
     ensures orderly { IfOk result (λ x. IsOrderly x.input) }
     ensures err { IfErr result (StopsCommand (boot_command policy.now inputs.now) (F.held files.old) (F.history files.old) (F.history files.new)) }
     ensures held { F.held files.new ≡ F.held files.old }

@@ -1,13 +1,12 @@
 // The command `build`: a policy is read, and its image is written, and the tables of its domains of devices,
 // if a file is named for them.
-ghost use Rattle.std.specs.Prelude.{◌≡◌, ℕ, List, Option, Some, IfOk, IfErr, IfSome, is_some, option_map};
+ghost use Rattle.std.specs.Prelude.{◌≡◌, Option, Some, IfOk, IfErr, IfSome, is_some, option_map};
 ghost use Rattle.muen_outside.specs.States.{SinkState};
 ghost use Rattle.policy_lawful.specs.Resolution.{source_of};
 ghost use Rattle.muen_top.specs.Calls.{ComesOfBuild};
-ghost use Rattle.muen_top.specs.Commands.{build as build_command};
-ghost use Rattle.muen_top.specs.Images.{IsBuilt};
+ghost use Rattle.muen_top.specs.Images.{HasBuilt};
 ghost use Rattle.muen_top.specs.Kept.{EndsBuilt, EndsTables, EndsWrite};
-ghost use Rattle.muen_top.specs.PolicyCommands.{StopsCommand};
+ghost use Rattle.muen_top.specs.PolicyCommands.{StopsBuild};
 ghost use Rattle.muen_top.specs.Tables.{IsTablesFor};
 
 use crate::loading::load;
@@ -46,9 +45,9 @@ fn built_of<'a, F: Files>(
     wanted: bool,
     files: &mut F,
 ) -> Result<Built, CommandError<'a>>
-    ensures ok { IfOk result (λ b. IsBuilt policy.now (F.held files.old) (F.history files.old) (F.history files.new) b.image.items (option_map (λ v. v.items) b.tables)) }
+    ensures ok { IfOk result (HasBuilt policy.now (F.held files.old) (F.history files.old) (F.history files.new)) }
     ensures there { IfOk result (λ b. is_some b.tables ≡ wanted) }
-    ensures err { IfErr result (λ error. (image : List ℕ) (dma : Option (List ℕ)) → StopsCommand (build_command policy.now image dma) (F.held files.old) (F.history files.old) (F.history files.new) error) }
+    ensures err { IfErr result (StopsBuild policy.now (F.held files.old) (F.history files.old) (F.history files.new)) }
     ensures held { F.held files.new ≡ F.held files.old }
 {
     let document = load(alloc, policy, POLICY_MOST, files)?;

@@ -9,8 +9,7 @@ ghost use Rattle.muen_top.specs.Calls.{Answered, DoesAnswer, EndsAnswered, Files
 ghost use Rattle.muen_top.specs.Commands.{command_of};
 ghost use Rattle.muen_top.specs.Complete.{IsComplete};
 ghost use Rattle.muen_top.specs.Headline.{BootPrintsSystem, BuildWritesImage, RunOfBuiltPrintsSystem, RunOfSoundPrintsSystem, VerifyAcceptsBuilt, VerifyTellsFault, VerifyTellsSound};
-ghost use Rattle.muen_top.specs.Reports.{Reported, status_of};
-ghost use Rattle.muen_top.specs.declared.outcome.Outcome.{Outcome};
+ghost use Rattle.muen_top.specs.Reports.{IsReported};
 
 mod boot;
 mod build;
@@ -136,7 +135,7 @@ pub fn muen<F: Files, S: Sink, E: Sink>(
     ensures no_memory { result ≡ Status.NoMemory → MemoryRefused (map string_bytes words.now) (F.history files.old) (F.history files.new) }
 
     // One line is put to `err` where the status isn't 0.
-    ensures reports { (outcome : Outcome) × (result ≡ status_of outcome) × Reported (E.state err.old) (E.state err.new) outcome }
+    ensures reports { IsReported (E.state err.old) (E.state err.new) result }
 
     // Nothing is written or put where nothing is to be.
     ensures unwritten { result ≢ Status.Done → result ≢ Status.FileFault → result ≢ Status.NoMemory → writes_since (F.history files.old) (F.history files.new) ≡ [] }

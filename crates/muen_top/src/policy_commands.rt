@@ -3,10 +3,9 @@ ghost use Rattle.std.specs.Prelude.{◌≡◌, Some, IfOk, IfErr};
 ghost use Rattle.flow_report.specs.FlowText.{flow_text_of};
 ghost use Rattle.map_report.specs.MapText.{map_text_of};
 ghost use Rattle.policy_lawful.specs.Resolution.{source_of};
-ghost use Rattle.muen_top.specs.Answers.{prints};
 ghost use Rattle.muen_top.specs.Calls.{ComesOfCommand};
 ghost use Rattle.muen_top.specs.Commands.{flows as flows_command, map as map_command};
-ghost use Rattle.muen_top.specs.PolicyCommands.{IsAnswered, StopsCommand};
+ghost use Rattle.muen_top.specs.PolicyCommands.{IsAnsweredByFlows, IsAnsweredByMap, StopsCommand};
 ghost use Rattle.muen_top.specs.Runs.{RunsTo};
 
 use crate::loading::load;
@@ -25,7 +24,7 @@ fn read_placed<'a, F: Files>(
     policy: &'a str,
     files: &mut F,
 ) -> Result<Placed, CommandError<'a>>
-    ensures ok { IfOk result (λ x. IsAnswered (map_command policy.now) (F.held files.old) (F.history files.old) (F.history files.new) (prints (map_text_of (source_of x.expanded.lawful)))) }
+    ensures ok { IfOk result (IsAnsweredByMap policy.now (F.held files.old) (F.history files.old) (F.history files.new)) }
     ensures err { IfErr result (StopsCommand (map_command policy.now) (F.held files.old) (F.history files.old) (F.history files.new)) }
     ensures held { F.held files.new ≡ F.held files.old }
 {
@@ -68,7 +67,7 @@ fn read_lawful<'a, F: Files>(
     policy: &'a str,
     files: &mut F,
 ) -> Result<Lawful, CommandError<'a>>
-    ensures ok { IfOk result (λ x. IsAnswered (flows_command policy.now) (F.held files.old) (F.history files.old) (F.history files.new) (prints (flow_text_of (source_of x)))) }
+    ensures ok { IfOk result (IsAnsweredByFlows policy.now (F.held files.old) (F.history files.old) (F.history files.new)) }
     ensures err { IfErr result (StopsCommand (flows_command policy.now) (F.held files.old) (F.history files.old) (F.history files.new)) }
     ensures held { F.held files.new ≡ F.held files.old }
 {

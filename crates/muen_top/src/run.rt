@@ -1,20 +1,17 @@
 // The command `run`: an image, tables for direct memory access, if a file of them is named, and a record
 // are read, and the image's run is printed.
-ghost use Rattle.std.specs.Prelude.{◌≡◌, List, ℕ, Ok, Err, Some, IfOk, IfErr, if◌then◌else◌, None, option_map};
+ghost use Rattle.std.specs.Prelude.{◌≡◌, List, Ok, Err, Some, IfOk, IfErr, if◌then◌else◌, None, option_map};
 ghost use Rattle.std.specs.Str.{bytes_eq};
-ghost use Rattle.image_pack.specs.Faults.{Tells, unpacked};
 ghost use Rattle.image_pack.specs.fault.ImageFault.{ImageFault};
-ghost use Rattle.dma_tables.specs.DmaFile.{dma_file};
 ghost use Rattle.dma_tables.specs.Tables.{IsDmaFile};
 ghost use Rattle.muen_num.specs.declared.limits.TheConstants.{IMAGE_MOST};
 ghost use Rattle.muen_outside.specs.States.{Look};
 ghost use Rattle.muen_outside.specs.Store.{find_bytes};
 ghost use Rattle.muen_run.specs.RunText.{run_text};
 ghost use Rattle.muen_top.specs.Calls.{ComesOfRun};
-ghost use Rattle.muen_top.specs.CommandErrors.{error_of_dma_fault};
 ghost use Rattle.muen_top.specs.Commands.{run as run_command};
-ghost use Rattle.muen_top.specs.Loads.{AreTables, HasTables, IsKnown, IsReadyToRun, KnowsAlone, LacksTables, NotTables, read_before};
-ghost use Rattle.muen_top.specs.PolicyCommands.{IsAnsweredByRun, StopsCommand};
+ghost use Rattle.muen_top.specs.Loads.{AreTables, HasTables, IsKnown, IsReadyToRun, KnowsAlone, LacksTables, NotTables, TellsDmaFault, read_before};
+ghost use Rattle.muen_top.specs.PolicyCommands.{IsAnsweredByRun, StopsCommand, StopsRun};
 ghost use Rattle.muen_top.specs.Runs.{RunsTo};
 ghost use Rattle.record_text.specs.Law.{IsOrderly};
 
@@ -64,7 +61,7 @@ pub(crate) fn known_as<'b>(name: &str, other: &str, bytes: &'b [u8]) -> Option<&
 // The tables of these bytes.
 fn tables_in<'a>(alloc: Global, bytes: &[u8]) -> Result<DmaTables, CommandError<'a>>
     ensures ok { IfOk result (IsDmaFile bytes.now) }
-    ensures err { IfErr result (λ error. (fault : ImageFault) × Tells (unpacked dma_file bytes.now) (Err fault) × (error ≡ error_of_dma_fault fault)) }
+    ensures err { IfErr result (TellsDmaFault bytes.now) }
 {
     match dma_tables::unpack(alloc, bytes) {
         Ok(tables) => Ok(tables),
@@ -118,7 +115,7 @@ fn ready<'a, F: Files>(
     files: &mut F,
 ) -> Result<BeforeRecord, CommandError<'a>>
     ensures ok { IfOk result (IsReadyToRun image.now (option_map (λ n. n.now) dma.entry) (F.held files.old) (F.history files.old) (F.history files.new)) }
-    ensures err { IfErr result (λ error. (inputs : List ℕ) → StopsCommand (run_command image.now inputs (option_map (λ n. n.now) dma.entry)) (F.held files.old) (F.history files.old) (F.history files.new) error) }
+    ensures err { IfErr result (StopsRun image.now (option_map (λ n. n.now) dma.entry) (F.held files.old) (F.history files.old) (F.history files.new)) }
     ensures held { F.held files.new ≡ F.held files.old }
 {
     let bytes = load(alloc, image, IMAGE_MOST, files)?;

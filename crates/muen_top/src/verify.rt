@@ -1,18 +1,14 @@
 // The command `verify`: an image and a policy are read, with the files that its contents name, and it is
 // told whether the image is sound for them.
-ghost use Rattle.std.specs.Prelude.{◌≡◌, [], ◌∷◌, List, ℕ, Ok, Some, IfOk, IfErr};
-ghost use Rattle.image_pack.specs.Faults.{unpacked};
-ghost use Rattle.image_pack.specs.Image.{image as image_form};
-ghost use Rattle.image_pack.specs.Parts.{IsImage};
+ghost use Rattle.std.specs.Prelude.{◌≡◌, [], ◌∷◌, Ok, Some, IfOk, IfErr};
 ghost use Rattle.image_verify.specs.Verdict.{AreOfFiles};
 ghost use Rattle.muen_build.specs.Accepting.{HasContents};
 ghost use Rattle.policy_lawful.specs.Resolution.{source_of};
 ghost use Rattle.muen_top.specs.Calls.{ComesOfCommand};
 ghost use Rattle.muen_top.specs.Commands.{verify as verify_command};
-ghost use Rattle.muen_top.specs.FilesSeen.{Saw};
-ghost use Rattle.muen_top.specs.PolicyCommands.{StopsCommand};
+ghost use Rattle.muen_top.specs.PolicyCommands.{StopsCommand, StopsEach};
 ghost use Rattle.muen_top.specs.Reports.{sound_text};
-ghost use Rattle.muen_top.specs.Verifying.{EndsFound, HasAllRead, HasLawful, IsFound, LacksAny, NotLawful, image_looks};
+ghost use Rattle.muen_top.specs.Verifying.{EndsFound, HasItsParts, HasPolicy, HasToJudge, IsFound, LacksAny, NotLawful, SawImage, image_looks};
 ghost use Rattle.muen_outside.specs.Puts.{Puts};
 
 use crate::loading::{load, load_too};
@@ -41,9 +37,9 @@ fn read_image<'a, F: Files>(
     image: &'a str,
     files: &mut F,
 ) -> Result<ImageRead, CommandError<'a>>
-    ensures ok { IfOk result (λ x. Saw (F.held files.old) (F.history files.old) (F.history files.new) (image_looks image.now x.bytes)) }
-    ensures parts { IfOk result (λ x. IsImage x.bytes x.parts × (unpacked image_form x.bytes ≡ Ok x.parts)) }
-    ensures err { IfErr result (λ error. (policy : List ℕ) → StopsCommand (verify_command image.now policy) (F.held files.old) (F.history files.old) (F.history files.new) error) }
+    ensures ok { IfOk result (SawImage image.now (F.held files.old) (F.history files.old) (F.history files.new)) }
+    ensures parts { IfOk result HasItsParts }
+    ensures err { IfErr result (StopsEach (verify_command image.now) (F.held files.old) (F.history files.old) (F.history files.new)) }
     ensures held { F.held files.new ≡ F.held files.old }
 {
     let bytes = load(alloc, image, IMAGE_MOST, files)?;
@@ -66,7 +62,7 @@ fn read_policy<'a, F: Files>(
     policy: &'a str,
     files: &mut F,
 ) -> Result<PolicyRead, CommandError<'a>>
-    ensures ok { IfOk result (λ x. HasLawful (image_looks image.now bytes.now) policy.now (F.held files.old) (F.history files.old) (F.history files.new) x.document x.policy) }
+    ensures ok { IfOk result (HasPolicy (image_looks image.now bytes.now) policy.now (F.held files.old) (F.history files.old) (F.history files.new)) }
     ensures err { IfErr result (NotLawful (image_looks image.now bytes.now) policy.now (F.held files.old) (F.history files.old) (F.history files.new)) }
     ensures held { F.held files.new ≡ F.held files.old }
 {
@@ -157,7 +153,7 @@ fn read_all<'a, F: Files>(
     policy: &'a str,
     files: &mut F,
 ) -> Result<ToJudge, CommandError<'a>>
-    ensures ok { IfOk result (λ x. HasAllRead image.now policy.now (F.held files.old) (F.history files.old) (F.history files.new) x.parts x.policy x.things) }
+    ensures ok { IfOk result (HasToJudge image.now policy.now (F.held files.old) (F.history files.old) (F.history files.new)) }
     ensures err { IfErr result (StopsCommand (verify_command image.now policy.now) (F.held files.old) (F.history files.old) (F.history files.new)) }
     ensures held { F.held files.new ≡ F.held files.old }
 {

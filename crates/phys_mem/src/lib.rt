@@ -1,8 +1,8 @@
 //! Physical memory: pages by their numbers, with loads and stores of the lowest byte first.
 //!
 //! Memory isn't everywhere: a page that no region has isn't there, and nothing is read or written
-//! in it. Both memories are made of spans of pages: in `RegionMem` a page is found by a binary
-//! search, in `FrameMem` by two reads of tables, however many pages there are.
+//! in it. Both memories are made of spans of pages: in `FrameMem` a page is found by two reads of
+//! tables, however many pages there are, in `RegionMem`, which no program runs, by a binary search.
 #![tactic(auto)]
 
 mod frame_mem;

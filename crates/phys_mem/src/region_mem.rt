@@ -10,7 +10,9 @@ use muen_num::limits::PAGE;
 use muen_num::{AccessSize, NoMemory};
 use std::alloc::Global;
 
-/// Memory that is made of spans of pages. A page is found by a binary search over the pages' numbers.
+/// No program runs it: tests hold `FrameMem`, which runs use, against it (tests_machine/src/memory.rt,
+/// machine/stores.rt). It is memory that is made of spans of pages; a page is found by a binary search
+/// over the pages' numbers.
 #[derive(Debug, Drop)]
 pub struct RegionMem {
     numbers: Vec<u64>,

@@ -5,7 +5,7 @@ use Rattle.frame_clock.specs.declared.plan.Plan.{Plan}
 use Rattle.policy_lawful.specs.Lawful.{IsLawful}
 use Rattle.policy_lawful.specs.Resolution.{IsResolved, Resolution, source_of}
 use Rattle.plan_emit.specs.Emitted.{emitted, fits_group, fits_major}
-use Rattle.plan_emit.specs.PlanOf.{IsPlanOf}
+use Rattle.image_soundness.specs.PlanOf.{IsPlanOf}
 use Rattle.plan_emit.proofs.Fitting.{groups_fit, majors_fit}
 use Rattle.plan_emit.proofs.EmittedGroups.{firsts_emitted, firsts_there, groups_emitted}
 use Rattle.plan_emit.proofs.EmittedFrames.{cpus_emitted, frames_emitted}

@@ -3,7 +3,7 @@ ghost use Rattle.std.specs.Prelude.{◌≡◌, true, IfOk};
 ghost use Rattle.std.specs.List.{list_all};
 ghost use Rattle.policy_lawful.specs.Resolution.{source_of};
 ghost use Rattle.plan_emit.specs.Emitted.{fits_group, fits_major, plan_of};
-ghost use Rattle.plan_emit.specs.PlanOf.{IsPlanOf};
+ghost use Rattle.image_soundness.specs.PlanOf.{IsPlanOf};
 
 use crate::frames::major_parts;
 use crate::groups::group_parts;

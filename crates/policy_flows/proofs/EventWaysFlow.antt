@@ -13,7 +13,8 @@ use Rattle.policy_lawful.specs.source.Channel.{Channel}
 use Rattle.policy_lawful.specs.source.Source.{Source}
 use Rattle.policy_lawful.specs.source.SourceWay.{SourceWay}
 use Rattle.policy_lawful.specs.source.Subject.{Subject}
-use Rattle.policy_flows.specs.Flows.{by_channel, by_event, is_writer, reaches, ways_of}
+use Rattle.policy_flows.specs.Flows.{by_channel, by_event, reaches, ways_of}
+use Rattle.policy_lawful.specs.MoreRules.{is_writer}
 use Rattle.policy_flows.proofs.EventWays.{by_either, by_source, channel_end_of_way, from_source, source_of_way, way_counts}
 use Rattle.muen_num.proofs.Members.{In, any_in, any_some, at_in, filter_some, flat_some, map_some}
 use Rattle.policy_flows.proofs.UniqueSubjects.{HasUniqueNames}

@@ -5,6 +5,7 @@ use Rattle.std.specs.Option.{option_map_or}
 use Rattle.std.specs.List.{All, filter_map, list_any}
 use Rattle.std.specs.Str.{bytes_eq}
 use Rattle.muen_num.specs.declared.access.AccessKind.TheVariants.{Write}
+use Rattle.policy_lawful.specs.MoreRules.{is_writer}
 use Rattle.policy_lawful.specs.Events.{Raised, channel_ends, event_of, reads_from}
 use Rattle.policy_lawful.specs.Thing.{Thing, region, same_thing}
 use Rattle.policy_lawful.specs.Windows.{windows_of}
@@ -17,10 +18,6 @@ use Rattle.policy_lawful.specs.source.SourceWay.TheVariants.{Call}
 use Rattle.policy_lawful.specs.source.Subject.{Subject}
 
 -- ---- direct flows
-
-abbrev pub is_writer : Role → Bool
-is_writer Writer = true
-is_writer Reader = false
 
 -- u writes a channel that s reads
 abbrev pub by_channel : Source → Subject → Subject → Bool

@@ -5,7 +5,8 @@ use Rattle.std.specs.Prelude.{◌&&◌, nat_le, nat_lt}
 use Rattle.std.specs.List.{list_all}
 use Rattle.std.specs.Str.{bytes_eq}
 use Rattle.std.proofs.lemmas.Bool.{and_parts, eqb-true, leb-true, ltb-true}
-use Rattle.policy_lawful.specs.Rules.{is_page_aligned, is_page_size, is_physical, is_guest, is_laid, component_offence, window_extents, window_offence, offence_4}
+use Rattle.policy_lawful.specs.Rules.{is_page_size, is_physical, is_guest, is_laid, component_offence, window_extents, window_offence, offence_4}
+use Rattle.muen_num.specs.Numbers.{is_page_aligned}
 use Rattle.muen_num.specs.Search.{first_in, unless}
 use Rattle.muen_num.specs.declared.limits.TheConstants.{PAGE, PHYSICAL_END}
 use Rattle.policy_lawful.specs.Offences.{alone, two}

@@ -12,7 +12,8 @@ use Rattle.muen_num.proofs.SearchLaws.{all_pass}
 use Rattle.muen_num.specs.declared.mode.EventMode.{EventMode}
 use Rattle.muen_num.specs.declared.limits.TheConstants.{FIRST_VECTOR, LAST_VECTOR}
 use Rattle.policy_lawful.proofs.EachPasses.{all_filter, all_flat, all_some}
-use Rattle.policy_lawful.specs.MoreRules.{are_distinct, are_vectors, has_vector, offence_15, vectors_of}
+use Rattle.policy_lawful.specs.MoreRules.{are_vectors, has_vector, offence_15, vectors_of}
+use Rattle.muen_num.specs.Numbers.{are_distinct}
 use Rattle.policy_lawful.specs.Offences.{alone}
 use Rattle.policy_lawful.specs.Events.{ChannelEnd, Raised, Target, channel_ends, channel_event, channel_targets, event_of, event_targets, named_event, reads_from, same_way, writes_by}
 use Rattle.policy_types.specs.declared.source.Channel.{Channel}

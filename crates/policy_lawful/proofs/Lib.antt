@@ -1,9 +1,13 @@
 pub use Rattle.policy_meaning.proofs.Items
+mod RuleExamples
+pub use Rattle.policy_meaning.proofs.SameThings
+pub use Rattle.policy_meaning.proofs.NoPages
 pub mod ChosenEntries
 pub mod EachPasses
 pub mod EachView
 pub mod EndsByIndex
 pub mod ExtentsByIndex
+pub mod FirstIndexes
 pub mod Indexes
 pub mod Keeps
 pub mod KeptAddresses
@@ -26,7 +30,6 @@ pub mod NoFiles
 pub mod Offences
 pub mod Positions
 pub mod RegionsByIndex
-mod RuleExamples
 pub mod SeenAtIndex
 pub mod SourceElements
 pub mod UniqueNames

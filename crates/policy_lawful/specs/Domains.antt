@@ -7,7 +7,8 @@ use Rattle.std.specs.Str.{bytes_eq}
 use Rattle.muen_num.specs.declared.limits.TheConstants.{BDF_DEVICES, BDF_FUNCTIONS, GUEST_END, MOST_DOMAINS}
 use Rattle.muen_num.specs.Search.{first_of, first_in, first_after, first_pair, unless}
 use Rattle.policy_lawful.specs.Offences.{alone, two}
-use Rattle.policy_lawful.specs.Rules.{are_apart, at_most, is_declared, is_page_aligned, repeated, subject_cpu, is_on}
+use Rattle.policy_lawful.specs.Rules.{are_apart, at_most, is_declared, repeated, subject_cpu, is_on}
+use Rattle.muen_num.specs.Numbers.{is_page_aligned}
 use Rattle.policy_lawful.specs.declared.offence.Extent.{Extent}
 use Rattle.policy_lawful.specs.declared.offence.Offence.{Offence}
 use Rattle.policy_types.specs.Rights.{may_execute}

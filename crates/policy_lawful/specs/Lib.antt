@@ -10,6 +10,8 @@ pub use Rattle.policy_types.specs.declared.refusal
 pub use Rattle.policy_types.specs.declared.resources
 pub use Rattle.policy_types.specs.declared.rights
 pub use Rattle.policy_types.specs.declared.source
+pub use Rattle.policy_types.specs.MsrGrants
+pub use Rattle.policy_types.specs.PortRanges
 pub mod ByIndex
 pub mod Counts
 pub mod Domains

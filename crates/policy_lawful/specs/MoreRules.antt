@@ -35,11 +35,7 @@ use Rattle.policy_types.specs.declared.source.EventTarget.{EventTarget}
 use Rattle.policy_types.specs.declared.source.SourceWay.{SourceWay}
 use Rattle.policy_types.specs.declared.source.SourceWay.TheVariants.{Call, Trap}
 use Rattle.policy_types.specs.declared.source.Subject.{Subject}
-
--- no two of these numbers are equal
-abbrev pub are_distinct : List ℕ → Bool
-are_distinct [] = true
-are_distinct (n ∷ ns) = not (list_any (λ m. m == n) ns) && are_distinct ns
+use Rattle.muen_num.specs.Numbers.{are_distinct}
 
 -- ---- rule 6: the entries of a channel
 

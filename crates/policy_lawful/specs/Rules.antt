@@ -28,6 +28,7 @@ use Rattle.policy_types.specs.declared.source.MajorFrame.{MajorFrame}
 use Rattle.policy_types.specs.declared.source.CpuFrames.{CpuFrames}
 use Rattle.policy_types.specs.declared.source.MinorFrame.{MinorFrame}
 use Rattle.policy_types.specs.declared.source.Tau0.{Tau0}
+use Rattle.muen_num.specs.Numbers.{is_page_aligned}
 
 -- ---- names that are printed for frames and CPUs
 
@@ -153,9 +154,6 @@ offence_3 p =
     )
 
 -- ---- rule 4: addresses and sizes
-
-abbrev pub is_page_aligned : ℕ → Bool
-is_page_aligned n = n % PAGE == 0
 
 abbrev pub is_page_size : ℕ → Bool
 is_page_size n = is_page_aligned n && nat_lt 0 n

@@ -1,2 +1,4 @@
 mod Examples
 pub mod Items
+pub mod NoPages
+pub mod SameThings

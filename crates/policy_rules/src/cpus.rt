@@ -3,7 +3,7 @@ ghost use Rattle.std.specs.Prelude.{◌≡◌, ◌&&◌, nat_lt};
 ghost use Rattle.std.specs.List.{enumerate_from};
 ghost use Rattle.muen_num.specs.Search.{first_in, unless};
 ghost use Rattle.policy_lawful.specs.Offences.{alone, two};
-ghost use Rattle.policy_lawful.specs.Resolution.{source_of};
+ghost use Rattle.policy_lawful.specs.Resolution.{IsResolved, source_of};
 ghost use Rattle.policy_lawful.specs.Rules.{major_name, cpu_name, offence_3};
 ghost use Rattle.policy_rules.specs.Cpus.{cpus_offence, plan_cpus_offence};
 
@@ -77,7 +77,9 @@ fn of_elements(
 /// Rule 3: the number of CPUs, and the CPUs of subjects, groups and frames.
 #[tactic(auto, using(crate::proofs::CpusByIndex::cpus_by_index))]
 pub(crate) fn cpus(policy: &Linked) -> Option<Offence>
-    ensures { result ≡ offence_3 (source_of policy.now) }
+    ensures offence { result ≡ offence_3 (source_of policy.now) }
+    // Each name refers to what is there, since the policy's type says so.
+    ensures resolved { IsResolved policy.now }
 {
     of_elements(
         policy.processor().logical_cpus,

@@ -1,5 +1,5 @@
 // The rules by their numbers.
-ghost use Rattle.std.specs.Prelude.{◌≡◌, ⊤, None, true};
+ghost use Rattle.std.specs.Prelude.{◌≡◌, ⊤, None};
 ghost use Rattle.std.specs.Option.{option_or};
 ghost use Rattle.muen_num.specs.Answers.{Answers};
 ghost use Rattle.muen_num.specs.Search.{as_refusal};
@@ -43,7 +43,8 @@ fn keep(number: u8, offence: Option<Offence>) -> Result<(), Refusal>
 
 // Rules 3 to 8, or the least of them that is broken.
 fn memory_rules(alloc: Global, policy: &Linked) -> Result<(), Refusal>
-    ensures { Keeps (memory_broken (source_of policy.now)) (λ _. offence_4 (source_of policy.now) ≡ None) result }
+    ensures kept { Keeps (memory_broken (source_of policy.now)) (λ _. offence_4 (source_of policy.now) ≡ None) result }
+    ensures resolved { IsResolved policy.now }
 {
     keep(3, cpus(policy))?;
     keep(4, addresses(policy))?;
@@ -91,20 +92,13 @@ fn domains_rules(alloc: Global, policy: &Linked) -> Result<(), Refusal>
 
 // All rules from 3 on, or the least of them that is broken.
 fn all_rules(alloc: Global, policy: &Linked) -> Result<(), Refusal>
-    ensures { let p = source_of policy.now in Keeps (option_or (memory_broken p) (option_or (grants_broken p) (option_or (plan_broken p) (domains_broken p)))) (λ _. ⊤) result }
+    ensures kept { let p = source_of policy.now in Keeps (option_or (memory_broken p) (option_or (grants_broken p) (option_or (plan_broken p) (domains_broken p)))) (λ _. ⊤) result }
+    ensures resolved { IsResolved policy.now }
 {
     memory_rules(alloc, policy)?;
     grants_rules(alloc, policy)?;
     plan_rules(alloc, policy)?;
     domains_rules(alloc, policy)
-}
-
-// Whether each name refers to what is there: it does, since the policy's type says so.
-fn is_resolved(policy: &Linked) -> bool
-    ensures is { IsResolved policy.now }
-    ensures holds { result ≡ true }
-{
-    policy.subjects().len() <= usize::MAX
 }
 
 /// The policy, where it keeps every rule; else the least rule that is broken, with its two names, or
@@ -113,7 +107,6 @@ fn is_resolved(policy: &Linked) -> bool
 pub fn check(alloc: Global, policy: Linked) -> Result<Lawful, Refusal>
     ensures { Answers OutOfMemory (kept_or (source_of policy) (unlawful (source_of policy))) (kept_source result) }
 {
-    prove!(is_resolved(&policy));
     match all_rules(alloc, &policy) {
         Ok(()) => Ok(Lawful::make(policy.resolved(alloc)?)),
         Err(refusal) => Err(refusal),

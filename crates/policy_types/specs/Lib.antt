@@ -1,2 +1,4 @@
+pub mod MsrGrants
+pub mod PortRanges
 pub mod Refusals
 pub mod Rights

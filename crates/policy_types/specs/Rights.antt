@@ -34,12 +34,6 @@ rights_bits Rw = 3
 rights_bits Rx = 5
 rights_bits Rwx = 7
 
--- the bit of the right that a kind of access needs
-abbrev pub right_for : AccessKind → ℕ
-right_for Read = 1
-right_for Write = 2
-right_for Fetch = 4
-
 -- the rights that were found; none are no bits
 abbrev pub found_bits : Option Rights → ℕ
 found_bits None = 0

@@ -42,9 +42,9 @@ impl Flags for RightSet {
 /// The right that a kind of access needs.
 impl From<AccessKind> for RightSet {
     ghost use Rattle.std.specs.Prelude.{◌≡◌};
-    ghost use Rattle.policy_types.specs.Rights.{right_for};
+    ghost use Rattle.muen_num.specs.Access.{kind_bit};
 
-    ghost from_gives = { λ kind set. set.0 ≡ right_for kind };
+    ghost from_gives = { λ kind set. set.0 ≡ kind_bit kind };
 
     fn from(kind: AccessKind) -> RightSet {
         match kind {

@@ -10,7 +10,7 @@ use Rattle.ept_emit.specs.declared.window.Window.{Window}
 use Rattle.ept_emit.specs.Emitted.{HasAddresses}
 use Rattle.expand_kernel.specs.Grants.{AreGrantsOf}
 use Rattle.expand_kernel.specs.granted.Grants.{Grants}
-use Rattle.policy_lawful.specs.ByIndex.{provided_at}
+use Rattle.policy_lawful.specs.ByIndex.{provided_at, memories_of}
 use Rattle.expand_kernel.specs.Regions.{anywhere}
 use Rattle.expand_kernel.specs.declared.region.Region.{Region}
 use Rattle.expand_kernel.specs.declared.region.RegionKind.TheVariants.{Kernel}
@@ -28,13 +28,14 @@ use Rattle.muen_num.proofs.Pairs.{other_at}
 use Rattle.muen_num.specs.declared.limits.TheConstants.{GUEST_END, PAGE}
 use Rattle.muen_num.specs.declared.tag.TagPart.TheVariants.{State as StatePart}
 use Rattle.region_alloc.proofs.OwnRegions.{region_at as memory_at}
-use Rattle.policy_lawful.specs.Rules.{is_guest, is_page_aligned, is_page_size}
+use Rattle.policy_lawful.specs.Rules.{is_guest, is_page_size}
+use Rattle.muen_num.specs.Numbers.{is_page_aligned}
 use Rattle.policy_lawful.specs.declared.resolved.Subject.{Subject}
 use Rattle.policy_lawful.specs.source.Device.{Device as SomeDevice}
 use Rattle.policy_lawful.specs.source.DeviceMemory.{DeviceMemory}
 use Rattle.policy_lawful.specs.declared.view.Shown.{Shown}
 use Rattle.policy_lawful.specs.declared.view.Shown.TheVariants.{Memory, Channel, Provided, Device, State}
-use Rattle.span_emit.specs.Spans.{device_span, device_spans, memories_of, region_span, region_spans}
+use Rattle.span_emit.specs.Spans.{device_span, device_spans, region_span, region_spans}
 use Rattle.span_emit.specs.SpansOf.{spans_of}
 use Rattle.subject_emit.specs.Mapped.{brought_before, kernel_first, mapped, mapped_windows, shown_address}
 use Rattle.subject_emit.specs.Shows.{shown_size}

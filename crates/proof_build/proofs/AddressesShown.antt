@@ -9,17 +9,17 @@ use Rattle.std.proofs.lemmas.Option.{slice_get-get_or, slice_get-map}
 use Rattle.std.proofs.lemmas.Slice.Zip.{AllZip-long}
 use Rattle.event_emit.specs.Tables.{AreTables}
 use Rattle.expand_kernel.specs.Grants.{AreGrantsOf}
-use Rattle.policy_lawful.specs.ByIndex.{provided_at}
+use Rattle.policy_lawful.specs.ByIndex.{provided_at, memories_of, brought_to}
 use Rattle.expand_kernel.specs.declared.region.Region.{Region}
 use Rattle.image_emit.specs.Made.{IsMade, Made, image_of, policy_of, subject_part, subject_parts}
 use Rattle.proof_build.proofs.Contents.{IsRegionOf, addresses_enough, regions_of_things, spans_of_memory, spans_of_regions, thing_spans_are, with_content}
-use Rattle.proof_build.proofs.FirstIndexes.{IsFirstAt, beside_first, first_left, first_mapped, first_named, first_piece, first_right, none_joined, none_mapped, none_pieces, other_before}
-use Rattle.proof_build.proofs.NamedViews.{shown_name, view_called}
-use Rattle.proof_build.proofs.PiecesOfLists.{zip_joined}
+use Rattle.policy_lawful.proofs.FirstIndexes.{IsFirstAt, beside_first, first_left, first_mapped, first_named, first_piece, first_right, none_joined, none_mapped, none_pieces, other_before}
+use Rattle.image_soundness.proofs.NamedViews.{shown_name, view_called}
+use Rattle.muen_num.proofs.PiecesOfLists.{zip_joined}
 use Rattle.proof_build.proofs.AddressesKept.{lies_at}
 use Rattle.image_emit.proofs.SpansOfKernel.{placed_of}
 use Rattle.image_emit.proofs.RegionSizes.{first_regions}
-use Rattle.proof_build.proofs.ThingsInOrder.{memory_thing, memory_things, provided_things, region_things, things_are}
+use Rattle.image_soundness.proofs.ThingsInOrder.{memory_thing, memory_things, provided_things, region_things, things_are}
 use Rattle.image_soundness.specs.Memory.{Span, address_at}
 use Rattle.image_soundness.specs.Sound.{address_of, addresses_of_things, thing_spans}
 use Rattle.image_pack.specs.declared.parts.SpanPart.{SpanPart}
@@ -44,9 +44,8 @@ use Rattle.policy_lawful.specs.declared.view.Shown.{Shown}
 use Rattle.policy_lawful.specs.declared.view.Shown.TheVariants.{Memory, Channel, Provided, Device, State}
 use Rattle.policy_lawful.specs.declared.view.View.{View}
 use Rattle.policy_lawful.proofs.WindowsByIndex.{name_there}
-use Rattle.span_emit.specs.Spans.{device_span, memories_of, region_span}
+use Rattle.span_emit.specs.Spans.{device_span, region_span}
 use Rattle.subject_emit.specs.Mapped.{brought_before, kernel_first, shown_address}
-use Rattle.subject_emit.specs.Shows.{brought_to}
 use Rattle.subject_emit.proofs.Numbered.{kernel_at_index}
 use Rattle.subject_emit.proofs.Pieces.{at_piece}
 

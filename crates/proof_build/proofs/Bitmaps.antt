@@ -7,6 +7,7 @@ use Rattle.std.proofs.lemmas.Bool.Decides.{nat_tests}
 use Rattle.std.proofs.lemmas.List.{take_all}
 use Rattle.std.proofs.lemmas.List.Folds.{list_all-append, list_any-append}
 use Rattle.expand_kernel.specs.Resources.{Msr, are_granted, is_granted, msr_grant, msrs_in, msrs_of, port_ranges_of, ports_of}
+use Rattle.expand_kernel.proofs.GrantedMsrs.{msr_granted}
 use Rattle.image_emit.specs.Made.{IsMade, Made, image_of, policy_of}
 use Rattle.image_emit.proofs.BySubject.{each_subject}
 use Rattle.image_emit.proofs.SpansOfKernel.{kernel_bytes_at}
@@ -15,7 +16,7 @@ use Rattle.image_soundness.specs.Memory.{bytes_at, page_at}
 use Rattle.image_soundness.specs.Sound.{ForEachSubject, HasBitmaps}
 use Rattle.subject_emit.specs.Ports.{is_granted as is_port_granted, is_granted_access}
 use Rattle.machine_layout.specs.Exits.{msr_exits, port_exits}
-use Rattle.subject_emit.specs.Msrs.{allows, has_msr, is_granted as is_msr_granted}
+use Rattle.policy_lawful.specs.MsrGrants.{allows, has_msr, is_granted as is_msr_granted}
 use Rattle.muen_num.proofs.Lists.{list_any-map}
 use Rattle.muen_num.specs.Range.{numbers_below}
 use Rattle.muen_num.specs.declared.limits.TheConstants.{LAST_PORT, PAGE}
@@ -57,49 +58,6 @@ access_granted p s ranges port size is = elim (cases_Bool (nat_le (port + size) 
 ]
 
 -- ---- MSRs
-
-and_false : (b : Bool) → (b && false || false) ≡ false
-and_false true = refl
-and_false false = refl
-
-joined : (a b c ok : Bool) → (a || b) ≡ c → (a && ok || (b && ok || false)) ≡ (c && ok)
-joined true b true ok h = elim ok as (λ ok. (ok || (b && ok || false)) ≡ ok) [ true ↦ refl | false ↦ and_false b ]
-joined true b false ok h = absurd (cc)
-joined false true true ok h = elim ok as (λ ok. (ok || false) ≡ ok) [ true ↦ refl | false ↦ refl ]
-joined false true false ok h = absurd (cc)
-joined false false true ok h = absurd (cc)
-joined false false false ok h = refl
-
-one_more : (start index n : ℕ) → ((nat_le start index && nat_lt index (start + n)) || (start + n == index)) ≡ (nat_le start index && nat_lt index (start + suc n))
-one_more start index n = grind (arith, nat_tests)
-
-none_yet : (start index : ℕ) → (nat_le start index && nat_lt index (start + 0)) ≡ false
-none_yet start index = grind (arith, nat_tests)
-
-numbered : (start index : ℕ) (ok : Bool) (n : ℕ) → list_any (λ k. (start + k == index) && ok) (numbers_below n) ≡ ((nat_le start index && nat_lt index (start + n)) && ok)
-numbered start index ok zero = ap (λ b. b && ok) (sym (none_yet start index))
-numbered start index ok (suc n) =
-    list_any-append (λ k. (start + k == index) && ok) (numbers_below n) (n ∷ [])
-    ∙ ap (λ b. b || ((start + n == index) && ok || false)) (numbered start index ok n)
-    ∙ joined (nat_le start index && nat_lt index (start + n)) (start + n == index) (nat_le start index && nat_lt index (start + suc n)) ok (one_more start index n)
-
-in_range : (start end index : ℕ) → (nat_le start index && nat_lt index (start + (end + 1 - start))) ≡ (nat_le start index && nat_le index end)
-in_range start end index = grind (arith, nat_tests)
-
--- that of one range
-pub one_range : (x : Msrs) (index : ℕ) (write : Bool) → list_any (λ (m : Msr). (m.index == index) && (if write then m.write else m.read)) (msrs_in x) ≡ (has_msr (msr_grant x) index && allows (msr_grant x) write)
-one_range x index write =
-    let ok : Bool = if write then x.rights.write else x.rights.read in
-    list_any-map (λ (m : Msr). (m.index == index) && (if write then m.write else m.read)) (λ k. record { index = x.start + k; read = x.rights.read; write = x.rights.write }) (numbers_below (x.end + 1 - x.start))
-    ∙ numbered x.start index ok (x.end + 1 - x.start)
-    ∙ ap (λ b. b && ok) (in_range x.start x.end index)
-
-pub msr_granted : (ranges : List Msrs) (index : ℕ) (write : Bool) → list_any (λ (m : Msr). (m.index == index) && (if write then m.write else m.read)) (flat_map msrs_in ranges) ≡ is_msr_granted (map msr_grant ranges) index write
-unfolding is_msr_granted
-msr_granted [] index write = refl
-msr_granted (x ∷ xs) index write =
-    list_any-append (λ (m : Msr). (m.index == index) && (if write then m.write else m.read)) (msrs_in x) (flat_map msrs_in xs)
-    ∙ ap₂ (λ a b. a || b) (one_range x index write) (msr_granted xs index write)
 
 granted_of : (r : Resolution) (s : ResolvedSubject) (index : ℕ) (write : Bool) → is_granted (msrs_of (subject_named r s)) index write ≡ is_msr_granted (map msr_grant s.msrs) index write
 unfolding msrs_of

@@ -7,7 +7,8 @@ use Rattle.std.proofs.lemmas.Bool.Decides.{nat_tests}
 use Rattle.std.proofs.lemmas.List.Elements.{filter-append}
 use Rattle.std.proofs.lemmas.List.Folds.{list_any-append}
 use Rattle.std.proofs.Math.Bool.{or-false}
-use Rattle.expand_kernel.specs.Resources.{has_port, port_ranges_of, ports_of}
+use Rattle.expand_kernel.specs.Resources.{port_ranges_of, ports_of}
+use Rattle.policy_lawful.specs.PortRanges.{has_port}
 use Rattle.muen_num.specs.Range.{numbers_below}
 use Rattle.muen_num.specs.declared.limits.TheConstants.{LAST_PORT}
 use Rattle.policy_lawful.specs.source.Source.{Source}

@@ -6,16 +6,17 @@ use Rattle.std.proofs.lemmas.List.{map-append}
 use Rattle.std.proofs.lemmas.List.Elements.{All-append, All-from_recursion, All-head, All-map, All-tail, filter-append}
 use Rattle.std.proofs.lemmas.Option.{get_or_from_slice_get, slice_get_within}
 use Rattle.expand_kernel.specs.ByIndex.{brought_at, channel_region, kernel_for, kernel_for_each, own_region, provided_region}
-use Rattle.policy_lawful.specs.ByIndex.{provided_at}
+use Rattle.policy_lawful.specs.ByIndex.{provided_at, memories_of}
 use Rattle.expand_kernel.specs.declared.region.Region.{Region}
-use Rattle.image_emit.specs.Made.{IsMade, Made, content_at, image_of, kernel_bytes, policy_of, region_bytes, thing_bytes}
+use Rattle.image_emit.specs.Made.{IsMade, Made, content_at, image_of, kernel_bytes, policy_of, region_bytes}
+use Rattle.image_soundness.specs.ThingBytes.{thing_bytes}
 use Rattle.image_emit.proofs.ByNumber.{as_many_addresses, by_number_is}
 use Rattle.image_emit.proofs.ContentLengths.{whole_regions, whole_size}
-use Rattle.proof_build.proofs.PiecesOfLists.{flat_map_at, zip_append, zip_map_both, zip_pieces}
+use Rattle.muen_num.proofs.PiecesOfLists.{flat_map_at, zip_append, zip_map_both, zip_pieces}
 use Rattle.image_emit.proofs.PlanDevices.{kept_memories}
 use Rattle.image_emit.proofs.RegionSizes.{first_regions, last_regions, regions_are}
-use Rattle.proof_build.proofs.ThingBytes.{memory_bytes_are, memory_sizes_are, region_bytes_are, region_sizes_are}
-use Rattle.proof_build.proofs.ThingsInOrder.{memory_thing, memory_things, provided_things, region_things, things_are}
+use Rattle.image_soundness.proofs.ThingBytes.{memory_bytes_are, memory_sizes_are, region_bytes_are, region_sizes_are}
+use Rattle.image_soundness.proofs.ThingsInOrder.{memory_thing, memory_things, provided_things, region_things, things_are}
 use Rattle.image_soundness.specs.Memory.{Span}
 use Rattle.image_soundness.specs.Sound.{AreContents, IsSpanOf, is_kernel, kind_of, thing_spans}
 use Rattle.image_pack.specs.declared.parts.SpanPart.{SpanPart}
@@ -26,7 +27,7 @@ use Rattle.policy_lawful.specs.Contents.{Held, initial_bytes}
 use Rattle.policy_lawful.specs.Thing.{Thing, channel, declared_size, region, thing_tag}
 use Rattle.policy_lawful.specs.source.DeviceMemory.{DeviceMemory}
 use Rattle.policy_lawful.specs.source.Source.{Source}
-use Rattle.span_emit.specs.Spans.{device_span, memories_of, region_span, region_spans, span_kind}
+use Rattle.span_emit.specs.Spans.{device_span, region_span, region_spans, span_kind}
 use Rattle.span_emit.specs.SpansOf.{spans_of}
 use Rattle.policy_lawful.proofs.KeptAddresses.{IsPhysical}
 use Rattle.span_emit.proofs.KeptRegions.{IsWhole}

@@ -22,14 +22,16 @@ use Rattle.image_emit.proofs.BySubject.{IsAtIndex, each_subject}
 use Rattle.image_emit.proofs.SpansOfKernel.{placed_of}
 use Rattle.proof_build.proofs.AddressesShown.{address_shown}
 use Rattle.proof_build.proofs.Tables.{has_tables}
-use Rattle.proof_build.proofs.Walks.{granted_at, mapped_at, on_view}
-use Rattle.proof_build.proofs.WalksByWindow.{found_contained}
+use Rattle.proof_build.proofs.Walks.{granted_at, mapped_at}
+use Rattle.image_soundness.proofs.Led.{on_view}
+use Rattle.muen_num.proofs.FoundOnce.{found_contained}
 use Rattle.image_soundness.specs.Memory.{memory_of}
 use Rattle.image_soundness.specs.Sound.{ForEachSubject, address_of}
 use Rattle.machine_layout.specs.Walks.{leaf_size, entry_size}
 use Rattle.muen_num.specs.declared.limits.TheConstants.{GUEST_END}
 use Rattle.policy_lawful.specs.Resolution.{source_of, subject_named}
-use Rattle.policy_lawful.specs.Rules.{is_guest, is_page_aligned, is_page_size}
+use Rattle.policy_lawful.specs.Rules.{is_guest, is_page_size}
+use Rattle.muen_num.specs.Numbers.{is_page_aligned}
 use Rattle.policy_lawful.specs.declared.resolved.Subject.{Subject}
 use Rattle.policy_lawful.specs.Views.{view_window, views_of}
 use Rattle.policy_lawful.specs.declared.view.View.{View}

@@ -30,10 +30,11 @@ use Rattle.policy_lawful.proofs.WindowsByIndex.{name_there}
 use Rattle.policy_lawful.specs.rights.Caching.TheVariants.{Wb}
 use Rattle.policy_lawful.specs.source.Region.{Region}
 use Rattle.proof_build.specs.Built.{HasMemoryTypes, thing_caching}
-use Rattle.proof_build.proofs.NamedViews.{shown_name, view_called}
+use Rattle.image_soundness.proofs.NamedViews.{shown_name, view_called}
 use Rattle.proof_build.proofs.Tables.{has_tables}
-use Rattle.proof_build.proofs.Walks.{granted_at, mapped_at, on_view}
-use Rattle.proof_build.proofs.WalksByWindow.{found_contained}
+use Rattle.proof_build.proofs.Walks.{granted_at, mapped_at}
+use Rattle.image_soundness.proofs.Led.{on_view}
+use Rattle.muen_num.proofs.FoundOnce.{found_contained}
 use Rattle.subject_emit.specs.Mapped.{mapped, shown_caching}
 use Rattle.subject_emit.specs.Pages.{tables_at}
 use Rattle.subject_emit.specs.declared.subject_pages.SubjectPages.{SubjectPages}

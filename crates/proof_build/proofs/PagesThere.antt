@@ -55,7 +55,7 @@ module _ (m : Made) (h : IsMade m) where
   }
 
   memory_is : memory_of (image_of m) ≡ pages_of_spans (map with_bytes m.spans)
-  unfolding memory_of image_of
+  unfolding image_of
   memory_is =
       ap (λ es. pages_of_spans (map memory_span es)) (zip_self (content_at m) m.spans)
       ∙ ap pages_of_spans (map-map memory_span (λ s. (s, content_at m s)) m.spans)

@@ -8,13 +8,13 @@ use Rattle.std.proofs.lemmas.List.Sorted.{Contains-permutation}
 use Rattle.std.proofs.lemmas.Option.{get_or_from_slice_get, slice_get_within}
 use Rattle.ept_emit.specs.Pages.{ept_pages}
 use Rattle.ept_emit.specs.Emitted.{eptp_of}
-use Rattle.ept_emit.specs.Reads.{Reads}
+use Rattle.machine_layout.specs.Reads.{Reads}
 use Rattle.event_emit.specs.declared.event_tables.EventTables.{EventTables}
 use Rattle.expand_kernel.specs.granted.Grants.{Grants}
 use Rattle.expand_kernel.specs.ByIndex.{view_ranges}
 use Rattle.expand_kernel.specs.Regions.{anywhere}
 use Rattle.expand_kernel.specs.declared.region.RegionKind.TheVariants.{Kernel}
-use Rattle.proof_build.specs.Built.{HasOnePathPerTable}
+use Rattle.image_soundness.specs.Paths.{HasOnePathPerTable}
 use Rattle.image_emit.specs.Made.{IsMade, Made, image_of, policy_of}
 use Rattle.image_emit.proofs.ByNumber.{as_many_addresses}
 use Rattle.image_emit.proofs.BySubject.{IsAtIndex, SubjectAt, subject_at}

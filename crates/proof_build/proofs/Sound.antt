@@ -15,8 +15,10 @@ use Rattle.proof_build.proofs.SpareTables.{spare_tables}
 use Rattle.proof_build.proofs.States.{states}
 use Rattle.proof_build.proofs.Tables.{tables}
 use Rattle.proof_build.proofs.Walks.{walks}
-use Rattle.proof_build.specs.Built.{HasGreatestPages, HasKernelSpans, HasMemoryTypes, HasNoSpareTables, HasOnePathPerTable, HasSpans, TablesAscend}
-use Rattle.image_emit.specs.Made.{IsEmitted, IsImageOf, IsMade, Made, image_of, policy_of, thing_bytes}
+use Rattle.proof_build.specs.Built.{HasGreatestPages, HasKernelSpans, HasMemoryTypes, HasNoSpareTables, HasSpans, TablesAscend}
+use Rattle.image_soundness.specs.Paths.{HasOnePathPerTable}
+use Rattle.image_emit.specs.Made.{IsEmitted, IsImageOf, IsMade, Made, image_of, policy_of}
+use Rattle.image_soundness.specs.ThingBytes.{thing_bytes}
 use Rattle.image_pack.specs.Parts.{IsParts}
 use Rattle.image_pack.specs.declared.parts.Image.{Image}
 use Rattle.image_soundness.specs.Sound.{ForEachSubject, IsSound}

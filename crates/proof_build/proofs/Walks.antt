@@ -16,10 +16,10 @@ use Rattle.proof_build.proofs.AddressesShown.{address_shown}
 use Rattle.image_emit.proofs.BySubject.{each_subject}
 use Rattle.proof_build.proofs.AddressesOfShown.{has_addresses}
 use Rattle.proof_build.proofs.Tables.{has_tables}
-use Rattle.proof_build.proofs.WalksByWindow.{ArePassedOnce, found_contained, found_permuted}
+use Rattle.muen_num.proofs.FoundOnce.{ArePassedOnce, found_contained, found_permuted}
 use Rattle.image_soundness.specs.Memory.{memory_of}
 use Rattle.image_soundness.specs.Sound.{ForEachSubject, HasWalks, led, address_of}
-use Rattle.machine_layout.specs.declared.walk.Walk.TheVariants.{At, Violation}
+use Rattle.image_soundness.proofs.Led.{by_rights, on_view}
 use Rattle.muen_num.proofs.Lists.{find-map, passes_at}
 use Rattle.muen_num.proofs.Numbers.{not_both}
 use Rattle.muen_num.specs.declared.access.AccessKind.{AccessKind}
@@ -35,15 +35,6 @@ use Rattle.policy_lawful.specs.declared.view.View.{View}
 use Rattle.policy_lawful.proofs.WindowsByIndex.{windows_by_index}
 use Rattle.subject_emit.specs.Mapped.{mapped, mapped_windows, shown_address}
 use Rattle.subject_emit.proofs.SamePages.{apart_mapped}
-
--- the view holds the address
-abbrev pub on_view : ℕ → View → Bool
-on_view addr v = nat_le v.guest addr && nat_lt addr (v.guest + v.size)
-
--- a byte where there is the right, and the rights that were found where there isn't
-pub by_rights : (address : Thing → ℕ) (b : Bool) (x : Thing) (to offset : ℕ) (rights : Rights) → address x ≡ to → (if b then At (to + offset) else Violation (rights_bits rights)) ≡ led address (if b then byte x offset else violation (Some rights))
-by_rights address true x to offset rights e = ap (λ n. At (n + offset)) (sym e)
-by_rights address false x to offset rights e = refl
 
 module _ (m : Made) (h : IsMade m) (k : ℕ) (s : Subject) (g : Grants) (at : slice_get (policy_of m).subjects k ≡ Some s) (there : slice_get m.placed.expanded.grants k ≡ Some g) (granted : AreGrantsOf (policy_of m) s g) where
   abbrev pub views : List View

@@ -1,11 +1,11 @@
 -- What an image of a policy has beside being sound: its spans are the policy's regions and devices, what a subject's part
--- numbers is the subject's own, no table is read at two paths, tables ascend along a walk, what no walk reads of them is zero,
+-- numbers is the subject's own, tables ascend along a walk, what no walk reads of them is zero,
 -- and its pages are the greatest and have the memory types of what they show (Intel SDM volume 3, "VMX Support for Address Translation").
 use Rattle.std.specs.Prelude.{◌≡◌, ◌⊎◌, ℕ, suc, ◌+◌, ◌*◌, ◌/◌, ◌%◌, ◌<◌, ◌≤◌, ◌&&◌, nat_le, Bool, true, List, ◌++◌, length, map, replicate, slice_get, Ok, Some}
 use Rattle.std.specs.List.{All, find, list_any}
 use Rattle.std.specs.Option.{IfSome, option_map_or}
 use Rattle.std.specs.Str.{bytes_eq}
-use Rattle.ept_emit.specs.Reads.{Reads}
+use Rattle.machine_layout.specs.Reads.{Reads}
 use Rattle.ept_emit.specs.Entries.{type_of}
 use Rattle.expand_kernel.specs.Regions.{regions_of}
 use Rattle.image_soundness.specs.Memory.{Span, by_number, memory_of, span_at}
@@ -56,20 +56,7 @@ pub record HasKernelSpans (i : Image) (s : Subject) (q : SubjectPart) : Type 0 w
   pub msrbm : tag_at i q.msrbm ≡ Some (kernel_tag s.name Msrbm)
   pub area : tag_at i q.area ≡ Some (kernel_tag s.name Msrs)
 
--- ---- paths
-
--- two reads of tables are at one path: for one subject, at one level, and for addresses in one range that a table of the
--- level covers
-pub record IsOnePath (j k level other a b : ℕ) : Type 0 where
-  pub subject : j ≡ k
-  pub depth : level ≡ other
-  pub range : a / entry_size (suc level) ≡ b / entry_size (suc level)
-
--- no page of tables is read at two paths
-abbrev pub HasOnePathPerTable : Image → Type 0
-HasOnePathPerTable i =
-    (j k : ℕ) (q r : SubjectPart) (a b level other page : ℕ) → slice_get i.subjects j ≡ Some q → slice_get i.subjects k ≡ Some r → a < GUEST_END → b < GUEST_END
-    → Reads (memory_of i) q.eptp a level page → Reads (memory_of i) r.eptp b other page → IsOnePath j k level other a b
+-- ---- along a walk
 
 -- along the walk for an address of a subject the pages of tables ascend
 abbrev pub TablesAscend : Image → SubjectPart → Type 0

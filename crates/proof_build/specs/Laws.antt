@@ -1,12 +1,14 @@
 -- What holds of every image that is made of a placed policy.
 use Rattle.std.specs.Prelude.{◌≡◌, ℕ, List}
-use Rattle.image_emit.specs.Made.{IsEmitted, IsImageOf, thing_bytes}
+use Rattle.image_emit.specs.Made.{IsEmitted, IsImageOf}
+use Rattle.image_soundness.specs.ThingBytes.{thing_bytes}
 use Rattle.image_pack.specs.declared.parts.Image.{Image}
 use Rattle.image_soundness.specs.Sound.{ForEachSubject, IsSound}
 use Rattle.policy_lawful.specs.Resolution.{source_of}
 use Rattle.policy_lawful.specs.Contents.{Held}
 use Rattle.region_alloc.specs.Placed.{Placement}
-use Rattle.proof_build.specs.Built.{HasGreatestPages, HasKernelSpans, HasMemoryTypes, HasNoSpareTables, HasOnePathPerTable, HasSpans, TablesAscend}
+use Rattle.proof_build.specs.Built.{HasGreatestPages, HasKernelSpans, HasMemoryTypes, HasNoSpareTables, HasSpans, TablesAscend}
+use Rattle.image_soundness.specs.Paths.{HasOnePathPerTable}
 
 -- where its regions hold what the policy says over some files, it is sound for the policy and these files
 abbrev pub ImagesAreSound : Type 0

@@ -1,14 +1,12 @@
 -- Tables that lead each device where a placed policy declares it fit an image whose spans are those of the policy.
-use Rattle.std.proofs.Common.{◌≡◌, ◌∙◌, ℕ, ◌+◌, true, List, Option, Some, None, find, position, is_some, refl, sym, ap, subst}
+use Rattle.std.proofs.Common.{◌≡◌, ◌∙◌, ℕ, ◌+◌, List, Option, Some, None, find, position, is_some, refl, sym, ap, subst}
 use Rattle.std.specs.Prelude.{slice_index}
 use Rattle.std.specs.Option.{option_map_or}
 use Rattle.std.specs.Str.{bytes_eq}
 use Rattle.std.proofs.lemmas.Bool.{false≢true}
 use Rattle.std.proofs.lemmas.Option.{get_or_from_slice_get}
 use Rattle.dma_emit.specs.Domains.{place_of as region_place}
-use Rattle.dma_emit.specs.Reached.{kind_of, placed_at}
-use Rattle.dma_tables.specs.DmaWalk.{dma_walk}
-use Rattle.dma_tables.specs.declared.file.DmaFile.{DmaFile}
+use Rattle.dma_emit.specs.Reached.{placed_at}
 use Rattle.dma_tables.proofs.PartsKeep.{parts_keep}
 use Rattle.dma_tables.specs.ImageConditions.{KeepsConditions}
 use Rattle.dma_tables.specs.parts.Image.{Image}
@@ -23,10 +21,11 @@ use Rattle.policy_lawful.specs.source.Region.{Region}
 use Rattle.policy_lawful.specs.source.Source.{Source}
 use Rattle.proof_build.specs.Built.{HasSpans}
 use Rattle.proof_runs.proofs.DomainWindows.{lands}
-use Rattle.proof_runs.specs.Fit.{Fit, place_of}
+use Rattle.proof_runs.specs.Fit.{place_of}
 use Rattle.dma_emit.specs.Placed.{IsPlaced, Placement}
 use Rattle.proof_domains.proofs.Places.{placed_there}
 use Rattle.muen_num.proofs.Lookups.{at_position, found_number}
+use Rattle.proof_domains.specs.Laws.{EmittedTablesFit}
 
 module _ (x : Placement) (placed : IsPlaced x) (files : Held) (i : Image) (keeps : KeepsConditions i) (sound : IsSound (source_of x.expanded.lawful) files i) (spans : HasSpans (source_of x.expanded.lawful) i) where
   abbrev p : Source
@@ -52,7 +51,6 @@ module _ (x : Placement) (placed : IsPlaced x) (files : Held) (i : Image) (keeps
   same_place device addr (byte (device_memory d name) offset) e = absurd (let is = (lands p files i keeps sound device addr Write (device_memory d name) offset e).is in cc (is))
   same_place device addr (byte (state subject) offset) e = absurd (let is = (lands p files i keeps sound device addr Write (state subject) offset e).is in cc (is))
 
-pub fits : (x : Placement) (files : Held) (i : Image) (t : DmaFile) → IsPlaced x → IsSound (source_of x.expanded.lawful) files i → HasSpans (source_of x.expanded.lawful) i
-    → ((device : List ℕ) (addr : ℕ) → dma_walk t device addr true ≡ placed_at x (dma_access (source_of x.expanded.lawful) device addr (kind_of true))) → Fit (source_of x.expanded.lawful) i (Some t)
+pub fits : EmittedTablesFit
 fits x files i t placed sound spans walk k d l addr =
     walk _ addr ∙ same_place x placed files i (parts_keep i sound.parts) sound spans _ addr (dma_access (source_of x.expanded.lawful) _ addr Write) refl

@@ -20,7 +20,7 @@ use Rattle.proof_start.proofs.OnceFacts.{thing_once}
 use Rattle.proof_start.proofs.SpansOfThings.{listed_span}
 use Rattle.dma_emit.specs.Placed.{IsPlaced, Placement}
 use Rattle.proof_build.specs.Spans.{device_spans, region_span, region_spans}
-use Rattle.proof_start.proofs.KeyLaws.{same_thing_self}
+use Rattle.policy_lawful.proofs.SameThings.{same_thing_self}
 use Rattle.dma_emit.specs.ByIndex.{channel_region, own_region, provided_regions}
 use Rattle.policy_lawful.proofs.Items.{provided_by, things_are}
 use Rattle.dma_emit.proofs.ByKind.{regions_are}

@@ -1,6 +1,8 @@
 mod Fields
+mod FormFaults
 mod Fronts
 mod ImageFields
 mod LimitExamples
 mod Readers
+mod TrailingBytes
 mod WrongFields

@@ -11,7 +11,7 @@ use Rattle.policy_lawful.specs.source.Mapping.{Mapping}
 use Rattle.policy_lawful.specs.source.Region.{Region}
 use Rattle.policy_lawful.specs.source.Source.{Source}
 use Rattle.policy_lawful.proofs.NoFiles.{in_no_file, same_content}
-use Rattle.subject_model.proofs.KeyLaws.{same_things}
+use Rattle.policy_lawful.proofs.SameThings.{same_things}
 use Rattle.subject_model.proofs.StartLists.{made_of}
 use Rattle.subject_model.specs.Alone.{thing_in}
 use Rattle.subject_model.specs.System.{first_page, is_shown, start_of}

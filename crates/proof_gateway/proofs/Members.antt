@@ -13,7 +13,8 @@ use Rattle.policy_lawful.specs.source.Region.{Region}
 use Rattle.policy_lawful.specs.source.Source.{Source}
 use Rattle.policy_lawful.specs.source.Subject.{Subject}
 use Rattle.subject_model.specs.Alone.{own_of}
-use Rattle.subject_model.specs.Resources.{has_port, port_ranges_of, ports_of}
+use Rattle.subject_model.specs.Resources.{port_ranges_of, ports_of}
+use Rattle.policy_lawful.specs.PortRanges.{has_port}
 use Rattle.subject_model.specs.System.{subject_named}
 use Rattle.proof_gateway.specs.Gateway.{with_black, plain, keys, slots, cipher, members}
 

@@ -1,1 +1,2 @@
 pub mod Gateway
+pub mod Laws

@@ -6,14 +6,12 @@
 //! command calls one.
 #![tactic(auto)]
 
-ghost use Rattle.std.specs.Prelude.{◌≡◌, ℕ, List, [], Some, codes, true};
+ghost use Rattle.std.specs.Prelude.{◌≡◌, ℕ, List, [], codes};
 ghost use Rattle.policy_lawful.specs.Contents.{Held};
 ghost use Rattle.policy_lawful.specs.Lawful.{IsLawful};
-ghost use Rattle.policy_lawful.specs.source.Subject.{Subject};
-ghost use Rattle.subject_model.specs.System.{subject_named};
 ghost use Rattle.proof_isolation.specs.Agree.{Agree};
-ghost use Rattle.proof_isolation.specs.Flows.{IsClosed, closure_of, is_member};
-ghost use Rattle.proof_isolation.specs.TwoTexts.{ArePrintedAlike};
+ghost use Rattle.proof_isolation.specs.Flows.{IsClosed, closure_of};
+ghost use Rattle.proof_gateway.specs.Laws.{PrintsMembersAsTheGateway};
 ghost use Rattle.proof_gateway.specs.Gateway.{gateway, members, more_memory, network, other_black, with_black};
 
 /// What the law of two systems asks is met: the three policies keep all rules, `plain`, `keys`, `slots` and
@@ -31,10 +29,7 @@ pub fn gateways_agree()
 /// lines of their turns, their final states, and the digests of all that their windows show. So it is where `black`
 /// halts at once, where it runs any other program, and where it has 1 MiB more.
 pub fn gateways_print_members_alike()
-    ensures another { (f g : Held) (s w : Subject) → is_member members s ≡ true → subject_named gateway s.name ≡ Some s
-        → subject_named other_black s.name ≡ Some w → ArePrintedAlike gateway other_black f g network network s w }
-    ensures program { (code : List ℕ) (f g : Held) (s w : Subject) → is_member members s ≡ true → subject_named gateway s.name ≡ Some s
-        → subject_named (with_black [] [] code) s.name ≡ Some w → ArePrintedAlike gateway (with_black [] [] code) f g network network s w }
-    ensures more { (f g : Held) (s w : Subject) → is_member members s ≡ true → subject_named gateway s.name ≡ Some s
-        → subject_named more_memory s.name ≡ Some w → ArePrintedAlike gateway more_memory f g network network s w }
+    ensures another { PrintsMembersAsTheGateway other_black }
+    ensures program { (code : List ℕ) → PrintsMembersAsTheGateway (with_black [] [] code) }
+    ensures more { PrintsMembersAsTheGateway more_memory }
 {}

@@ -22,7 +22,8 @@ use Rattle.policy_lawful.specs.source.Source.{Source}
 use Rattle.policy_lawful.specs.source.SourceWay.{SourceWay}
 use Rattle.policy_lawful.specs.source.Subject.{Subject}
 use Rattle.subject_model.specs.Slot.{Slot}
-use Rattle.subject_model.proofs.KeyLaws.{cases_thing, names_apart, things_apart, value_changed, value_other}
+use Rattle.subject_model.proofs.KeyLaws.{names_apart, things_apart, value_changed, value_other}
+use Rattle.policy_lawful.proofs.SameThings.{cases_thing}
 use Rattle.subject_model.specs.Alone.{Things, thing_in}
 use Rattle.subject_model.specs.System.{Named, System, change_named, change_thing, happens, happens_as, named, pends_now, with_active}
 use Rattle.proof_isolation.specs.Agree.{hands_over}

@@ -26,7 +26,7 @@ use Rattle.policy_lawful.specs.source.DeviceMemory.{DeviceMemory}
 use Rattle.policy_lawful.specs.source.Source.{Source}
 use Rattle.policy_lawful.specs.source.Subject.{Subject}
 use Rattle.policy_flows.specs.Flows.{by_change, by_channel, by_event, by_memory, by_plan, by_sight, flows_to, is_region}
-use Rattle.subject_model.proofs.KeyLaws.{same_thing_self}
+use Rattle.policy_lawful.proofs.SameThings.{same_thing_self}
 use Rattle.proof_isolation.proofs.Counts.{one_counted, passing_counted, single, two_counted}
 use Rattle.proof_isolation.proofs.Windows.{IsOn, OnChannel, OnDevice, window_is}
 

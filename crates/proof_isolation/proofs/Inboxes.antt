@@ -7,7 +7,8 @@ use Rattle.std.proofs.lemmas.Bool.{cases_Bool, or_left, or_right, eq-eqb}
 use Rattle.std.proofs.lemmas.Option.{unwrap_or-slice_get}
 use Rattle.policy_lawful.specs.Thing.{Thing, same_thing}
 use Rattle.policy_lawful.specs.Windows.{Window}
-use Rattle.subject_model.proofs.KeyLaws.{same_things, value_filtered}
+use Rattle.subject_model.proofs.KeyLaws.{value_filtered}
+use Rattle.policy_lawful.proofs.SameThings.{same_things}
 use Rattle.subject_model.proofs.SystemLaws.{inbox_alone}
 use Rattle.subject_model.specs.Alone.{Inbox, Own, OwnState, Things, solo_turn, thing_in}
 use Rattle.subject_model.specs.System.{is_shown}

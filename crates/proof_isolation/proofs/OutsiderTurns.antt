@@ -35,7 +35,8 @@ use Rattle.policy_flows.specs.Flows.{IsClosed, by_change, by_sight, is_member, r
 use Rattle.subject_model.specs.Alone.{Inbox, MsrValues, OwnState, TurnAnswer, own_of, solo_turn, thing_in}
 use Rattle.subject_model.specs.System.{System, answered, inbox_of, is_shown, named, subject_named, system_turn, took, with_own, with_store}
 use Rattle.subject_model.proofs.DeviceWrites.{IsWritable}
-use Rattle.subject_model.proofs.KeyLaws.{same_things, things_apart, value_other}
+use Rattle.subject_model.proofs.KeyLaws.{things_apart, value_other}
+use Rattle.policy_lawful.proofs.SameThings.{same_things}
 use Rattle.proof_views.specs.Members.{AreListed, HasTurn, lists}
 use Rattle.proof_views.proofs.Kept.{acted, turn_cases}
 use Rattle.proof_views.proofs.OwnLines.{named_so}
@@ -45,6 +46,7 @@ use Rattle.proof_views.proofs.Unmoved.{by_raised}
 use Rattle.proof_views.proofs.Untouched.{turn_elsewhere, windows_spare}
 use Rattle.proof_views.proofs.ThingsStay.{stored_through}
 use Rattle.proof_isolation.specs.Alike.{AreAlike, AreAlikeFor}
+use Rattle.proof_isolation.specs.Laws.{OutsidersChangeNothing}
 use Rattle.proof_isolation.proofs.Conflicts.{BothPages, flows_by, met, none_in}
 use Rattle.proof_isolation.proofs.Outsiders.{Named, by_cpu, no_flow, other_names, raised_active, raised_pends, took_pends}
 use Rattle.proof_isolation.proofs.Stores.{by_store}
@@ -159,6 +161,5 @@ module _ (p : Source) (lawful : IsLawful p) (members : List (List ℕ)) (closed 
       turn_cases p cpu tick y (λ t. AreAlike p p members y t.state) (λ s member is. same_system p s y) (λ slot name u st values has. outsider_acted slot name u st values has (outside slot name u has))
 
 -- the same with all that it stands on
-pub outsiders_leave : (p : Source) (members : List (List ℕ)) (cpu tick : ℕ) (y : System) → IsLawful p → IsClosed p members → AreListed p y.active
-    → ((slot : Slot) (name : List ℕ) (u : Subject) → HasTurn p cpu tick y slot name u → is_member members u ≡ false) → AreAlike p p members y (system_turn p cpu tick y).state
+pub outsiders_leave : OutsidersChangeNothing
 outsiders_leave p members cpu tick y lawful closed listed outside = outsiders_turn p lawful members closed cpu tick y listed outside

@@ -17,7 +17,7 @@ use Rattle.subject_model.specs.DeviceRecord.{DeviceRecord, dma_input}
 use Rattle.policy_flows.specs.Flows.{is_member}
 use Rattle.subject_model.proofs.DeviceWrites.{line_spares, line_things, no_page, page_stays, written}
 use Rattle.subject_model.proofs.KeyLaws.{things_apart, value_other}
-use Rattle.subject_model.proofs.NoPages.{NoPage}
+use Rattle.policy_lawful.proofs.NoPages.{NoPage}
 use Rattle.subject_model.specs.Alone.{thing_in}
 use Rattle.subject_model.specs.Clock.{ByteWrite, line_writes, takes, with_byte, with_each, with_line}
 use Rattle.subject_model.specs.System.{System, is_shown, named, subject_named, with_bytes}

@@ -10,7 +10,7 @@ use Rattle.muen_num.proofs.SearchLaws.{all_pass, none_both}
 use Rattle.muen_num.specs.Search.{first_in}
 use Rattle.muen_num.specs.declared.mode.EventMode.{EventMode}
 use Rattle.policy_lawful.specs.Lawful.{IsLawful}
-use Rattle.policy_lawful.specs.MoreRules.{channel_mode_offence, ends_of_channel, fits_mode, is_writer as writes_it, mode_offence, offence_13, readers_of, sources_of, targets_of, writers_of}
+use Rattle.policy_lawful.specs.MoreRules.{channel_mode_offence, ends_of_channel, fits_mode, is_writer, mode_offence, offence_13, readers_of, sources_of, targets_of, writers_of}
 use Rattle.policy_lawful.specs.Offences.{two}
 use Rattle.policy_lawful.specs.Events.{ChannelEnd, Raised, Target, channel_ends, channel_event, channel_targets, event_of, event_targets, named_event, reads_from, same_way, writes_by}
 use Rattle.policy_lawful.proofs.KeptRules.{rules_of}
@@ -23,6 +23,7 @@ use Rattle.policy_lawful.specs.source.EventTarget.{EventTarget}
 use Rattle.policy_lawful.specs.source.Source.{Source}
 use Rattle.policy_lawful.specs.source.SourceWay.{SourceWay}
 use Rattle.policy_lawful.specs.source.Subject.{Subject}
+use Rattle.policy_flows.proofs.EventWaysFlow.{writes_is_writer}
 use Rattle.policy_flows.proofs.EventWays.{by_channel_end, by_source, event_is}
 use Rattle.proof_isolation.proofs.Conflicts.{none_in}
 
@@ -71,15 +72,11 @@ module _ (p : Source) (lawful : IsLawful p) (u : Subject) (in_u : In u p.subject
 
   -- ---- a channel's event
 
-  reads_only : (f : ChannelEnd) (role : Role) (name : List ℕ) → reads_from f role name ≡ true → (f.channel ≡ name) × (writes_it role ≡ false)
+  reads_only : (f : ChannelEnd) (role : Role) (name : List ℕ) → reads_from f role name ≡ true → (f.channel ≡ name) × (is_writer role ≡ false)
   reads_only f Reader name h = ((bytes_eq-Decides f.channel name).0 h, refl)
   reads_only f Writer name h = absurd (cc (h))
 
-  writes_only : (e : ChannelEnd) (role : Role) (way : SourceWay) → writes_by e role way ≡ true → writes_it role ≡ true
-  writes_only e Writer way h = refl
-  writes_only e Reader way h = absurd (cc (h))
-
-  by_channel : (channel_end : ChannelEnd) → In channel_end (channel_ends p u) → writes_it channel_end.role ≡ true → (e : Raised) → channel_event p channel_end.channel ≡ Some e → fits_mode p e.mode u.name e.target.subject ≡ true
+  by_channel : (channel_end : ChannelEnd) → In channel_end (channel_ends p u) → is_writer channel_end.role ≡ true → (e : Raised) → channel_event p channel_end.channel ≡ Some e → fits_mode p e.mode u.name e.target.subject ≡ true
   by_channel channel_end its writes e h = by_found (find (λ c. bytes_eq c.name channel_end.channel) p.channels) refl h
     where
       by_target : (c : Channel) → In c p.channels → c.name ≡ channel_end.channel → (m : EventMode) → c.has_event ≡ Some m → (o : Option Target) → slice_get (channel_targets p channel_end.channel) 0 ≡ o → option_map (λ t. record { mode = m; target = t }) o ≡ Some e → fits_mode p e.mode u.name e.target.subject ≡ true
@@ -94,12 +91,12 @@ module _ (p : Source) (lawful : IsLawful p) (u : Subject) (in_u : In u p.subject
           flat_in (λ s. map (λ e. (s.name, e)) (filter (λ e. bytes_eq e.channel channel_end.channel) (channel_ends p s))) p.subjects to.one (to.one.name, entry.one) to.within
           (map_in (λ e. (to.one.name, e)) (filter (λ e. bytes_eq e.channel channel_end.channel) (channel_ends p to.one)) entry.one (filter_in (λ e. bytes_eq e.channel channel_end.channel) (channel_ends p to.one) entry.one kept.0 ((bytes_eq-Decides entry.one.channel channel_end.channel).1 reads.0))) in
           let target : In to.one.name (map (λ e. e.0) (readers_of p channel_end.channel)) =
-          map_in (λ (e : List ℕ × ChannelEnd). e.0) (readers_of p channel_end.channel) (to.one.name, entry.one) (filter_in (λ e. not (writes_it e.1.role)) (ends_of_channel p channel_end.channel) (to.one.name, entry.one) target_channel_end (ap not reads.1)) in
+          map_in (λ (e : List ℕ × ChannelEnd). e.0) (readers_of p channel_end.channel) (to.one.name, entry.one) (filter_in (λ e. not (is_writer e.1.role)) (ends_of_channel p channel_end.channel) (to.one.name, entry.one) target_channel_end (ap not reads.1)) in
           let own_channel_end : In (u.name, channel_end) (ends_of_channel p channel_end.channel) =
           flat_in (λ s. map (λ e. (s.name, e)) (filter (λ e. bytes_eq e.channel channel_end.channel) (channel_ends p s))) p.subjects u (u.name, channel_end) in_u
           (map_in (λ e. (u.name, e)) (filter (λ e. bytes_eq e.channel channel_end.channel) (channel_ends p u)) channel_end (filter_in (λ e. bytes_eq e.channel channel_end.channel) (channel_ends p u) channel_end its ((bytes_eq-Decides channel_end.channel channel_end.channel).1 refl))) in
           let mine : In u.name (map (λ e. e.0) (writers_of p channel_end.channel)) =
-          map_in (λ (e : List ℕ × ChannelEnd). e.0) (writers_of p channel_end.channel) (u.name, channel_end) (filter_in (λ e. writes_it e.1.role) (ends_of_channel p channel_end.channel) (u.name, channel_end) own_channel_end writes) in
+          map_in (λ (e : List ℕ × ChannelEnd). e.0) (writers_of p channel_end.channel) (u.name, channel_end) (filter_in (λ e. is_writer e.1.role) (ends_of_channel p channel_end.channel) (u.name, channel_end) own_channel_end writes) in
           let own : channel_mode_offence p c c.has_event ≡ None = none_in (λ c. channel_mode_offence p c c.has_event) p.channels (channel_modes p (rules_of lawful).rule_13) c declared in
           let none : mode_offence p m c.name (map (λ e. e.0) (writers_of p channel_end.channel)) (map (λ e. e.0) (readers_of p channel_end.channel)) ≡ None =
           subst (λ n. mode_offence p m c.name (map (λ e. e.0) (writers_of p n)) (map (λ e. e.0) (readers_of p n)) ≡ None) called (subst (λ o. channel_mode_offence p c o ≡ None) has own) in
@@ -127,7 +124,7 @@ module _ (p : Source) (lawful : IsLawful p) (u : Subject) (in_u : In u p.subject
   of_channel_end way e None is k = absurd (cc (k))
   of_channel_end way e (Some channel_end) is k =
       let at = find_in (λ e. writes_by e e.role way) (channel_ends p u) channel_end is in
-      by_channel channel_end at.0 (writes_only channel_end channel_end.role way at.1) e k
+      by_channel channel_end at.0 (writes_is_writer channel_end channel_end.role way at.1) e k
 
   of_either : (way : SourceWay) (e : Raised) (a b : Option Raised) → by_source p u way ≡ a → by_channel_end p u way ≡ b → option_or a b ≡ Some e → fits_mode p e.mode u.name e.target.subject ≡ true
   of_either way e (Some x) b is other k = of_source way e (find (λ e. same_way e.way way) u.sources) refl (is ∙ k)

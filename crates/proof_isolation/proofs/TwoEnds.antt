@@ -2,25 +2,21 @@
 use Rattle.std.proofs.Common.{min, sym, ap, subst, ◌∙◌, arith}
 use Rattle.std.specs.List.{flat_map}
 use Rattle.std.specs.Prelude.{option_map}
-use Rattle.policy_lawful.specs.Contents.{Held}
-use Rattle.policy_lawful.specs.Lawful.{IsLawful}
 use Rattle.policy_lawful.specs.Thing.{state}
-use Rattle.policy_lawful.specs.source.Source.{Source}
 use Rattle.subject_model.specs.Alone.{thing_in}
 use Rattle.subject_model.specs.Clock.{run_of}
-use Rattle.subject_model.specs.DeviceRecord.{DeviceRecord}
 use Rattle.subject_model.specs.StatePage.{state_in}
 use Rattle.subject_model.specs.Trace.{state_text}
 use Rattle.proof_views.specs.ViewText.{turn_text}
 use Rattle.proof_views.specs.LinesOf.{lines_of}
 use Rattle.proof_isolation.specs.Agree.{Agree}
-use Rattle.proof_isolation.specs.TwoTexts.{HasDistinctOrders, PrintsMembersAlike}
+use Rattle.proof_isolation.specs.Laws.{MembersPrintTheSame}
 use Rattle.proof_isolation.proofs.Alike.{same_name}
 use Rattle.proof_isolation.proofs.TwoSystems.{ends_alike}
 use Rattle.proof_isolation.proofs.TwoTexts.{same_lines}
 
 -- at the end of both, where they end at the same tick
-pub printed_alike : (p : Source) (f : Held) (r : DeviceRecord) → IsLawful p → HasDistinctOrders r → PrintsMembersAlike p f r
+pub printed_alike : MembersPrintTheSame
 printed_alike p f r lawful once q g t members lawful_too once_too closed closed_too agree ends s w member found is =
     let both : Agree members p q f g r t (min r.end t.end) = subst (Agree members p q f g r t) (omega (arith, ends)) agree in
     let name = same_name p q s w (agree.each s w member found is).own in

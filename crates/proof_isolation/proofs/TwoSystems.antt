@@ -44,17 +44,16 @@ use Rattle.policy_lawful.specs.Offences.{two}
 use Rattle.proof_isolation.proofs.Conflicts.{flows_by}
 use Rattle.proof_isolation.proofs.Outsiders.{no_flow}
 use Rattle.subject_model.proofs.DeviceWrites.{line_things}
-use Rattle.subject_model.proofs.StartLists.{named_map}
+use Rattle.subject_model.proofs.StartLists.{named_map, state_started}
 use Rattle.subject_model.specs.Alone.{own_of, thing_in}
 use Rattle.subject_model.specs.Clock.{begins, inputs_at, line_writes, order_at, pick_in, run_of, system, takes, ticks_of_majors}
 use Rattle.subject_model.specs.System.{System, is_shown, named, start_of, subject_named, system_turn}
 use Rattle.subject_model.specs.View.{ran_through, seen_in, through, view_of}
 use Rattle.proof_views.proofs.ActiveMembers.{begun_listed}
-use Rattle.proof_views.proofs.StatePages.{first_paged}
 use Rattle.proof_views.proofs.Unmoved.{by_irq}
 use Rattle.proof_isolation.specs.Agree.{Agree, AgreeOnFrames, WritesTheSame, chosen, holds_member, is_first, own_slot, plain_frame, touches, unchosen}
 use Rattle.proof_isolation.specs.Alike.{AreAlike, AreAlikeFor, AreSameViews, is_active}
-use Rattle.proof_isolation.specs.TwoSystems.{DependOnMembersAlone}
+use Rattle.proof_isolation.specs.Laws.{MembersSeeTheSame, SetsOfFlowsAreEnough}
 use Rattle.proof_isolation.proofs.Alike.{same_cpu, same_entry, same_name, same_windows}
 use Rattle.proof_isolation.proofs.CpuTurns.{SameSlots}
 use Rattle.proof_isolation.proofs.Inboxes.{shown_alike}
@@ -95,7 +94,7 @@ start_alike p q members f g r t ends agree = λ s member is.
     let name = same_name p q s w.0 pair.own in
     let found : subject_named q w.0.name ≡ Some w.0 = ap (subject_named q) (sym name) ∙ w.1 in
     record {
-      page = first_paged p f s is ∙ ap (λ e. Some (page_bytes (started e))) (same_entry p q s w.0 pair.own) ∙ sym (ap (λ n. thing_in (start_of q g).things (state n)) name ∙ first_paged q g w.0 found);
+      page = state_started p f s is ∙ ap (λ e. Some (page_bytes (started e))) (same_entry p q s w.0 pair.own) ∙ sym (ap (λ n. thing_in (start_of q g).things (state n)) name ∙ state_started q g w.0 found);
       msrs = by_names p s (λ n. map (λ m. (m.index, 0)) (msrs_of n)) is ∙ ap (λ ms. Some (map (λ m. (m.index, 0)) ms)) (same_msrs p q s w.0 pair.own) ∙ sym (ap (named (start_of q g).msrs) name ∙ by_names q w.0 (λ n. map (λ m. (m.index, 0)) (msrs_of n)) found);
       now = by_names p s (λ n. []) is ∙ sym (ap (named (start_of q g).now) name ∙ by_names q w.0 (λ n. []) found);
       later = by_names p s (λ n. []) is ∙ sym (ap (named (start_of q g).later) name ∙ by_names q w.0 (λ n. []) found);
@@ -294,7 +293,7 @@ module _ (p q : Source) (lawful : IsLawful p) (lawful_too : IsLawful q) (members
         things = λ x. shown_alike (windows_of p m) (ran_through p f r m.cpu n).state.things end_q.things a.shown x ∙ ap (λ windows. thing_in (filter (λ e. is_shown windows e.0) end_q.things) x) (same_windows p q m w pair.own);
       }
 
-pub same_views : (p : Source) (members : List (List ℕ)) → IsLawful p → IsClosed p members → DependOnMembersAlone p members
+pub same_views : MembersSeeTheSame
 unfolding view_of
 same_views p members lawful closed q f g r t lawful_too closed_too agree s w member found is n a b at at' =
     let many = length-map (numbers_below r.end) (λ tick. seen_in p s (ran_through p f r s.cpu tick)) in
@@ -321,5 +320,5 @@ ends_alike p q lawful lawful_too members closed closed_too f g r t agree ends m 
     ((runs p q lawful lawful_too members closed closed_too f g r t r.end agree m member found r.end (omega arith)).0 m member found)
 
 -- the set of a subject is closed
-pub same_by_flows : (p : Source) (name : List ℕ) → IsLawful p → DependOnMembersAlone p (closure_of p name)
+pub same_by_flows : SetsOfFlowsAreEnough
 same_by_flows p name lawful = same_views p (closure_of p name) lawful (closure_is_least p name).closed

@@ -10,7 +10,7 @@ use Rattle.policy_lawful.specs.Contents.{Held}
 use Rattle.policy_lawful.specs.source.Source.{Source}
 use Rattle.policy_lawful.specs.source.Subject.{Subject}
 use Rattle.subject_model.specs.DeviceRecord.{DeviceRecord}
-use Rattle.subject_model.specs.Reading.{are_distinct}
+use Rattle.muen_num.specs.Numbers.{are_distinct}
 use Rattle.policy_flows.specs.Flows.{IsClosed, is_member}
 use Rattle.subject_model.specs.Clock.{run_of}
 use Rattle.subject_model.specs.System.{subject_named}

@@ -6,3 +6,4 @@ pub mod Alike
 pub mod Agree
 pub mod TwoTexts
 pub mod TwoSystems
+pub mod Laws

@@ -12,7 +12,7 @@ use Rattle.proof_isolation.specs.Agree.{Agree}
 use Rattle.proof_views.specs.LinesOf.{lines_of}
 use Rattle.subject_model.specs.Clock.{run_of}
 use Rattle.subject_model.specs.DeviceRecord.{DeviceRecord}
-use Rattle.subject_model.specs.Reading.{are_distinct}
+use Rattle.muen_num.specs.Numbers.{are_distinct}
 use Rattle.subject_model.specs.System.{is_shown, subject_named}
 use Rattle.subject_model.specs.Trace.{subject_text, thing_text}
 use Rattle.proof_views.specs.ViewText.{turn_text}

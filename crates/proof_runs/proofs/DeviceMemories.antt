@@ -1,5 +1,6 @@
 -- The memories of a sound image's devices lie where the policy's things of these names do, and are as long.
-use Rattle.std.proofs.Common.{◌≡◌, ℕ, zero, suc, ◌*◌, ◌/◌, ◌%◌, ◌<◌, Bool, true, false, not, List, [], ◌∷◌, ◌++◌, length, Option, Some, None, option_and_then, option_map, find, refl, sym, ap, ap₂, ◌∙◌, arith}
+use Rattle.std.proofs.Common.{◌≡◌, ◌*◌, ◌/◌, ◌%◌, ◌<◌, ◌∷◌, ◌++◌, ◌∙◌}
+use Rattle.std.proofs.Common.{ℕ, zero, suc, Bool, true, false, not, List, [], length, Option, Some, None, option_and_then, option_map, find, refl, sym, ap, ap₂, arith}
 use Rattle.std.specs.Prelude.{◌==◌, if◌then◌else◌, option_to_list, slice_get}
 use Rattle.std.specs.List.{flat_map}
 use Rattle.std.specs.Str.{bytes_eq}
@@ -12,7 +13,6 @@ use Rattle.muen_num.proofs.Options.{from_some, one_value}
 use Rattle.muen_num.proofs.Lists.{all_at}
 use Rattle.muen_num.proofs.Pairs.{first_at}
 use Rattle.muen_num.specs.Range.{numbers_below}
-use Rattle.muen_num.specs.declared.limits.TheConstants.{PAGE}
 use Rattle.image_load.specs.Resolving.{NamedMemory, memories_of, memory_of_span, memory_of_window}
 use Rattle.image_soundness.specs.Memory.{Span, by_number, span_at}
 use Rattle.image_soundness.specs.Named.{tag_at}
@@ -33,13 +33,14 @@ use Rattle.policy_lawful.specs.source.Device.{Device}
 use Rattle.policy_lawful.specs.source.DeviceMemory.{DeviceMemory}
 use Rattle.policy_lawful.specs.source.Source.{Source}
 use Rattle.record_text.specs.Bench.{BenchDevice}
-use Rattle.subject_model.proofs.KeyLaws.{same_thing_self}
+use Rattle.policy_lawful.proofs.SameThings.{same_thing_self}
 use Rattle.proof_start.specs.GroundOf.{ground_of}
-use Rattle.proof_start.proofs.ListFacts.{filtered_there, found_at, kept_there}
-use Rattle.proof_start.proofs.MemoryFacts.{by_its_number, span_with}
+use Rattle.muen_num.proofs.Indexed.{filtered_there, found_at, kept_there}
+use Rattle.proof_start.proofs.SpanPages.{by_its_number, span_with}
 use Rattle.proof_start.proofs.OnceFacts.{thing_once}
 use Rattle.proof_start.proofs.SpansOfThings.{listed_span, thing_by}
-use Rattle.proof_runs.proofs.SameInputs.{HasMemories, IsThing}
+use Rattle.proof_runs.proofs.BenchGround.{HasMemories, IsThing}
+use Rattle.proof_runs.proofs.SameBench.{memory_from}
 
 -- ---- what stands once in a list
 
@@ -99,9 +100,6 @@ record ShowsMemory (s : SpanPart) (m : NamedMemory) : Type 0 where
   address : m.address ≡ s.address
   bytes : m.bytes ≡ 4096 * s.pages
 
-abbrev memory_from : SpanPart → List ℕ → NamedMemory
-memory_from s name = record { name = name; address = s.address; bytes = PAGE * s.pages }
-
 shows_by : (s : SpanPart) (m : NamedMemory) (b : Bool) (o : Option (List ℕ)) → is_device s.kind ≡ b → part_name s.tag.part ≡ o
     → option_map (memory_from s) (if b then o else None) ≡ Some m → ShowsMemory s m
 shows_by s m true (Some text) kind part h =
@@ -138,7 +136,8 @@ record DeviceAt (p : Source) (i : Image) (device : List ℕ) (d : DevicePart) : 
   is : IsDeviceOf p i one d
   named : one.name ≡ device
 
-device_at : (p : Source) (files : Held) (i : Image) → IsSound p files i → (device : List ℕ) (d : DevicePart) → find (λ d. bytes_eq d.name device) i.devices ≡ Some d → DeviceAt p i device d
+device_at : (p : Source) (files : Held) (i : Image) → IsSound p files i → (device : List ℕ) (d : DevicePart) → find (λ d. bytes_eq d.name device) i.devices ≡ Some d
+    → DeviceAt p i device d
 device_at p files i sound device d found =
     let f = found_at (λ (d : DevicePart). bytes_eq d.name device) i.devices d found in
     let x = first_at (IsDeviceOf p i) p.devices i.devices f.index d sound.plan_and_events.devices f.here in
@@ -165,7 +164,8 @@ found_tag i keeps n a s here is =
     ap (option_map (λ (u : Span). u.0.tag)) (by_its_number i keeps n e b.1 is)
 
 -- a tag of a device's memory, by its names
-named_tag : (device memory a b name : List ℕ) (t : Tag) → t ≡ thing_tag (device_memory a b) → a ≡ device → part_name t.part ≡ Some name → name ≡ memory → t ≡ thing_tag (device_memory device memory)
+named_tag : (device memory a b name : List ℕ) (t : Tag) → t ≡ thing_tag (device_memory a b) → a ≡ device → part_name t.part ≡ Some name → name ≡ memory
+    → t ≡ thing_tag (device_memory device memory)
 named_tag device memory a b name t e owner part is =
     let text : b ≡ name = same_Some b name (sym (ap (λ (u : Tag). part_name u.part) e) ∙ part) in
     e ∙ ap₂ (λ x y. thing_tag (device_memory x y)) owner (text ∙ is)
@@ -173,7 +173,8 @@ named_tag device memory a b name t e owner part is =
 whole_pages : (n : ℕ) → n % 4096 ≡ 0 → n ≡ 4096 * (n / 4096)
 whole_pages n h = omega (arith, h)
 
-is_thing : (p : Source) (i : Image) (device memory : List ℕ) (s : SpanPart) (m : NamedMemory) → s.address % 4096 ≡ 0 → ShowsMemory s m → LiesAt p i (device_memory device memory) s → IsThing (ground_of p i) device memory m
+is_thing : (p : Source) (i : Image) (device memory : List ℕ) (s : SpanPart) (m : NamedMemory) → s.address % 4096 ≡ 0 → ShowsMemory s m
+    → LiesAt p i (device_memory device memory) s → IsThing (ground_of p i) device memory m
 is_thing p i device memory s m aligned shown lies = record {
   address = shown.address ∙ whole_pages s.address aligned ∙ ap (λ n. 4096 * n) (sym lies.first);
   bytes = shown.bytes ∙ ap (λ n. 4096 * n) (sym lies.pages);

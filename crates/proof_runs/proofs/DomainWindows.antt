@@ -12,7 +12,7 @@ use Rattle.image_soundness.specs.Sound.{IsSound}
 use Rattle.muen_num.proofs.Each.{found as each_found}
 use Rattle.muen_num.proofs.Lists.{found_among}
 use Rattle.muen_num.proofs.SearchLaws.{all_none, all_pass, none_both}
-use Rattle.muen_num.proofs.Lookups.{found_passes}
+use Rattle.muen_num.proofs.Lookups.{found_passes, found_any}
 use Rattle.muen_num.specs.Search.{first_in, unless}
 use Rattle.muen_num.specs.declared.access.AccessKind.{AccessKind}
 use Rattle.muen_num.specs.declared.limits.TheConstants.{PAGE}
@@ -20,7 +20,8 @@ use Rattle.policy_lawful.specs.Contents.{Held}
 use Rattle.policy_lawful.specs.Dma.{dma_windows, domain_of, domain_windows}
 use Rattle.policy_lawful.specs.Domains.{each_window, offence_22}
 use Rattle.policy_lawful.specs.Offences.{two}
-use Rattle.policy_lawful.specs.Rules.{is_declared, is_page_aligned}
+use Rattle.policy_lawful.specs.Rules.{is_declared}
+use Rattle.muen_num.specs.Numbers.{is_page_aligned}
 use Rattle.policy_lawful.specs.Thing.{Thing, declared_size, region, Item, region_item}
 use Rattle.policy_lawful.specs.Windows.{Window, access_by, access_of, byte, holds, region_window, violation, window}
 use Rattle.policy_lawful.proofs.KeptRules.{rules_of}
@@ -30,10 +31,9 @@ use Rattle.policy_lawful.specs.source.Domain.{Domain}
 use Rattle.policy_lawful.specs.source.Mapping.{Mapping}
 use Rattle.policy_lawful.specs.source.Region.{Region}
 use Rattle.policy_lawful.specs.source.Source.{Source}
-use Rattle.subject_model.proofs.PolicyFacts.{found_any}
 use Rattle.proof_start.proofs.SpansOfThings.{ThingSpan, listed_span}
-use Rattle.proof_start.proofs.ThingFacts.{region_is_thing}
-use Rattle.proof_start.proofs.WindowFacts.{region_again}
+use Rattle.image_soundness.proofs.ThingFacts.{region_is_thing}
+use Rattle.image_soundness.proofs.WindowsOn.{region_again}
 use Rattle.policy_lawful.proofs.Items.{item_of_region}
 
 -- ---- rule 22: windows begin with a page

@@ -1,9 +1,16 @@
+pub mod BenchGround
+pub mod Beside
+pub mod DeviceLines
 pub mod DeviceMemories
 pub mod DmaLines
 pub mod DomainWindows
 pub mod FinalTexts
 pub mod FlatLists
 pub mod ImageRuns
+pub mod IrqTargets
+pub mod KnownInputs
 pub mod RecordFacts
+pub mod SameBench
 pub mod SameInputs
+pub mod TickInputs
 pub mod Traces

@@ -5,7 +5,8 @@ use Rattle.std.specs.List.{flat_map, list_any}
 use Rattle.std.specs.Option.{option_map_or}
 use Rattle.std.proofs.lemmas.Bool.{true≢false}
 use Rattle.std.proofs.lemmas.Map.Keys.{any_passes_from_place}
-use Rattle.image_load.specs.Loaded.{memory_of, setup_of}
+use Rattle.image_load.specs.Loaded.{setup_of}
+use Rattle.image_load.specs.Memory.{memory_of}
 use Rattle.image_load.specs.Resolving.{image_record}
 use Rattle.image_soundness.proofs.SoundFacts.{bench_is, names_of}
 use Rattle.image_soundness.specs.Memory.{Span}
@@ -43,8 +44,9 @@ use Rattle.subject_model.specs.System.{System, start_of, state_of}
 use Rattle.subject_model.specs.Trace.{final_text as system_text, trace_of}
 use Rattle.proof_turns.specs.Ground.{Ground, IsSubject}
 use Rattle.proof_turns.specs.Stands.{StandsFor}
-use Rattle.proof_turns.proofs.Ends.{IsNoState, final_bytes, final_state, run_lengths}
-use Rattle.subject_model.proofs.KeyLaws.{same_thing_self}
+use Rattle.proof_turns.proofs.Ends.{final_bytes, final_state, run_lengths}
+use Rattle.policy_lawful.proofs.NoPages.{NoPage}
+use Rattle.policy_lawful.proofs.SameThings.{same_thing_self}
 use Rattle.proof_turns.proofs.Runs.{runs_stand}
 use Rattle.proof_turns.proofs.Turns.{turn_stands}
 use Rattle.proof_start.specs.GroundOf.{HoldsBytes, ground_of}
@@ -56,7 +58,11 @@ use Rattle.proof_start.proofs.Slots.{same_cpus}
 use Rattle.proof_runs.proofs.DeviceMemories.{memories_of_image}
 use Rattle.proof_runs.proofs.FinalTexts.{HasBytes, HasStates, final_text_is}
 use Rattle.proof_runs.proofs.RecordFacts.{IsReadFor, record_is_read}
-use Rattle.proof_runs.proofs.SameInputs.{HasMemories, groups_at, groups_joined, inputs_alike, lines_of, orders_alike, targets_of}
+use Rattle.proof_runs.proofs.BenchGround.{HasMemories}
+use Rattle.proof_runs.proofs.DeviceLines.{lines_of}
+use Rattle.proof_runs.proofs.IrqTargets.{targets_of}
+use Rattle.proof_runs.proofs.SameInputs.{AreDevices, inputs_alike, orders_alike}
+use Rattle.proof_runs.proofs.TickInputs.{groups_at, groups_joined}
 use Rattle.proof_runs.specs.Fit.{Fit}
 
 -- bytes that are as many as others are there
@@ -66,10 +72,12 @@ same_length (Some x) None xs e h = absurd (cc (h))
 same_length None b xs e h = absurd (cc (e))
 
 -- what is no kernel's is no state page
-no_state : (x : Thing) → is_kernel (kind_of x) ≡ false → IsNoState x
+no_state : (x : Thing) → is_kernel (kind_of x) ≡ false → NoPage x
 no_state x h name e = absurd (true≢false (sym (ap (λ z. is_kernel (kind_of z)) e) ∙ h))
 
-module _ (p : Source) (files : Held) (i : Image) (keeps : KeepsConditions i) (sound : IsSound p files i) (small : HoldsBytes i) (tables : Option DmaFile) (fit : Fit p i tables) (r : DeviceRecord) (read : IsReadFor (devices_of p) r) where
+module _ (p : Source) (files : Held) (i : Image)
+    (keeps : KeepsConditions i) (sound : IsSound p files i) (small : HoldsBytes i)
+    (tables : Option DmaFile) (fit : Fit p i tables) (r : DeviceRecord) (read : IsReadFor (devices_of p) r) where
   abbrev g : Ground
   g = ground_of p i
 
@@ -96,13 +104,23 @@ module _ (p : Source) (files : Held) (i : Image) (keeps : KeepsConditions i) (so
       by_there (Some q) e = (fixed_of p files i keeps sound).parts s q e
       by_there None e = absurd (some_below i.subjects s h e)
 
+  -- what its devices do is what the policy says
+  devices : AreDevices g i tables
+  unfolding ground_of
+  devices = record {
+    memories = memories;
+    targets = targets_of p i keeps sound.plan_and_events.devices (names_of p files i sound) numbered;
+    lines = lines_of p files i keeps sound tables fit;
+  }
+
   runs : AreAlikeRuns (StandsFor g) machine_ran system_ran
   unfolding ground_of
   runs =
-      runs_stand g (fixed_of p files i keeps sound) (turn_stands g (fixed_of p files i keeps sound)) (groups_at tables i (image_record i r)) (tick_inputs record_at) (inputs_at r) (tick_order record_at i.header.cpus) (order_at p r)
+      runs_stand g (fixed_of p files i keeps sound) (turn_stands g (fixed_of p files i keeps sound))
+      (groups_at tables i (image_record i r)) (tick_inputs record_at) (inputs_at r) (tick_order record_at i.header.cpus) (order_at p r)
       (groups_joined tables i (image_record i r))
       (record {
-        taken = λ tick _. inputs_alike p i tables keeps (bench_is p files i sound) memories (targets_of p i keeps sound.plan_and_events.devices (names_of p files i sound) numbered) (lines_of p files i keeps sound tables fit) r tick read;
+        taken = λ tick _. inputs_alike p i tables keeps (bench_is p files i sound) devices r tick read;
         orders = λ tick _. orders_alike p i tables i.header.cpus r tick (same_cpus p files i sound);
       })
       r.end (omega (arith, read.ticks)) (live_started (setup_of i) i.header.cpus (memory_of i)) (start_of p files) start
@@ -116,13 +134,24 @@ module _ (p : Source) (files : Held) (i : Image) (keeps : KeepsConditions i) (so
       let is = (fixed_of p files i keeps sound).joined s n at in
       let j = is.joined in
       let same : is.subject ≡ n = one_value (slice_get p.subjects s) is.subject n j.subject at in
-      subst (λ m. (q : SubjectPart) × (c : Control) × (slice_get i.subjects s ≡ Some q) × (slice_get (setup_of i).controls s ≡ Some c) × (q.name ≡ m.name) × (state_of system_ran.state m.name ≡ Some (state_in (page_at pages_then c.state)))) same
-      (is.part, is.control, j.part, j.control, j.name, final_state g (fixed_of p files i keeps sound) i.header.cpus (same_cpus p files i sound) machine_ran.state system_ran.state runs.state s is.subject is.part is.control j)
+      subst (λ m. (q : SubjectPart) × (c : Control)
+      × (slice_get i.subjects s ≡ Some q) × (slice_get (setup_of i).controls s ≡ Some c) × (q.name ≡ m.name)
+      × (state_of system_ran.state m.name ≡ Some (state_in (page_at pages_then c.state)))) same (
+        is.part,
+        is.control,
+        j.part,
+        j.control,
+        j.name,
+        final_state g (fixed_of p files i keeps sound) i.header.cpus (same_cpus p files i sound) machine_ran.state system_ran.state runs.state s is.subject is.part is.control j,
+      )
 
   -- a thing's bytes at the end are as many as at the start
-  bytes_there : (x : Thing) → list_any (λ y. same_thing y x) (things_of p) ≡ true → IsNoState x → (bytes : List ℕ) × (thing_in system_ran.state.things x ≡ Some bytes) × (length bytes ≡ 4096 * g.pages x)
+  bytes_there : (x : Thing) → list_any (λ y. same_thing y x) (things_of p) ≡ true → NoPage x
+      → (bytes : List ℕ) × (thing_in system_ran.state.things x ≡ Some bytes) × (length bytes ≡ 4096 * g.pages x)
   bytes_there x listed kind =
-      let l = same_length (thing_in (start_of p files).things x) (thing_in system_ran.state.things x) (initial_bytes p files x) (thing_started p files x listed) (run_lengths p (inputs_at r) (order_at p r) r.end (start_of p files) x kind) in
+      let l =
+      same_length (thing_in (start_of p files).things x) (thing_in system_ran.state.things x) (initial_bytes p files x)
+      (thing_started p files x listed) (run_lengths p (inputs_at r) (order_at p r) r.end (start_of p files) x kind) in
       (l.0, l.1, l.2 ∙ sym (listed_pages p files i keeps sound x listed))
 
   its_bytes : HasBytes p files i pages_then system_ran.state
@@ -148,5 +177,6 @@ module _ (p : Source) (files : Held) (i : Image) (keeps : KeepsConditions i) (so
   same_text = ap (λ ls. flat_map turn_text ls ++ final_text (setup_of i) i.spans pages_then) (sym runs.lines) ∙ ap (λ t. flat_map turn_text system_ran.lines ++ t) same_final
 
 -- .. for every record that is read for the policy's devices
-pub traces_are : (p : Source) (files : Held) (i : Image) (tables : Option DmaFile) (text : List ℕ) (r : DeviceRecord) → KeepsConditions i → IsSound p files i → HoldsBytes i → Fit p i tables → record_of text (devices_of p) ≡ Ok r → run_text tables i (image_record i r) ≡ trace_of p files r
+pub traces_are : (p : Source) (files : Held) (i : Image) (tables : Option DmaFile) (text : List ℕ) (r : DeviceRecord) → KeepsConditions i → IsSound p files i
+    → HoldsBytes i → Fit p i tables → record_of text (devices_of p) ≡ Ok r → run_text tables i (image_record i r) ≡ trace_of p files r
 traces_are p files i tables text r keeps sound small fit e = same_text p files i keeps sound small tables fit r (record_is_read (devices_of p) text r e)

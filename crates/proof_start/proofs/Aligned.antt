@@ -9,9 +9,8 @@ use Rattle.subject_model.specs.Alone.{reach_by}
 use Rattle.expand_grants.specs.Resources.{are_granted, is_granted, msrs_of, ports_of}
 use Rattle.guest_isa.specs.Named.{renamed_reach}
 use Rattle.guest_isa.specs.declared.reach.Reach.TheVariants.{Reached}
-use Rattle.image_load.specs.Loaded.{memory_of}
+use Rattle.image_memory.specs.Memory.{memory_of, Span, by_number, page_at as image_page, address_at, span_at}
 use Rattle.image_soundness.proofs.SoundFacts.{bitmaps_of, walks_of}
-use Rattle.image_soundness.specs.Memory.{Span, by_number, page_at as image_page, address_at, span_at}
 use Rattle.image_soundness.specs.Sound.{HasBitmaps, HasWalks, IsSound, is_kernel, led, address_of, thing_spans}
 use Rattle.image_pack.specs.ImageConditions.{KeepsConditions}
 use Rattle.image_pack.specs.SpanConditions.{IsSpan}
@@ -34,8 +33,8 @@ use Rattle.proof_turns.specs.Ground.{page_and_offset}
 use Rattle.vmx_machine.specs.Machine.{look_in, msr_exits_in, page_at, ports_exit, reach_by as reach_by_walk}
 use Rattle.vmx_machine.specs.declared.control.Control.{Control}
 use Rattle.proof_start.specs.GroundOf.{ground_of}
-use Rattle.proof_start.proofs.ListFacts.{filtered_at, found_at, kept_at}
-use Rattle.proof_start.proofs.MemoryFacts.{same_memory, span_by}
+use Rattle.muen_num.proofs.Indexed.{filtered_at, found_at, kept_at}
+use Rattle.image_memory.proofs.SpanPages.{span_by}
 use Rattle.proof_start.proofs.PageFacts.{io_page_there, msr_page_there, second_io_page_there}
 
 -- ---- spans begin where pages do
@@ -107,8 +106,7 @@ pub walks_alike : (p : Source) (files : Held) (i : Image) → KeepsConditions i 
     → look_in (memory_of i) q.eptp kind addr ≡ renamed_reach (page_and_offset (λ x. address_of p i x / PAGE)) (reach_by kind addr (access_of (windows_of p n) addr kind))
 walks_alike p files i keeps sound n q kind addr low s named at =
     let walks = both_at (HasWalks p i) p.subjects i.subjects s n q (walks_of p files i sound) named at in
-    ap (λ m. reach_by_walk kind addr (walk_of m q.eptp addr kind)) (same_memory i)
-    ∙ ap (reach_by_walk kind addr) (walks addr kind low)
+    ap (reach_by_walk kind addr) (walks addr kind low)
     ∙ led_alike (address_of p i) (address_aligned p i keeps) kind addr (access_of (windows_of p n) addr kind)
 
 -- ---- bitmaps

@@ -13,13 +13,13 @@ use Rattle.policy_lawful.proofs.EachPasses.{all_some}
 use Rattle.policy_lawful.proofs.KeptRules.{rules_of}
 use Rattle.muen_num.proofs.Lists.{found_among, list_any-map, passes_at}
 use Rattle.muen_num.proofs.SearchLaws.{all_pass, none_append, none_both, unless_none}
-use Rattle.muen_num.proofs.Lookups.{found_passes}
+use Rattle.muen_num.proofs.Lookups.{found_passes, found_any, found_index}
 use Rattle.muen_num.proofs.Options.{is_some-option_map}
 use Rattle.muen_num.specs.Search.{first_in}
 use Rattle.muen_num.specs.declared.limits.TheConstants.{MOST_CALLS}
-use Rattle.subject_model.specs.Alone.{has_trap}
+use Rattle.muen_num.specs.Numbers.{is_among, are_distinct}
 use Rattle.policy_lawful.specs.Lawful.{IsLawful}
-use Rattle.policy_lawful.specs.MoreRules.{are_distinct, are_numbers, call_number, calls_of, offence_12, offence_14, sources_of, targets_of}
+use Rattle.policy_lawful.specs.MoreRules.{are_numbers, call_number, calls_of, offence_12, offence_14, sources_of, targets_of}
 use Rattle.policy_lawful.specs.Offences.{alone, two}
 use Rattle.policy_lawful.specs.Rules.{Reference, component_references, device_references, is_declared, offence_2, subject_references, undeclared}
 use Rattle.policy_lawful.specs.Events.{ChannelEnd, Raised, Target, channel_ends, channel_event, event_of, event_targets, is_call, named_event, same_way, trap_number, traps_of, writes_by}
@@ -32,7 +32,6 @@ use Rattle.policy_lawful.specs.source.Source.{Source}
 use Rattle.policy_lawful.specs.source.SourceWay.{SourceWay}
 use Rattle.policy_lawful.specs.source.SourceWay.TheVariants.{Call, Trap}
 use Rattle.policy_lawful.specs.source.Subject.{Subject}
-use Rattle.subject_model.proofs.PolicyFacts.{found_any, found_index}
 
 -- ---- the numbers of calls and traps
 
@@ -226,5 +225,5 @@ module _ (p : Source) (lawful : IsLawful p) where
       ]) refl
 
   -- a subject raises an event by a trap just where it has a trap entry for it
-  pub traps_are_events : (s : ℕ) (n : Subject) (i : ℕ) → slice_get p.subjects s ≡ Some n → is_some (event_of p n (Trap i)) ≡ has_trap (traps_of n) i
+  pub traps_are_events : (s : ℕ) (n : Subject) (i : ℕ) → slice_get p.subjects s ≡ Some n → is_some (event_of p n (Trap i)) ≡ is_among (traps_of n) i
   traps_are_events s n i at = trap_by_source s n i at ∙ found_any (λ e. same_way e.way (Trap i)) n.sources ∙ sym (traps_listed i n.sources)

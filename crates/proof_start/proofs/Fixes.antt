@@ -43,7 +43,8 @@ use Rattle.proof_start.proofs.Slots.{majors, planned, same_cpus, slots}
 use Rattle.proof_start.proofs.SpansOfThings.{listed_pages}
 use Rattle.proof_start.proofs.SpotFacts.{apart, aside}
 use Rattle.proof_start.proofs.StartSets.{name_by}
-use Rattle.proof_start.proofs.SubjectFacts.{Controlled, control_at, controlled, subject_kept}
+use Rattle.proof_start.proofs.SubjectFacts.{Controlled, control_at, controlled}
+use Rattle.image_memory.proofs.SubjectSpans.{subject_kept}
 use Rattle.proof_start.proofs.WindowFacts.{IsByteOf, IsSeen, IsWatched, sees}
 
 -- ---- entries of a table

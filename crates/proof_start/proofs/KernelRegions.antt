@@ -8,7 +8,7 @@ use Rattle.image_pack.specs.SpanConditions.{IsSpan}
 use Rattle.image_pack.specs.declared.parts.Image.{Image}
 use Rattle.image_pack.specs.declared.parts.SubjectPart.{SubjectPart}
 use Rattle.image_soundness.proofs.SoundFacts.{subjects_of, walks_of}
-use Rattle.image_soundness.specs.Memory.{address_at}
+use Rattle.image_memory.specs.Memory.{address_at}
 use Rattle.image_soundness.specs.Sound.{ForEachSubject, HasWalks, IsSound, IsSubjectOf, address_of, led}
 use Rattle.vmx_machine.specs.walk.Walk.TheVariants.{At}
 use Rattle.muen_num.specs.declared.access.AccessKind.{AccessKind}

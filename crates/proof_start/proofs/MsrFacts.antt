@@ -6,7 +6,7 @@ use Rattle.std.proofs.lemmas.Bool.{and_from, and_parts, eq-eqb, eqb-true, false_
 use Rattle.std.proofs.lemmas.Bool.Decides.{nat_tests}
 use Rattle.std.proofs.lemmas.List.{map-append}
 use Rattle.std.proofs.lemmas.List.Folds.{list_all-append, list_all-map, list_any-append}
-use Rattle.subject_model.specs.Alone.{is_in}
+use Rattle.muen_num.specs.Numbers.{is_among}
 use Rattle.policy_lawful.proofs.EachPasses.{all_flat}
 use Rattle.policy_lawful.proofs.KeptRules.{rules_of}
 use Rattle.expand_grants.specs.Resources.{Msr, is_granted, msrs_in, msrs_of}
@@ -73,20 +73,20 @@ all_covered x h =
 -- ---- each once
 
 -- the numbers of a list that is joined of two
-distinct_both : (xs ys : List ℕ) → AreDistinct xs → AreDistinct ys → ((i : ℕ) → is_in xs i ≡ true → is_in ys i ≡ false) → AreDistinct (xs ++ ys)
+distinct_both : (xs ys : List ℕ) → AreDistinct xs → AreDistinct ys → ((i : ℕ) → is_among xs i ≡ true → is_among ys i ≡ false) → AreDistinct (xs ++ ys)
 distinct_both [] ys a b h = b
 distinct_both (x ∷ xs) ys a b h = (
-  list_any-append (λ w. w == x) xs ys ∙ or_from (is_in xs x) (is_in ys x) a.0 (h x (or_left (x == x) (is_in xs x) (eq-eqb x x refl))),
-  distinct_both xs ys a.1 b (λ i e. h i (or_right (x == i) (is_in xs i) e)),
+  list_any-append (λ w. w == x) xs ys ∙ or_from (is_among xs x) (is_among ys x) a.0 (h x (or_left (x == x) (is_among xs x) (eq-eqb x x refl))),
+  distinct_both xs ys a.1 b (λ i e. h i (or_right (x == i) (is_among xs i) e)),
 )
 
 -- so many numbers from this one on
-numbers_in : (start n i : ℕ) → is_in (map (λ k. start + k) (numbers_below n)) i ≡ true → (start ≤ i) × (i < start + n)
+numbers_in : (start n i : ℕ) → is_among (map (λ k. start + k) (numbers_below n)) i ≡ true → (start ≤ i) × (i < start + n)
 numbers_in start zero i h = absurd (cc)
 numbers_in start (suc n) i h =
     let front = map (λ k. start + k) (numbers_below n) in
-    let either : (is_in front i || ((start + n == i) || false)) ≡ true = sym (list_any-append (λ w. w == i) front ((start + n) ∷ [])) ∙ ap (λ xs. is_in xs i) (sym (map-append (λ k. start + k) (numbers_below n) (n ∷ []))) ∙ h in
-    elim (or_cases (is_in front i) ((start + n == i) || false) either) as (λ _. (start ≤ i) × (i < start + suc n)) [
+    let either : (is_among front i || ((start + n == i) || false)) ≡ true = sym (list_any-append (λ w. w == i) front ((start + n) ∷ [])) ∙ ap (λ xs. is_among xs i) (sym (map-append (λ k. start + k) (numbers_below n) (n ∷ []))) ∙ h in
+    elim (or_cases (is_among front i) ((start + n == i) || false) either) as (λ _. (start ≤ i) × (i < start + suc n)) [
       | inl e ↦ let before = numbers_in start n i e in (before.0, omega (arith, before.1))
       | inr e ↦ elim (or_cases (start + n == i) false e) as (λ _. (start ≤ i) × (i < start + suc n)) [
         | inl last ↦ let is : start + n ≡ i = eqb-true (start + n) i last in (omega (arith, is), omega (arith, is))
@@ -112,23 +112,23 @@ range_numbers : (x : Msrs) → map index_of (msrs_in x) ≡ map (λ k. x.start +
 unfolding index_of
 range_numbers x = map-map index_of (λ k. record { index = x.start + k; read = x.rights.read; write = x.rights.write }) (numbers_below (x.end + 1 - x.start))
 
-in_range : (x : Msrs) (i : ℕ) → is_in (map index_of (msrs_in x)) i ≡ true → is_between x i ≡ true
+in_range : (x : Msrs) (i : ℕ) → is_among (map index_of (msrs_in x)) i ≡ true → is_between x i ≡ true
 unfolding is_between
 in_range x i h =
-    let ends = numbers_in x.start (x.end + 1 - x.start) i (ap (λ xs. is_in xs i) (sym (range_numbers x)) ∙ h) in
+    let ends = numbers_in x.start (x.end + 1 - x.start) i (ap (λ xs. is_among xs i) (sym (range_numbers x)) ∙ h) in
     and_from (nat_le x.start i) (nat_le i x.end) (le-leb x.start i ends.0) (le-leb i x.end (omega (arith, ends.0, ends.1)))
 
 range_distinct : (x : Msrs) → AreDistinct (map index_of (msrs_in x))
 range_distinct x = subst AreDistinct (sym (range_numbers x)) (numbers_distinct x.start (x.end + 1 - x.start))
 
 -- a number of several ranges is one of one of them
-in_ranges : (xs : List Msrs) (i : ℕ) → is_in (map index_of (flat_map msrs_in xs)) i ≡ true → list_any (λ y. is_between y i) xs ≡ true
+in_ranges : (xs : List Msrs) (i : ℕ) → is_among (map index_of (flat_map msrs_in xs)) i ≡ true → list_any (λ y. is_between y i) xs ≡ true
 in_ranges [] i h = absurd (cc)
 in_ranges (x ∷ xs) i h =
     let here = map index_of (msrs_in x) in
     let later = map index_of (flat_map msrs_in xs) in
-    let either : (is_in here i || is_in later i) ≡ true = sym (list_any-append (λ w. w == i) here later) ∙ ap (λ ns. is_in ns i) (sym (map-append index_of (msrs_in x) (flat_map msrs_in xs))) ∙ h in
-    elim (or_cases (is_in here i) (is_in later i) either) as (λ _. (is_between x i || list_any (λ y. is_between y i) xs) ≡ true) [
+    let either : (is_among here i || is_among later i) ≡ true = sym (list_any-append (λ w. w == i) here later) ∙ ap (λ ns. is_among ns i) (sym (map-append index_of (msrs_in x) (flat_map msrs_in xs))) ∙ h in
+    elim (or_cases (is_among here i) (is_among later i) either) as (λ _. (is_between x i || list_any (λ y. is_between y i) xs) ≡ true) [
       | inl e ↦ or_left (is_between x i) (list_any (λ y. is_between y i) xs) (in_range x i e)
       | inr e ↦ or_right (is_between x i) (list_any (λ y. is_between y i) xs) (in_ranges xs i e)
     ]
@@ -155,7 +155,7 @@ all_distinct (x ∷ xs) h =
     subst AreDistinct (sym (map-append index_of (msrs_in x) (flat_map msrs_in xs)))
     (distinct_both (map index_of (msrs_in x)) later (range_distinct x) (all_distinct xs both.1)
     (λ i e.
-    false_from_ne_true (is_in later i) (λ there.
+    false_from_ne_true (is_among later i) (λ there.
     true≢false (sym (in_ranges xs i there) ∙ not_later x xs i both.0 (in_range x i e)))))
 
 -- ---- of a subject

@@ -5,11 +5,11 @@ use Rattle.std.specs.List.{find, list_any}
 use Rattle.std.proofs.lemmas.Bool.{cases_Bool, cases_eq, eq-eqb, eqb-true, ne_eqb}
 use Rattle.std.proofs.lemmas.List.{length-map}
 use Rattle.std.proofs.lemmas.Map.Keys.{any_passes_from_place}
-use Rattle.image_load.specs.Loaded.{page_of_span}
+use Rattle.image_memory.specs.Memory.{page_of_span}
 use Rattle.image_pack.specs.SpanConditions.{AreSpans}
 use Rattle.image_pack.specs.declared.parts.SpanPart.{SpanPart}
-use Rattle.proof_start.proofs.ListFacts.{any_passing, pairs_at}
-use Rattle.proof_start.proofs.SpanFacts.{first_page_of, found_by}
+use Rattle.muen_num.proofs.Indexed.{any_passing, pairs_at}
+use Rattle.image_memory.proofs.SpanNumbers.{first_page_of, found_by}
 use Rattle.muen_num.proofs.Lists.{all_at}
 
 -- a number isn't in the list

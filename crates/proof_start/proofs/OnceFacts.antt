@@ -17,7 +17,7 @@ use Rattle.policy_lawful.specs.source.Device.{Device}
 use Rattle.policy_lawful.specs.source.Source.{Source}
 use Rattle.muen_num.proofs.Members.{In, append_some, at_in, flat_some, index_in, map_in, map_some}
 use Rattle.muen_num.proofs.Lookups.{same_self}
-use Rattle.proof_start.proofs.ListFacts.{found_at}
+use Rattle.muen_num.proofs.Indexed.{found_at}
 use Rattle.policy_lawful.proofs.Items.{provided_by, things_are}
 
 -- ---- lists in which each element stands once

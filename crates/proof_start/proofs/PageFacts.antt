@@ -4,9 +4,9 @@ use Rattle.std.specs.Prelude.{◌==◌, ◌&&◌, ◌||◌, nat_le, slice_get}
 use Rattle.std.specs.List.{All}
 use Rattle.std.proofs.lemmas.Bool.{and_from, and_parts, leb-true, or_left, or_right}
 use Rattle.std.proofs.lemmas.List.Elements.{All-weaker}
-use Rattle.image_load.specs.Loaded.{control_of, memory_of as loaded_memory, page_of_span}
+use Rattle.image_load.specs.Loaded.{control_of}
+use Rattle.image_memory.specs.Memory.{memory_of, page_at, page_of_span}
 use Rattle.image_soundness.proofs.SoundFacts.{states_of, tables_of}
-use Rattle.image_soundness.specs.Memory.{memory_of, page_at}
 use Rattle.image_soundness.specs.Sound.{IsSound, IsFresh, ReadsTables, is_in_tables, is_kernel, is_tables}
 use Rattle.image_pack.specs.Codes.{part_code}
 use Rattle.image_pack.specs.ImageConditions.{KeepsConditions}
@@ -31,10 +31,13 @@ use Rattle.subject_model.specs.StatePage.{page_bytes}
 use Rattle.subject_model.specs.States.{started}
 use Rattle.vmx_machine.specs.declared.control.Control.{Control}
 use Rattle.proof_start.specs.GroundOf.{HoldsBytes, ground_of, is_kept}
-use Rattle.proof_start.proofs.ListFacts.{any_passing}
-use Rattle.proof_start.proofs.MemoryFacts.{memory_small, numbered_page, numbered_page_long, page_there, same_memory}
-use Rattle.proof_start.proofs.SpanFacts.{HasPage, KernelSpan, kernel_kind, page_in, page_kept}
-use Rattle.proof_start.proofs.SubjectFacts.{control_at, controlled, subject_spans}
+use Rattle.muen_num.proofs.Indexed.{any_passing}
+use Rattle.proof_start.proofs.MemoryFacts.{memory_small}
+use Rattle.image_memory.proofs.SpanPages.{numbered_page, numbered_page_long, page_there}
+use Rattle.proof_start.proofs.SpanFacts.{HasPage, kernel_kind, page_in, page_kept}
+use Rattle.image_memory.proofs.SpanNumbers.{KernelSpan}
+use Rattle.proof_start.proofs.SubjectFacts.{control_at, controlled}
+use Rattle.image_memory.proofs.SubjectSpans.{subject_spans}
 use Rattle.proof_start.proofs.SpansOfThings.{thing_span}
 
 -- ---- tables
@@ -67,9 +70,8 @@ tables_kept p files i keeps sound s c addr at low =
     let n = first_at (λ s q. ReadsTables i q) p.subjects i.subjects s k.part (tables_of p files i sound) k.here in
     let reads = n.2 addr low in
     let eptp : k.part.eptp ≡ c.eptp = ap (λ d. d.eptp) k.is in
-    subst (λ e. All (λ at. (ground_of p i).kept (at / 4096) ≡ true) (addresses_read (loaded_memory i) e addr)) eptp
-    (subst (λ m. All (λ at. (ground_of p i).kept (at / 4096) ≡ true) (addresses_read m k.part.eptp addr)) (sym (same_memory i))
-    (All-weaker (λ at. is_in_tables i at ≡ true) (λ at. (ground_of p i).kept (at / 4096) ≡ true) (λ at h. entry_kept p i keeps at h) (addresses_read (memory_of i) k.part.eptp addr) reads))
+    subst (λ e. All (λ at. (ground_of p i).kept (at / 4096) ≡ true) (addresses_read (memory_of i) e addr)) eptp
+    (All-weaker (λ at. is_in_tables i at ≡ true) (λ at. (ground_of p i).kept (at / 4096) ≡ true) (λ at h. entry_kept p i keeps at h) (addresses_read (memory_of i) k.part.eptp addr) reads)
 
 -- ---- bitmaps
 
@@ -108,51 +110,51 @@ msrbm_kept p i keeps s c at =
 -- ---- what stands on the pages at the start
 
 -- page j of a thing has the bytes that the policy gives it
-pub thing_pages : (p : Source) (files : Held) (i : Image) → KeepsConditions i → IsSound p files i → (x : Thing) (j : ℕ) → j < (ground_of p i).pages x → page_of (loaded_memory i) ((ground_of p i).first x + j) ≡ Some (part j (initial_bytes p files x))
+pub thing_pages : (p : Source) (files : Held) (i : Image) → KeepsConditions i → IsSound p files i → (x : Thing) (j : ℕ) → j < (ground_of p i).pages x → page_of (memory_of i) ((ground_of p i).first x + j) ≡ Some (part j (initial_bytes p files x))
 thing_pages p files i keeps sound x j low =
     let t = thing_span p files i keeps sound x j low in
-    ap (λ n. page_of (loaded_memory i) (n + j)) t.first ∙ page_there i keeps t.span t.within j (subst (λ n. j < n) t.pages low) ∙ ap (λ bs. Some (part j bs)) t.is.bytes
+    ap (λ n. page_of (memory_of i) (n + j)) t.first ∙ page_there i keeps t.span t.within j (subst (λ n. j < n) t.pages low) ∙ ap (λ bs. Some (part j bs)) t.is.bytes
 
 -- a subject's control is that of its part of the image
 pub its_control : (p : Source) (i : Image) (s : ℕ) (q : SubjectPart) (c : Control) → slice_get i.subjects s ≡ Some q → slice_get (ground_of p i).setup.controls s ≡ Some c → control_of i.spans q ≡ c
 its_control p i s q c here at = one_value (slice_get (ground_of p i).setup.controls s) (control_of i.spans q) c (control_at p i s q here) at
 
 -- the first page of a span that the kernel has for a subject
-first_there : (i : Image) → KeepsConditions i → (code pages n k : ℕ) → 0 < pages → KernelSpan i.spans code pages n → page_of_span i.spans n ≡ k → page_of (loaded_memory i) k ≡ Some (page_at i n 0)
+first_there : (i : Image) → KeepsConditions i → (code pages n k : ℕ) → 0 < pages → KernelSpan i.spans code pages n → page_of_span i.spans n ≡ k → page_of (memory_of i) k ≡ Some (page_at i n 0)
 first_there i keeps code pages n k some s is =
-    subst (λ m. page_of (loaded_memory i) m ≡ Some (page_at i n 0)) (at_first (page_of_span i.spans n) ∙ is) (numbered_page i keeps code pages n 0 s some)
+    subst (λ m. page_of (memory_of i) m ≡ Some (page_at i n 0)) (at_first (page_of_span i.spans n) ∙ is) (numbered_page i keeps code pages n 0 s some)
 
 -- the state page of a subject has its state at the start
-pub state_page_at : (p : Source) (i : Image) → KeepsConditions i → (s : ℕ) (q : SubjectPart) (c : Control) → slice_get i.subjects s ≡ Some q → slice_get (ground_of p i).setup.controls s ≡ Some c → page_of (loaded_memory i) c.state ≡ Some (page_at i q.state 0)
+pub state_page_at : (p : Source) (i : Image) → KeepsConditions i → (s : ℕ) (q : SubjectPart) (c : Control) → slice_get i.subjects s ≡ Some q → slice_get (ground_of p i).setup.controls s ≡ Some c → page_of (memory_of i) c.state ≡ Some (page_at i q.state 0)
 state_page_at p i keeps s q c here at =
     first_there i keeps (part_code State) 1 q.state c.state (omega arith) (subject_spans i keeps s q here).state (ap (λ d. d.state) (its_control p i s q c here at))
 
-pub state_page_there : (p : Source) (files : Held) (i : Image) → KeepsConditions i → IsSound p files i → (s : ℕ) (n : Subject) (c : Control) → slice_get p.subjects s ≡ Some n → slice_get (ground_of p i).setup.controls s ≡ Some c → page_of (loaded_memory i) c.state ≡ Some (page_bytes (started n.entry))
+pub state_page_there : (p : Source) (files : Held) (i : Image) → KeepsConditions i → IsSound p files i → (s : ℕ) (n : Subject) (c : Control) → slice_get p.subjects s ≡ Some n → slice_get (ground_of p i).setup.controls s ≡ Some c → page_of (memory_of i) c.state ≡ Some (page_bytes (started n.entry))
 state_page_there p files i keeps sound s n c named at =
     let o = other_at (IsFresh i) p.subjects i.subjects s n (states_of p files i sound) named in
     state_page_at p i keeps s o.0 c o.1 at ∙ ap Some o.2
 
 -- the area of a subject is there, as a whole page
-pub area_page_there : (p : Source) (i : Image) → KeepsConditions i → (s : ℕ) (q : SubjectPart) (c : Control) → slice_get i.subjects s ≡ Some q → slice_get (ground_of p i).setup.controls s ≡ Some c → (page_of (loaded_memory i) c.msr_area ≡ Some (page_at i q.area 0)) × (length (page_at i q.area 0) ≡ 4096)
+pub area_page_there : (p : Source) (i : Image) → KeepsConditions i → (s : ℕ) (q : SubjectPart) (c : Control) → slice_get i.subjects s ≡ Some q → slice_get (ground_of p i).setup.controls s ≡ Some c → (page_of (memory_of i) c.msr_area ≡ Some (page_at i q.area 0)) × (length (page_at i q.area 0) ≡ 4096)
 area_page_there p i keeps s q c here at =
     let span = (subject_spans i keeps s q here).area in
     (first_there i keeps (part_code Msrs) 1 q.area c.msr_area (omega arith) span (ap (λ d. d.msr_area) (its_control p i s q c here at)), numbered_page_long i keeps (part_code Msrs) 1 q.area 0 span (omega arith))
 
 -- and so are its bitmaps
-pub io_page_there : (p : Source) (i : Image) → KeepsConditions i → (s : ℕ) (q : SubjectPart) (c : Control) → slice_get i.subjects s ≡ Some q → slice_get (ground_of p i).setup.controls s ≡ Some c → page_of (loaded_memory i) c.io_bitmaps ≡ Some (page_at i q.iobm 0)
+pub io_page_there : (p : Source) (i : Image) → KeepsConditions i → (s : ℕ) (q : SubjectPart) (c : Control) → slice_get i.subjects s ≡ Some q → slice_get (ground_of p i).setup.controls s ≡ Some c → page_of (memory_of i) c.io_bitmaps ≡ Some (page_at i q.iobm 0)
 io_page_there p i keeps s q c here at =
     first_there i keeps (part_code Iobm) 2 q.iobm c.io_bitmaps (omega arith) (subject_spans i keeps s q here).iobm (ap (λ d. d.io_bitmaps) (its_control p i s q c here at))
 
-pub second_io_page_there : (p : Source) (i : Image) → KeepsConditions i → (s : ℕ) (q : SubjectPart) (c : Control) → slice_get i.subjects s ≡ Some q → slice_get (ground_of p i).setup.controls s ≡ Some c → page_of (loaded_memory i) (c.io_bitmaps + 1) ≡ Some (page_at i q.iobm 1)
+pub second_io_page_there : (p : Source) (i : Image) → KeepsConditions i → (s : ℕ) (q : SubjectPart) (c : Control) → slice_get i.subjects s ≡ Some q → slice_get (ground_of p i).setup.controls s ≡ Some c → page_of (memory_of i) (c.io_bitmaps + 1) ≡ Some (page_at i q.iobm 1)
 second_io_page_there p i keeps s q c here at =
-    subst (λ n. page_of (loaded_memory i) (n + 1) ≡ Some (page_at i q.iobm 1)) (ap (λ d. d.io_bitmaps) (its_control p i s q c here at))
+    subst (λ n. page_of (memory_of i) (n + 1) ≡ Some (page_at i q.iobm 1)) (ap (λ d. d.io_bitmaps) (its_control p i s q c here at))
     (numbered_page i keeps (part_code Iobm) 2 q.iobm 1 (subject_spans i keeps s q here).iobm (omega arith))
 
-pub msr_page_there : (p : Source) (i : Image) → KeepsConditions i → (s : ℕ) (q : SubjectPart) (c : Control) → slice_get i.subjects s ≡ Some q → slice_get (ground_of p i).setup.controls s ≡ Some c → page_of (loaded_memory i) c.msr_bitmap ≡ Some (page_at i q.msrbm 0)
+pub msr_page_there : (p : Source) (i : Image) → KeepsConditions i → (s : ℕ) (q : SubjectPart) (c : Control) → slice_get i.subjects s ≡ Some q → slice_get (ground_of p i).setup.controls s ≡ Some c → page_of (memory_of i) c.msr_bitmap ≡ Some (page_at i q.msrbm 0)
 msr_page_there p i keeps s q c here at =
     first_there i keeps (part_code Msrbm) 1 q.msrbm c.msr_bitmap (omega arith) (subject_spans i keeps s q here).msrbm (ap (λ d. d.msr_bitmap) (its_control p i s q c here at))
 
 -- ---- bytes
 
-pub small_pages : (p : Source) (i : Image) → HoldsBytes i → (k : ℕ) (page : List ℕ) → page_of (loaded_memory i) k ≡ Some page → All IsByte page
+pub small_pages : (p : Source) (i : Image) → HoldsBytes i → (k : ℕ) (page : List ℕ) → page_of (memory_of i) k ≡ Some page → All IsByte page
 small_pages p i small k page at = memory_small i small k page at

@@ -17,7 +17,8 @@ use Rattle.policy_lawful.proofs.KeptCpus.{cpus_kept}
 use Rattle.policy_lawful.proofs.KeptRules.{rules_of}
 use Rattle.policy_lawful.specs.Lawful.{IsLawful}
 use Rattle.policy_lawful.specs.Offences.{two}
-use Rattle.policy_lawful.specs.Rules.{is_alignment, is_fixed, is_laid, is_page_aligned, is_page_size, major_offence, majors_of, offence_16, tau0_offence}
+use Rattle.policy_lawful.specs.Rules.{is_alignment, is_fixed, is_laid, is_page_size, major_offence, majors_of, offence_16, tau0_offence}
+use Rattle.muen_num.specs.Numbers.{is_page_aligned}
 use Rattle.policy_lawful.specs.Contents.{Held, initial_bytes}
 use Rattle.policy_lawful.specs.Frames.{frames_of, major_frames_of}
 use Rattle.policy_lawful.specs.Thing.{region, same_thing, things_of}
@@ -26,7 +27,7 @@ use Rattle.policy_lawful.specs.source.MajorFrame.{MajorFrame}
 use Rattle.policy_lawful.specs.source.Region.{Region}
 use Rattle.policy_lawful.specs.source.Source.{Source}
 use Rattle.policy_lawful.specs.source.Tau0.{Tau0}
-use Rattle.proof_start.proofs.ThingFacts.{region_is_thing, region_long}
+use Rattle.image_soundness.proofs.ThingFacts.{region_is_thing, region_long}
 
 -- ---- CPUs that aren't there
 

@@ -5,8 +5,7 @@ use Rattle.std.specs.List.{All}
 use Rattle.std.proofs.lemmas.Bool.{false≢true}
 use Rattle.std.proofs.lemmas.Option.{get_or_from_slice_get, same_Some, slice_get_within}
 use Rattle.std.proofs.lemmas.Map.Keys.{any_passes_from_place}
-use Rattle.image_load.specs.Loaded.{page_of_span}
-use Rattle.image_soundness.specs.Memory.{Span, by_number, span_at}
+use Rattle.image_memory.specs.Memory.{page_of_span, Span, by_number, span_at}
 use Rattle.image_soundness.specs.Named.{tag_at}
 use Rattle.image_soundness.specs.Sound.{IsSound, IsSpanOf, is_kernel, thing_spans}
 use Rattle.image_pack.specs.Codes.{is_own}
@@ -23,10 +22,10 @@ use Rattle.policy_lawful.specs.Contents.{Held}
 use Rattle.policy_lawful.specs.Thing.{region, same_thing, things_of, thing_tag}
 use Rattle.policy_lawful.specs.source.Source.{Source}
 use Rattle.policy_lawful.specs.source.Tau0.{Tau0}
-use Rattle.subject_model.proofs.KeyLaws.{same_thing_self}
+use Rattle.policy_lawful.proofs.SameThings.{same_thing_self}
 use Rattle.proof_start.specs.GroundOf.{ground_of}
-use Rattle.proof_start.proofs.ListFacts.{filtered_there, kept_there}
-use Rattle.proof_start.proofs.MemoryFacts.{by_its_number, span_with}
+use Rattle.muen_num.proofs.Indexed.{filtered_there, kept_there}
+use Rattle.image_memory.proofs.SpanPages.{by_its_number, span_with}
 use Rattle.proof_start.proofs.NumberFacts.{span_of}
 use Rattle.proof_start.proofs.OnceFacts.{thing_once}
 use Rattle.proof_start.proofs.SpansOfThings.{listed_span, thing_by}

@@ -27,7 +27,7 @@ use Rattle.policy_lawful.specs.Frames.{frames_of}
 use Rattle.policy_lawful.specs.source.Source.{Source}
 use Rattle.proof_start.proofs.PlanFacts.{no_slots}
 use Rattle.subject_model.proofs.SlotGroups.{at_slot}
-use Rattle.proof_start.proofs.SubjectFacts.{subject_kept}
+use Rattle.image_memory.proofs.SubjectSpans.{subject_kept}
 
 -- ---- CPUs and slots
 

@@ -4,7 +4,7 @@ use Rattle.std.specs.Prelude.{not, option_map, slice_get}
 use Rattle.std.specs.List.{find, list_any, zip}
 use Rattle.std.specs.Option.{option_map_or}
 use Rattle.std.proofs.lemmas.Bool.{not-true}
-use Rattle.image_soundness.specs.Memory.{Span, by_number, span_at}
+use Rattle.image_memory.specs.Memory.{Span, by_number, span_at}
 use Rattle.image_soundness.specs.Sound.{IsSound, IsSpanOf, is_kernel, kind_of, address_of, thing_spans}
 use Rattle.image_pack.specs.ImageConditions.{KeepsConditions}
 use Rattle.image_pack.specs.declared.parts.Image.{Image}
@@ -13,10 +13,10 @@ use Rattle.muen_num.proofs.Pairs.{both_at, other_at, zipped_at, zipped_both}
 use Rattle.policy_lawful.specs.Contents.{Held, initial_bytes}
 use Rattle.policy_lawful.specs.Thing.{Thing, region, channel, provided, device_memory, state, same_thing, things_of, thing_tag}
 use Rattle.policy_lawful.specs.source.Source.{Source}
-use Rattle.subject_model.proofs.KeyLaws.{same_things}
+use Rattle.policy_lawful.proofs.SameThings.{same_things}
 use Rattle.proof_start.specs.GroundOf.{ground_of, pages_in}
-use Rattle.proof_start.proofs.ListFacts.{any_passing, filtered_at, found_at, found_changed, found_some, kept_at}
-use Rattle.proof_start.proofs.MemoryFacts.{SpanIn, span_by}
+use Rattle.muen_num.proofs.Indexed.{any_passing, filtered_at, found_at, found_changed, found_some, kept_at}
+use Rattle.image_memory.proofs.SpanPages.{SpanIn, span_by}
 
 -- ---- what a tag and a kind tell
 

@@ -15,8 +15,10 @@ use Rattle.policy_lawful.specs.Thing.{Thing}
 use Rattle.policy_lawful.specs.source.Source.{Source}
 use Rattle.proof_turns.specs.Ground.{Spot, thing_at, state_at, area_at, IsAt}
 use Rattle.proof_start.specs.GroundOf.{ground_of, is_kept}
-use Rattle.proof_start.proofs.SpanFacts.{HasPage, KernelSpan, first_page_in, kernel_kind, page_in, page_not_kept, same_span}
-use Rattle.proof_start.proofs.SubjectFacts.{controlled, own_apart, subject_spans}
+use Rattle.proof_start.proofs.SpanFacts.{HasPage, first_page_in, kernel_kind, page_in, page_not_kept, same_span}
+use Rattle.image_memory.proofs.SpanNumbers.{KernelSpan}
+use Rattle.proof_start.proofs.SubjectFacts.{controlled, own_apart}
+use Rattle.image_memory.proofs.SubjectSpans.{subject_spans}
 use Rattle.proof_start.proofs.SpansOfThings.{ThingSpan, thing_by, thing_span}
 
 -- ---- the span of a spot's page

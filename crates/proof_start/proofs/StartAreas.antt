@@ -8,7 +8,8 @@ use Rattle.std.proofs.lemmas.List.{drop-take, take-take}
 use Rattle.std.proofs.lemmas.List.Sorted.{list_any-IsPermutation, sum_by-IsPermutation}
 use Rattle.std.proofs.lemmas.List.Sums.{sum_by-cons}
 use Rattle.std.proofs.lemmas.Option.{same_Some, slice_get-map, slice_get_within}
-use Rattle.subject_model.specs.Alone.{is_in, msr_value}
+use Rattle.subject_model.specs.Alone.{msr_value}
+use Rattle.muen_num.specs.Numbers.{is_among}
 use Rattle.expand_grants.specs.Resources.{Msr, is_granted, msrs_of}
 use Rattle.vmx_machine.specs.Exits.{AreaEntry, area_index, area_value}
 use Rattle.vmx_machine.specs.Memory.{le_number}
@@ -28,16 +29,16 @@ one_if v x = cond (x == v) 1 0
 abbrev times : ℕ → List ℕ → ℕ
 times v xs = sum_by (one_if v) xs
 
-absent : (v : ℕ) (xs : List ℕ) → is_in xs v ≡ false → times v xs ≡ 0
+absent : (v : ℕ) (xs : List ℕ) → is_among xs v ≡ false → times v xs ≡ 0
 absent v [] h = refl
 absent v (x ∷ xs) h =
-    let both = or_parts (x == v) (is_in xs v) h in
+    let both = or_parts (x == v) (is_among xs v) h in
     let here : one_if v x ≡ 0 = ap (λ b. cond b 1 0) both.0 in
     let more = sum_by-cons (one_if v) x xs in
     let rest = absent v xs both.1 in
     omega (arith, here, more, rest)
 
-present : (v : ℕ) (xs : List ℕ) → is_in xs v ≡ true → 0 < times v xs
+present : (v : ℕ) (xs : List ℕ) → is_among xs v ≡ true → 0 < times v xs
 present v [] h = absurd (cc (h))
 present v (x ∷ xs) h =
     let more = sum_by-cons (one_if v) x xs in
@@ -54,7 +55,7 @@ once v (x ∷ xs) h =
     elim (cases_Bool (x == v)) [
       | inl t ↦
           let here : one_if v x ≡ 1 = ap (λ b. cond b 1 0) t in
-          let none = absent v xs (subst (λ n. is_in xs n ≡ false) (eqb-true x v t) h.0) in
+          let none = absent v xs (subst (λ n. is_among xs n ≡ false) (eqb-true x v t) h.0) in
           omega (arith, here, more, none)
       | inr f ↦ let here : one_if v x ≡ 0 = ap (λ b. cond b 1 0) f in omega (arith, here, more, rest)
     ]
@@ -62,7 +63,7 @@ once v (x ∷ xs) h =
 distinct_by : (xs : List ℕ) → ((v : ℕ) → times v xs ≤ 1) → AreDistinct xs
 distinct_by [] h = tt
 distinct_by (x ∷ xs) h = (
-  false_from_ne_true (is_in xs x) (λ there.
+  false_from_ne_true (is_among xs x) (λ there.
       let here : one_if x x ≡ 1 = ap (λ b. cond b 1 0) (eq-eqb x x refl) in
       let more = sum_by-cons (one_if x) x xs in
       let some = present x xs there in
@@ -82,7 +83,7 @@ distinct_permuted xs ys same h =
     let most = once v xs h in
     omega (arith, n, most))
 
-pub in_permuted : (xs ys : List ℕ) (v : ℕ) → IsPermutation xs ys → is_in xs v ≡ true → is_in ys v ≡ true
+pub in_permuted : (xs ys : List ℕ) (v : ℕ) → IsPermutation xs ys → is_among xs v ≡ true → is_among ys v ≡ true
 in_permuted xs ys v same h = sym (list_any-IsPermutation (λ x. x == v) xs ys same) ∙ h
 
 -- ---- numbers below a count
@@ -121,7 +122,7 @@ indices_at : (area : List ℕ) (is : List ℕ) → indices (map (entry_at area) 
 indices_at area [] = refl
 indices_at area (i ∷ is) = ap (λ xs. area_index area i ∷ xs) (indices_at area is)
 
-zero_entry : (es : List AreaEntry) (v : ℕ) → ((k : ℕ) (e : AreaEntry) → slice_get es k ≡ Some e → e.value ≡ 0) → is_in (indices es) v ≡ true → entry_value es v ≡ Some 0
+zero_entry : (es : List AreaEntry) (v : ℕ) → ((k : ℕ) (e : AreaEntry) → slice_get es k ≡ Some e → e.value ≡ 0) → is_among (indices es) v ≡ true → entry_value es v ≡ Some 0
 zero_entry [] v h there = absurd (cc (there))
 zero_entry (e ∷ es) v h there =
     let here : e.value ≡ 0 = h 0 e refl in
@@ -131,16 +132,16 @@ zero_entry (e ∷ es) v h there =
     ]
 
 -- what is granted is one of the granted
-pub granted_in : (msrs : List Msr) (v : ℕ) (write : Bool) → is_granted msrs v write ≡ true → is_in (map (λ m. m.index) msrs) v ≡ true
+pub granted_in : (msrs : List Msr) (v : ℕ) (write : Bool) → is_granted msrs v write ≡ true → is_among (map (λ m. m.index) msrs) v ≡ true
 granted_in [] v write h = absurd (cc (h))
 granted_in (m ∷ ms) v write h =
     elim (or_cases ((m.index == v) && (if write then m.write else m.read)) (is_granted ms v write) h) [
-      | inl t ↦ or_left (m.index == v) (is_in (map (λ m. m.index) ms) v) (and_parts (m.index == v) (if write then m.write else m.read) t).0
-      | inr t ↦ or_right (m.index == v) (is_in (map (λ m. m.index) ms) v) (granted_in ms v write t)
+      | inl t ↦ or_left (m.index == v) (is_among (map (λ m. m.index) ms) v) (and_parts (m.index == v) (if write then m.write else m.read) t).0
+      | inr t ↦ or_right (m.index == v) (is_among (map (λ m. m.index) ms) v) (granted_in ms v write t)
     ]
 
 -- its value at the start is 0
-pub zero_value : (msrs : List Msr) (v : ℕ) → is_in (map (λ m. m.index) msrs) v ≡ true → msr_value (map (λ m. (m.index, 0)) msrs) v ≡ Some 0
+pub zero_value : (msrs : List Msr) (v : ℕ) → is_among (map (λ m. m.index) msrs) v ≡ true → msr_value (map (λ m. (m.index, 0)) msrs) v ≡ Some 0
 zero_value [] v h = absurd (cc (h))
 zero_value (m ∷ ms) v h =
     elim (cases_Bool (m.index == v)) [
@@ -155,8 +156,8 @@ module _ (n : Subject) (bytes : List ℕ) (count : ℕ) (few : 16 * count ≤ 40
   page_indices : indices (entries_in count (take 4096 bytes)) ≡ map (area_index bytes) (numbers_below count)
   page_indices = indices_at (take 4096 bytes) (numbers_below count) ∙ same_below (area_index (take 4096 bytes)) (area_index bytes) count (λ k l. front_index bytes k (omega (arith, few, l)))
 
-  in_entries : (v : ℕ) → HasMsr n v → is_in (indices (entries_in count (take 4096 bytes))) v ≡ true
-  in_entries v has = subst (λ is. is_in is v ≡ true) (sym page_indices) (in_permuted (map (λ m. m.index) (msrs_of n)) (map (area_index bytes) (numbers_below count)) v each (granted_in (msrs_of n) v has.0 has.1))
+  in_entries : (v : ℕ) → HasMsr n v → is_among (indices (entries_in count (take 4096 bytes))) v ≡ true
+  in_entries v has = subst (λ is. is_among is v ≡ true) (sym page_indices) (in_permuted (map (λ m. m.index) (msrs_of n)) (map (area_index bytes) (numbers_below count)) v each (granted_in (msrs_of n) v has.0 has.1))
 
   -- each index is there once, and each granted MSR is there
   pub area_entries : AreDistinct (map (λ m. m.index) (msrs_of n)) → AreEntries n (entries_in count (take 4096 bytes))

@@ -26,7 +26,8 @@ use Rattle.guest_isa.specs.Words.{IsWord}
 use Rattle.proof_turns.specs.Held.{IsSameSet, SameSet}
 use Rattle.proof_turns.specs.Stands.{CpusStand, FitsCpu, IsMember, RouterStands, SameEntered}
 use Rattle.vmx_machine.specs.Machine.{fresh}
-use Rattle.vmx_machine.specs.MsrFile.{most, zeros}
+use Rattle.vmx_machine.specs.MsrFile.{most}
+use Rattle.muen_num.specs.Numbers.{zeros}
 use Rattle.vmx_machine.specs.declared.cpu.Cpu.{Cpu}
 use Rattle.proof_start.specs.GroundOf.{ground_of}
 use Rattle.subject_model.proofs.StartLists.{named_map, numbered_at, replicated, replicated_there}

@@ -2,16 +2,16 @@
 use Rattle.std.proofs.Common.{◌≡◌, ℕ, ◌+◌, ◌*◌, ◌≤◌, true, false, List, [], length, map, replicate, Option, Some, None, refl, sym, ap, subst, ◌∙◌, arith}
 use Rattle.std.specs.Prelude.{option_map, slice_get, unwrap_or}
 use Rattle.std.specs.List.{All, enumerate_from, list_any}
-use Rattle.std.proofs.lemmas.List.{length-replicate}
 use Rattle.std.proofs.lemmas.List.Elements.{All-replicate}
 use Rattle.std.proofs.lemmas.Map.Keys.{any_passes_from_place}
 use Rattle.subject_model.specs.Alone.{MsrValues, Things, msr_value, thing_in}
 use Rattle.subject_model.specs.System.{Named, first_inputs, first_page, named, start_of, subject_named}
-use Rattle.proof_turns.specs.Devices.{no_inputs, zeros}
+use Rattle.proof_turns.specs.Devices.{no_inputs}
+use Rattle.muen_num.specs.Numbers.{zeros}
 use Rattle.expand_grants.specs.Resources.{msrs_of}
-use Rattle.image_load.specs.Loaded.{memory_of as loaded_memory, setup_of}
+use Rattle.image_load.specs.Loaded.{setup_of}
+use Rattle.image_memory.specs.Memory.{memory_of, bytes_at, page_at}
 use Rattle.image_soundness.proofs.SoundFacts.{areas_of}
-use Rattle.image_soundness.specs.Memory.{bytes_at, page_at}
 use Rattle.image_soundness.specs.Sound.{HasArea, IsSound}
 use Rattle.image_pack.specs.ImageConditions.{KeepsConditions, IsSubject as IsImageSubject}
 use Rattle.image_pack.specs.declared.parts.Image.{Image}
@@ -28,7 +28,7 @@ use Rattle.policy_lawful.specs.source.Subject.{Subject}
 use Rattle.subject_model.specs.StatePage.{page_bytes}
 use Rattle.subject_model.specs.States.{started}
 use Rattle.proof_turns.proofs.Holds.{held_off}
-use Rattle.subject_model.proofs.KeyLaws.{same_thing_self}
+use Rattle.policy_lawful.proofs.SameThings.{same_thing_self}
 use Rattle.proof_turns.specs.Fixed.{IsFixed}
 use Rattle.proof_turns.specs.Ground.{part}
 use Rattle.guest_isa.specs.Words.{IsByte}
@@ -42,19 +42,14 @@ use Rattle.proof_start.proofs.MsrFacts.{msrs_differ}
 use Rattle.proof_start.proofs.PageFacts.{area_page_there, its_control, small_pages, state_page_there, thing_pages}
 use Rattle.proof_start.proofs.SpansOfThings.{thing_span}
 use Rattle.proof_start.proofs.StartAreas.{area_entries, area_values}
-use Rattle.subject_model.proofs.StartLists.{made_behind, made_of, named_map, numbered_at, replicated, states_map}
-use Rattle.subject_model.proofs.NoPages.{pages_apart}
-use Rattle.proof_start.proofs.StartSets.{cpus_stand, router_stands, same_cpus}
+use Rattle.subject_model.proofs.StartLists.{made_of, named_map, numbered_at, replicated, state_started}
+use Rattle.proof_start.proofs.StartSets.{cpus_stand, router_stands, same_cpus, zeros_long}
 
 -- ---- ports
 
 same_inputs : no_inputs ≡ first_inputs
 unfolding zeros first_inputs
 same_inputs = refl
-
-zeros_long : (n : ℕ) → length (zeros n) ≡ n
-unfolding zeros
-zeros_long n = length-replicate n 0
 
 zeros_small : (n : ℕ) → All IsByte (zeros n)
 unfolding zeros
@@ -85,20 +80,13 @@ thing_started p files x h = made_of (initial_bytes p files) (things_of p) (map (
 module _ (p : Source) (files : HeldFiles) (i : Image) (keeps : KeepsConditions i) (sound : IsSound p files i) where
   -- ---- things
 
-  state_started : (n : Subject) → subject_named p n.name ≡ Some n → thing_in (start_of p files).things (state n.name) ≡ Some (page_bytes (started n.entry))
-  unfolding start_of first_page
-  state_started n found =
-      made_behind (initial_bytes p files) (things_of p) (map (λ s. (state s.name, first_page s)) p.subjects) (state n.name) (pages_apart p n.name)
-      ∙ states_map first_page p.subjects n.name
-      ∙ ap (option_map first_page) found
-
   values_started : (n : Subject) → subject_named p n.name ≡ Some n → named (start_of p files).msrs n.name ≡ Some (map (λ m. (m.index, 0)) (msrs_of n))
   unfolding start_of
   values_started n found =
       named_map (λ s. map (λ m. (m.index, 0)) (msrs_of s)) p.subjects n.name
       ∙ ap (option_map (λ (s : Subject). map (λ m. (m.index, 0)) (msrs_of s))) found
 
-  shown : HoldsBytes i → Shows (ground_of p i) (loaded_memory i) (start_of p files).things
+  shown : HoldsBytes i → Shows (ground_of p i) (memory_of i) (start_of p files).things
   unfolding ground_of
   shown small = record {
     bytes = λ x j low.
@@ -123,7 +111,7 @@ module _ (p : Source) (files : HeldFiles) (i : Image) (keeps : KeepsConditions i
     its_area : HasArea i n q
     its_area = both_at (HasArea i) p.subjects i.subjects s n q (areas_of p files i sound) named_n here
 
-    pages_there : HasPages (loaded_memory i) n c
+    pages_there : HasPages (memory_of i) n c
     pages_there =
         let area = area_page_there p i keeps s q c here at in
         let many = few in
@@ -138,25 +126,25 @@ module _ (p : Source) (files : HeldFiles) (i : Image) (keeps : KeepsConditions i
           entries = subst (λ k. AreEntries n (entries_in k (page_at i q.area 0))) (sym same) (area_entries n (bytes_at i q.area) q.msrs few its_area.each (msrs_differ p sound.lawful s n named_n));
         }
 
-    owned : (h : Held) → h ≡ on_pages c.msrs (page_of (loaded_memory i) c.state) (page_of (loaded_memory i) c.msr_area) → subject_named p n.name ≡ Some n → IsOwn n (start_of p files).things (start_of p files).msrs h
+    owned : (h : Held) → h ≡ on_pages c.msrs (page_of (memory_of i) c.state) (page_of (memory_of i) c.msr_area) → subject_named p n.name ≡ Some n → IsOwn n (start_of p files).things (start_of p files).msrs h
     owned h is found =
-        own_by n (start_of p files).things (start_of p files).msrs h c.msrs q.msrs (page_of (loaded_memory i) c.state) (page_of (loaded_memory i) c.msr_area) (page_bytes (started n.entry)) (page_at i q.area 0) (map (λ m. (m.index, 0)) (msrs_of n)) is
+        own_by n (start_of p files).things (start_of p files).msrs h c.msrs q.msrs (page_of (memory_of i) c.state) (page_of (memory_of i) c.msr_area) (page_bytes (started n.entry)) (page_at i q.area 0) (map (λ m. (m.index, 0)) (msrs_of n)) is
         (state_page_there p files i keeps sound s n c named_n at)
         (area_page_there p i keeps s q c here at).0
         same_count
-        (state_started n found)
+        (state_started p files n found)
         (values_started n found)
         (area_values n (bytes_at i q.area) q.msrs few its_area.each its_area.zeros)
 
   -- ---- the whole
 
   -- **the machine stands for the system at the start**
-  pub start_stands : HoldsBytes i → IsFixed (ground_of p i) → StandsFor (ground_of p i) (live_started (setup_of i) i.header.cpus (loaded_memory i)) (start_of p files)
+  pub start_stands : HoldsBytes i → IsFixed (ground_of p i) → StandsFor (ground_of p i) (live_started (setup_of i) i.header.cpus (memory_of i)) (start_of p files)
   unfolding ground_of start_of
   start_stands small fixed = record {
     shows = shown small;
     pages = λ s n q c j. pages_there s n q c j.subject j.part j.control;
-    owns = λ s n q c j other. owned s n q c j.subject j.part j.control _ (off s c.msrs (page_of (loaded_memory i) c.state) (page_of (loaded_memory i) c.msr_area) i.header.cpus q.cpu (slice_get (replicate i.header.cpus fresh) q.cpu)) j.found;
+    owns = λ s n q c j other. owned s n q c j.subject j.part j.control _ (off s c.msrs (page_of (memory_of i) c.state) (page_of (memory_of i) c.msr_area) i.header.cpus q.cpu (slice_get (replicate i.header.cpus fresh) q.cpu)) j.found;
     router = router_stands p files i keeps sound fixed;
     cpus = cpus_stand (ground_of p i) i.header.cpus (same_cpus p files i sound);
     ports = same_inputs;

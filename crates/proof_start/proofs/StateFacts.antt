@@ -5,7 +5,7 @@ use Rattle.std.specs.List.{find, zip}
 use Rattle.std.specs.Option.{option_map_or}
 use Rattle.std.proofs.lemmas.Bool.{true≢false}
 use Rattle.std.proofs.lemmas.Option.{slice_get-map}
-use Rattle.image_soundness.specs.Memory.{Span, address_at}
+use Rattle.image_memory.specs.Memory.{Span, address_at}
 use Rattle.image_soundness.specs.Sound.{IsSound, is_kernel, address_of, thing_spans}
 use Rattle.image_pack.specs.ImageConditions.{KeepsConditions}
 use Rattle.image_pack.specs.declared.parts.Image.{Image}
@@ -14,12 +14,13 @@ use Rattle.policy_lawful.specs.Contents.{Held}
 use Rattle.policy_lawful.specs.Thing.{Thing, state, same_thing, things_of}
 use Rattle.policy_lawful.specs.source.Source.{Source}
 use Rattle.policy_lawful.specs.source.Subject.{Subject}
-use Rattle.subject_model.proofs.KeyLaws.{same_things, same_thing_self, state_names}
+use Rattle.policy_lawful.proofs.SameThings.{same_things, same_thing_self, state_names}
 use Rattle.vmx_machine.specs.declared.control.Control.{Control}
 use Rattle.proof_start.specs.GroundOf.{ground_of}
-use Rattle.proof_start.proofs.ListFacts.{found_changed, found_only}
-use Rattle.proof_start.proofs.MemoryFacts.{by_its_number, span_with}
-use Rattle.proof_start.proofs.SubjectFacts.{controlled, subject_spans}
+use Rattle.muen_num.proofs.Indexed.{found_changed, found_only}
+use Rattle.image_memory.proofs.SpanPages.{by_its_number, span_with}
+use Rattle.proof_start.proofs.SubjectFacts.{controlled}
+use Rattle.image_memory.proofs.SubjectSpans.{subject_spans}
 use Rattle.proof_start.proofs.SpansOfThings.{Listed, listed, pages_by, span_of_listed}
 use Rattle.muen_num.proofs.Options.{from_some}
 use Rattle.muen_num.proofs.Pairs.{zipped_at, zipped_both}

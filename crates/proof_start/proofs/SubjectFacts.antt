@@ -1,11 +1,12 @@
--- The subjects of an image: their spans, and their controls in the machine.
+-- The subjects of an image: their controls in the machine, and that their spans are their own.
 use Rattle.std.proofs.Common.{◌≡◌, ℕ, true, false, Some, refl, sym, ap, ◌∙◌, inl, inr, arith}
 use Rattle.std.specs.Prelude.{◌==◌, option_map, slice_get}
 use Rattle.std.specs.List.{list_any}
 use Rattle.std.proofs.lemmas.Bool.{cases_lt, eq-eqb, true≢false}
 use Rattle.std.proofs.lemmas.Option.{slice_get-map}
 use Rattle.std.proofs.lemmas.Map.Keys.{any_passes_from_place}
-use Rattle.image_load.specs.Loaded.{control_of, memory_of}
+use Rattle.image_load.specs.Loaded.{control_of}
+use Rattle.image_memory.specs.Memory.{memory_of}
 use Rattle.image_soundness.specs.Sound.{ShareNoSpan, own_spans, share_a_span}
 use Rattle.image_pack.specs.Codes.{part_code}
 use Rattle.image_pack.specs.ImageConditions.{IsSubject, KeepsConditions}
@@ -17,30 +18,8 @@ use Rattle.muen_num.proofs.Lists.{all_at}
 use Rattle.policy_lawful.specs.source.Source.{Source}
 use Rattle.vmx_machine.specs.declared.control.Control.{Control}
 use Rattle.proof_start.specs.GroundOf.{ground_of}
-use Rattle.proof_start.proofs.ListFacts.{enumerated_at, pairs_at}
-use Rattle.proof_start.proofs.SpanFacts.{KernelSpan, kernel_span}
-
--- the spans that a subject has for itself
-pub record SubjectSpans (i : Image) (q : SubjectPart) : Type 0 where
-  pub state : KernelSpan i.spans (part_code State) 1 q.state
-  pub iobm : KernelSpan i.spans (part_code Iobm) 2 q.iobm
-  pub msrbm : KernelSpan i.spans (part_code Msrbm) 1 q.msrbm
-  pub area : KernelSpan i.spans (part_code Msrs) 1 q.area
-
-pub subject_kept : (i : Image) → KeepsConditions i → (s : ℕ) (q : SubjectPart) → slice_get i.subjects s ≡ Some q → (n : ℕ) × IsSubject i (n, q)
-subject_kept i keeps s q at =
-    let e = enumerated_at 0 i.subjects s q at in
-    (e.0, all_at (IsSubject i) _ s (e.0, q) keeps.subjects e.1)
-
-pub subject_spans : (i : Image) → KeepsConditions i → (s : ℕ) (q : SubjectPart) → slice_get i.subjects s ≡ Some q → SubjectSpans i q
-subject_spans i keeps s q at =
-    let k = (subject_kept i keeps s q at).1 in
-    record {
-      state = kernel_span i.spans (part_code State) 1 q.state keeps.spans k.state;
-      iobm = kernel_span i.spans (part_code Iobm) 2 q.iobm keeps.spans k.iobm;
-      msrbm = kernel_span i.spans (part_code Msrbm) 1 q.msrbm keeps.spans k.msrbm;
-      area = kernel_span i.spans (part_code Msrs) 1 q.area keeps.spans k.area;
-    }
+use Rattle.muen_num.proofs.Indexed.{enumerated_at, pairs_at}
+use Rattle.image_memory.proofs.SpanNumbers.{KernelSpan, kernel_span}
 
 -- ---- controls
 

@@ -2,7 +2,8 @@
 use Rattle.std.specs.Prelude.{ℕ, ◌+◌, ◌/◌, ◌==◌, ◌&&◌, ◌||◌, nat_le, nat_lt, Bool, map, zip}
 use Rattle.std.specs.List.{All, find, list_any}
 use Rattle.std.specs.Option.{option_map_or}
-use Rattle.image_load.specs.Loaded.{memory_of, setup_of}
+use Rattle.image_load.specs.Loaded.{setup_of}
+use Rattle.image_memory.specs.Memory.{memory_of}
 use Rattle.image_soundness.specs.Sound.{is_kernel, address_of, thing_spans}
 use Rattle.image_pack.specs.Codes.{part_code}
 use Rattle.image_pack.specs.declared.parts.Image.{Image}

@@ -7,7 +7,7 @@ use Rattle.image_pack.specs.SpanConditions.{end_of}
 use Rattle.image_pack.specs.declared.parts.Image.{Image}
 use Rattle.image_pack.specs.declared.parts.SpanPart.{SpanPart}
 use Rattle.image_pack.specs.declared.parts.SubjectPart.{SubjectPart}
-use Rattle.image_soundness.specs.Memory.{address_at, memory_of}
+use Rattle.image_memory.specs.Memory.{address_at, memory_of}
 use Rattle.image_soundness.specs.Sound.{is_kernel}
 use Rattle.vmx_machine.specs.Walks.{walk_of}
 use Rattle.vmx_machine.specs.walk.Walk.TheVariants.{At}

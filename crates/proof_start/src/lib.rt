@@ -6,7 +6,8 @@
 #![tactic(auto)]
 
 ghost use Rattle.subject_model.specs.System.{start_of};
-ghost use Rattle.image_load.specs.Loaded.{memory_of, setup_of};
+ghost use Rattle.image_load.specs.Loaded.{setup_of};
+ghost use Rattle.image_memory.specs.Memory.{memory_of};
 ghost use Rattle.image_soundness.specs.Sound.{ForEachSubject, IsSound};
 ghost use Rattle.image_pack.specs.declared.parts.Image.{Image};
 ghost use Rattle.proof_turns.specs.Ticks.{live_started};

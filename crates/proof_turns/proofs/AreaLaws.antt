@@ -1,5 +1,5 @@
 -- An area of MSRs, as leaving saves it and as entering loads it, and the MSR file.
-use Rattle.std.proofs.Common.{◌≡◌, ◌⊎◌, ℕ, zero, suc, ◌+◌, ◌*◌, ◌%◌, ◌^◌, ◌<◌, ◌≤◌, true, false, List, [], ◌∷◌, ◌++◌, length, take, drop, get_or, Option, Some, None, refl, sym, ap, ap₂, subst, ◌∙◌, inl, inr, arith}
+use Rattle.std.proofs.Common.{◌≡◌, ◌⊎◌, ◌+◌, ◌*◌, ◌%◌, ◌^◌, ◌<◌, ◌≤◌, ◌∷◌, ◌++◌, ◌∙◌, ℕ, zero, suc, true, false, List, [], length, take, drop, get_or, Option, Some, None, refl, sym, ap, ap₂, subst, inl, inr, arith}
 use Rattle.std.specs.Prelude.{option_map, option_and_then, is_some, slice_get, unwrap_or}
 use Rattle.std.specs.List.{All}
 use Rattle.std.proofs.lemmas.Bool.{cases_eq, eq-eqb, ne_eqb, true≢false, false≢true}
@@ -18,7 +18,7 @@ use Rattle.machine_layout.proofs.PageFieldLaws.{length-le_bytes}
 use Rattle.vmx_machine.specs.Machine.{entries_in, filled, save_value, entry_saved, saved}
 use Rattle.vmx_machine.specs.MsrFile.{slot_of, most, value_in, put_at, with_msr}
 use Rattle.vmx_machine.proofs.StoreWithin.{stored_within}
-use Rattle.subject_model.specs.Alone.{is_in}
+use Rattle.muen_num.specs.Numbers.{is_among}
 use Rattle.guest_isa.specs.Words.{IsByte, IsWord}
 use Rattle.guest_isa.proofs.StateLaws.{le_bytes_small}
 use Rattle.proof_turns.specs.Held.{FitsFile, AreDistinct, indices, entry_value}
@@ -87,7 +87,8 @@ with_msr_fits index v file w f =
       words = put_words (slot_of index) v file w f.words;
     }
 
-put_same : (o : Option ℕ) (v : ℕ) (file : List ℕ) → ((slot : ℕ) → o ≡ Some slot → slot < length file) → is_some o ≡ true → option_and_then (slice_get (put_at o v file)) o ≡ Some v
+put_same : (o : Option ℕ) (v : ℕ) (file : List ℕ) → ((slot : ℕ) → o ≡ Some slot → slot < length file) → is_some o ≡ true
+    → option_and_then (slice_get (put_at o v file)) o ≡ Some v
 put_same None v file h s = absurd (false≢true s)
 put_same (Some slot) v file h s =
     element_changes slot (λ _. v) file ∙ ap (option_map (λ _. v)) (slice_get-get_or file slot 0 (h slot refl))
@@ -96,7 +97,8 @@ put_same (Some slot) v file h s =
 pub with_msr_same : (index v : ℕ) (file : List ℕ) → length file ≡ most → is_some (slot_of index) ≡ true → value_in (with_msr index v file) index ≡ Some v
 with_msr_same index v file l s = put_same (slot_of index) v file (λ slot e. in_length file index slot l e) s
 
-put_other : (o q : Option ℕ) (v : ℕ) (file : List ℕ) → ((slot : ℕ) → o ≡ Some slot → q ≡ Some slot → ⊥) → option_and_then (slice_get (put_at o v file)) q ≡ option_and_then (slice_get file) q
+put_other : (o q : Option ℕ) (v : ℕ) (file : List ℕ) → ((slot : ℕ) → o ≡ Some slot → q ≡ Some slot → ⊥)
+    → option_and_then (slice_get (put_at o v file)) q ≡ option_and_then (slice_get file) q
 put_other None q v file h = refl
 put_other (Some a) None v file h = refl
 put_other (Some a) (Some b) v file h = others_stay a b (λ _. v) file (λ e. h a refl (ap Some e))
@@ -155,7 +157,8 @@ all_elsewhere file area (i ∷ is) pages k ne h =
     all_elsewhere file area is (entry_saved file area i pages) k ne h.1 ∙ save_elsewhere _ area i pages k ne h.0
 
 -- other pages than the area's stay
-pub saved_elsewhere : (file : List ℕ) (area n : ℕ) (pages : List Page) (k : ℕ) → (k ≡ area → ⊥) → 16 * n ≤ 4096 → page_of (saved file area (numbers_below n) pages) k ≡ page_of pages k
+pub saved_elsewhere : (file : List ℕ) (area n : ℕ) (pages : List Page) (k : ℕ) → (k ≡ area → ⊥) → 16 * n ≤ 4096
+    → page_of (saved file area (numbers_below n) pages) k ≡ page_of pages k
 saved_elsewhere file area n pages k ne h = all_elsewhere file area (numbers_below n) pages k ne (in_page n h)
 
 save_there : (o : Option ℕ) (at : ℕ) (pages : List Page) (k : ℕ) → is_there (save_value o at pages) k ≡ is_there pages k
@@ -171,7 +174,8 @@ all_there file area (i ∷ is) pages k =
 pub saved_there : (file : List ℕ) (area n : ℕ) (pages : List Page) (k : ℕ) → is_there (saved file area (numbers_below n) pages) k ≡ is_there pages k
 saved_there file area n pages k = all_there file area (numbers_below n) pages k
 
-save_same : (o q : Option ℕ) (area i : ℕ) (pages : List Page) (page : List ℕ) → o ≡ q → page_of pages area ≡ Some page → i < 256 → page_of (save_value o (4096 * area + (16 * i + 8)) pages) area ≡ Some (put_value q (16 * i + 8) page)
+save_same : (o q : Option ℕ) (area i : ℕ) (pages : List Page) (page : List ℕ) → o ≡ q → page_of pages area ≡ Some page → i < 256
+    → page_of (save_value o (4096 * area + (16 * i + 8)) pages) area ≡ Some (put_value q (16 * i + 8) page)
 save_same None None area i pages page s e l = e
 save_same None (Some w) area i pages page s e l = absurd (cc (s))
 save_same (Some v) q area i pages page s e l =
@@ -179,13 +183,15 @@ save_same (Some v) q area i pages page s e l =
     ap (λ m. page_of m area) (stored_within pages area (16 * i + 8) 8 v (omega arith))
     ∙ (page_of-change_same pages area put ∙ (ap (option_map put) e ∙ ap (λ r. Some (put_value r (16 * i + 8) page)) s))
 
-all_same : (file : List ℕ) (area : ℕ) (is : List ℕ) (pages : List Page) (page : List ℕ) → page_of pages area ≡ Some page → AreBelow 256 is → page_of (saved file area is pages) area ≡ Some (entries_page file is page)
+all_same : (file : List ℕ) (area : ℕ) (is : List ℕ) (pages : List Page) (page : List ℕ) → page_of pages area ≡ Some page → AreBelow 256 is
+    → page_of (saved file area is pages) area ≡ Some (entries_page file is page)
 all_same file area [] pages page e h = e
 all_same file area (i ∷ is) pages page e h =
     all_same file area is (entry_saved file area i pages) (entry_page file i page) (save_same _ _ area i pages page (ap (λ p. value_in file (area_index (unwrap_or p []) i)) e) e h.0) h.1
 
 -- the area's page has the values
-pub saved_is : (file : List ℕ) (area n : ℕ) (pages : List Page) (page : List ℕ) → page_of pages area ≡ Some page → 16 * n ≤ 4096 → page_of (saved file area (numbers_below n) pages) area ≡ Some (saved_page n file page)
+pub saved_is : (file : List ℕ) (area n : ℕ) (pages : List Page) (page : List ℕ) → page_of pages area ≡ Some page → 16 * n ≤ 4096
+    → page_of (saved file area (numbers_below n) pages) area ≡ Some (saved_page n file page)
 saved_is file area n pages page e h = all_same file area (numbers_below n) pages page e (in_page n h)
 
 -- ---- leaving: the page
@@ -264,7 +270,8 @@ index_kept : (o : Option ℕ) (offset : ℕ) (page : List ℕ) (i : ℕ) → (16
 unfolding area_index
 index_kept o offset page i h = ap le_number (put_apart o offset page (16 * i) 4 h)
 
-value_kept : (o : Option ℕ) (offset : ℕ) (page : List ℕ) (i : ℕ) → (16 * i + 8 + 8 ≤ offset) ⊎ (offset + 8 ≤ 16 * i + 8) → area_value (put_value o offset page) i ≡ area_value page i
+value_kept : (o : Option ℕ) (offset : ℕ) (page : List ℕ) (i : ℕ) → (16 * i + 8 + 8 ≤ offset) ⊎ (offset + 8 ≤ 16 * i + 8)
+    → area_value (put_value o offset page) i ≡ area_value page i
 unfolding area_value
 value_kept o offset page i h = ap le_number (put_apart o offset page (16 * i + 8) 8 h)
 
@@ -276,7 +283,8 @@ loaded page o v h w =
     ∙ (ap le_number (over_itself page o (le_bytes 8 v) (subst (λ k. o + k ≤ length page) (sym len) h)) ∙ omega (arith, whole, w))
 
 -- the value that an entry has then
-value_fresh : (o : Option ℕ) (page : List ℕ) (i : ℕ) → ((v : ℕ) → o ≡ Some v → v < 2 ^ 64) → 16 * i + 8 + 8 ≤ length page → area_value (put_value o (16 * i + 8) page) i ≡ unwrap_or o (area_value page i)
+value_fresh : (o : Option ℕ) (page : List ℕ) (i : ℕ) → ((v : ℕ) → o ≡ Some v → v < 2 ^ 64) → 16 * i + 8 + 8 ≤ length page
+    → area_value (put_value o (16 * i + 8) page) i ≡ unwrap_or o (area_value page i)
 unfolding area_value
 value_fresh None page i h l = refl
 value_fresh (Some v) page i h l = loaded page (16 * i + 8) v l (h v refl)
@@ -302,10 +310,12 @@ entries_before : (n : ℕ) (o : Option ℕ) (offset : ℕ) (page : List ℕ) →
 entries_before zero o offset page h = refl
 entries_before (suc n) o offset page h =
     entries_more n (put_value o offset page)
-    ∙ (ap₂ (λ es e. es ++ e ∷ []) (entries_before n o offset page (omega arith)) (same_entry _ _ _ _ (index_kept o offset page n (inl (omega arith))) (value_kept o offset page n (inl (omega arith))))
+    ∙ (ap₂ (λ es e. es ++ e ∷ []) (entries_before n o offset page (omega arith))
+    (same_entry _ _ _ _ (index_kept o offset page n (inl (omega arith))) (value_kept o offset page n (inl (omega arith))))
     ∙ sym (entries_more n page))
 
-entry_fresh : (n : ℕ) (file page : List ℕ) → 16 * n + 8 + 8 ≤ length page → FitsFile file → entry_in (entry_page file n (saved_page n file page)) n ≡ refreshed_entry file (entry_in page n)
+entry_fresh : (n : ℕ) (file page : List ℕ) → 16 * n + 8 + 8 ≤ length page → FitsFile file
+    → entry_in (entry_page file n (saved_page n file page)) n ≡ refreshed_entry file (entry_in page n)
 entry_fresh n file page l f =
     let before = saved_page n file page in
     let o = value_in file (area_index before n) in
@@ -321,7 +331,8 @@ entries_saved (suc n) file page l f =
     let before = saved_page n file page in
     ap (entries_in (suc n)) (page_more n file page)
     ∙ (entries_more n (entry_page file n before)
-    ∙ (ap₂ (λ es e. es ++ e ∷ []) (entries_before n (value_in file (area_index before n)) (16 * n + 8) before (omega arith) ∙ entries_saved n file page (omega arith) f) (entry_fresh n file page (omega arith) f)
+    ∙ (ap₂ (λ es e. es ++ e ∷ []) (entries_before n (value_in file (area_index before n)) (16 * n + 8) before (omega arith) ∙ entries_saved n file page (omega arith) f)
+    (entry_fresh n file page (omega arith) f)
     ∙ sym (ap (refreshed file) (entries_more n page) ∙ refreshed-push file (entries_in n page) (entry_in page n))))
 
 -- with the same indices
@@ -333,18 +344,19 @@ fresh_is : (file : List ℕ) (i j d v : ℕ) → j ≡ i → value_in file i ≡
 fresh_is file i j d v e h = ap (λ k. Some (unwrap_or (value_in file k) d)) e ∙ (ap (λ o. Some (unwrap_or o d)) h ∙ sym h)
 
 -- what an entry has is what the file has
-pub refreshed_value : (file : List ℕ) (es : List AreaEntry) (index : ℕ) → length file ≡ most → is_some (slot_of index) ≡ true → is_in (indices es) index ≡ true → entry_value (refreshed file es) index ≡ value_in file index
+pub refreshed_value : (file : List ℕ) (es : List AreaEntry) (index : ℕ) → length file ≡ most → is_some (slot_of index) ≡ true → is_among (indices es) index ≡ true
+    → entry_value (refreshed file es) index ≡ value_in file index
 refreshed_value file [] index l s h = absurd (false≢true h)
 refreshed_value file (e ∷ es) index l s h =
     elim (cases_eq e.index index) [
       | inl a ↦ let v = value_there file index l s in rw (eq-eqb e.index index a) (fresh_is file index e.index e.value v.0 a v.1)
-      | inr n ↦ let g : is_in (indices es) index ≡ true = rw (ne_eqb e.index index n) at h in rw (ne_eqb e.index index n) (refreshed_value file es index l s g)
+      | inr n ↦ let g : is_among (indices es) index ≡ true = rw (ne_eqb e.index index n) at h in rw (ne_eqb e.index index n) (refreshed_value file es index l s g)
     ]
 
 -- ---- entering
 
 -- an MSR that no entry names stays
-pub filled_other : (es : List AreaEntry) (file : List ℕ) (index : ℕ) → is_in (indices es) index ≡ false → value_in (filled es file) index ≡ value_in file index
+pub filled_other : (es : List AreaEntry) (file : List ℕ) (index : ℕ) → is_among (indices es) index ≡ false → value_in (filled es file) index ≡ value_in file index
 filled_other [] file index h = refl
 filled_other (e ∷ es) file index h =
     elim (cases_eq e.index index) [
@@ -356,13 +368,16 @@ put_is : (file : List ℕ) (j v index : ℕ) → j ≡ index → length file ≡
 put_is file j v index e l s = ap (λ k. value_in (with_msr k v file) index) e ∙ with_msr_same index v file l s
 
 -- what the file has then is what the entry has
-pub filled_value : (es : List AreaEntry) (file : List ℕ) (index : ℕ) → length file ≡ most → AreDistinct (indices es) → is_in (indices es) index ≡ true → is_some (slot_of index) ≡ true → value_in (filled es file) index ≡ entry_value es index
+pub filled_value : (es : List AreaEntry) (file : List ℕ) (index : ℕ) → length file ≡ most → AreDistinct (indices es) → is_among (indices es) index ≡ true
+    → is_some (slot_of index) ≡ true → value_in (filled es file) index ≡ entry_value es index
 filled_value [] file index l d h s = absurd (false≢true h)
 filled_value (e ∷ es) file index l d h s =
     let next = with_msr e.index e.value file in
     elim (cases_eq e.index index) [
-      | inl a ↦ rw (eq-eqb e.index index a) (filled_other es next index (ap (is_in (indices es)) (sym a) ∙ d.0) ∙ put_is file e.index e.value index a l s)
-      | inr n ↦ let g : is_in (indices es) index ≡ true = rw (ne_eqb e.index index n) at h in rw (ne_eqb e.index index n) (filled_value es next index (length-with_msr e.index e.value file ∙ l) d.1 g s)
+      | inl a ↦ rw (eq-eqb e.index index a) (filled_other es next index (ap (is_among (indices es)) (sym a) ∙ d.0) ∙ put_is file e.index e.value index a l s)
+      | inr n ↦
+          let g : is_among (indices es) index ≡ true = rw (ne_eqb e.index index n) at h in
+          rw (ne_eqb e.index index n) (filled_value es next index (length-with_msr e.index e.value file ∙ l) d.1 g s)
     ]
 
 -- ---- numbers that fit
@@ -396,7 +411,8 @@ value_small page i h = number_below 8 (drop (16 * i + 8) page) (drop_small (16 *
 pub entries_fit : (n : ℕ) (page : List ℕ) → All IsByte page → All (λ e. IsWord e.value) (entries_in n page)
 entries_fit zero page h = All-nil (λ (e : AreaEntry). IsWord e.value)
 entries_fit (suc n) page h =
-    subst (All (λ (e : AreaEntry). IsWord e.value)) (sym (entries_more n page)) (All-push (λ (e : AreaEntry). IsWord e.value) (entries_in n page) (entry_in page n) (entries_fit n page h) (value_small page n h))
+    subst (All (λ (e : AreaEntry). IsWord e.value)) (sym (entries_more n page))
+    (All-push (λ (e : AreaEntry). IsWord e.value) (entries_in n page) (entry_in page n) (entries_fit n page h) (value_small page n h))
 
 -- and the file fits after they are loaded
 pub filled_fits : (es : List AreaEntry) (file : List ℕ) → All (λ e. IsWord e.value) es → FitsFile file → FitsFile (filled es file)

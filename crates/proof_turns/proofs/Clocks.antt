@@ -1,5 +1,6 @@
 -- How a tick begins, and what inputs do: both keep what the machine stands for.
-use Rattle.std.proofs.Common.{◌≡◌, ℕ, zero, suc, ◌+◌, ◌*◌, ◌/◌, ◌%◌, ◌<◌, ◌≤◌, Bool, Option, Some, None, List, [], ◌∷◌, length, refl, sym, ap, ◌∙◌, subst, inl, inr, arith, length-set}
+use Rattle.std.proofs.Common.{◌≡◌, ◌+◌, ◌*◌, ◌/◌, ◌%◌, ◌<◌, ◌≤◌, ◌∷◌, ◌∙◌}
+use Rattle.std.proofs.Common.{ℕ, zero, suc, Bool, Option, Some, None, List, [], length, refl, sym, ap, subst, inl, inr, arith, length-set}
 use Rattle.std.specs.Prelude.{◌++◌, ◌&&◌, is_some, option_map, option_and_then, slice_get, slice_set, true, unwrap_or}
 use Rattle.std.specs.List.{All, AllZip, flat_map, list_all}
 use Rattle.std.proofs.lemmas.Bool.{cases_Bool}
@@ -25,7 +26,8 @@ use Rattle.proof_turns.specs.Fixed.{IsFixed}
 use Rattle.guest_isa.specs.Words.{IsByte}
 use Rattle.proof_turns.specs.Inputs.{AreInput, AreIrq, AreLine, IsWrite, Part, SameIrq, dropped, each_of, nobody, somebody, written as written_parts}
 use Rattle.proof_turns.specs.Stands.{StandsFor}
-use Rattle.proof_turns.proofs.Changes.{bytes_stand, with_page_of}
+use Rattle.proof_turns.proofs.Changes.{with_page_of}
+use Rattle.proof_turns.proofs.Stores.{bytes_stand}
 use Rattle.proof_turns.proofs.Events.{name_is, pended_now}
 
 -- ---- byte by byte
@@ -61,13 +63,15 @@ value_kept same k (e ∷ es) =
 thing_kept : (x : Thing) (offset : ℕ) (things : Things) → change_thing x (λ old. over old offset []) things ≡ things
 thing_kept x offset things = ap (λ f. change_thing x f things) (λ i old. over_nothing old offset i) ∙ value_kept same_thing x things
 
-thing_next : (x : Thing) (offset b : ℕ) (bs : List ℕ) (things : Things) → change_thing x (λ old. over old (offset + 1) bs) (change_thing x (λ old. over old offset (b ∷ [])) things) ≡ change_thing x (λ old. over old offset (b ∷ bs)) things
+thing_next : (x : Thing) (offset b : ℕ) (bs : List ℕ) (things : Things)
+    → change_thing x (λ old. over old (offset + 1) bs) (change_thing x (λ old. over old offset (b ∷ [])) things) ≡ change_thing x (λ old. over old offset (b ∷ bs)) things
 thing_next x offset b bs things =
     value_changed_twice same_thing x (λ old. over old offset (b ∷ [])) (λ old. over old (offset + 1) bs) things
     ∙ ap (λ f. change_thing x f things) (λ i old. over_next old offset b bs i)
 
 -- a byte is stored into its page
-stored_byte : (pages : List Page) (page offset at b : ℕ) → page ≡ at / 4096 → offset ≡ at % 4096 → b ≡ b % 256 → change pages page (λ old. over old offset (b ∷ [])) ≡ store_of pages at 1 b
+stored_byte : (pages : List Page) (page offset at b : ℕ) → page ≡ at / 4096 → offset ≡ at % 4096 → b ≡ b % 256
+    → change pages page (λ old. over old offset (b ∷ [])) ≡ store_of pages at 1 b
 stored_byte pages page offset at b e f h = λ i. change pages (e i) (λ old. over old (f i) (h i ∷ []))
 
 -- ---- the byte that chooses the next major frame
@@ -78,7 +82,8 @@ first_byte (Some []) page e = rw e refl
 first_byte (Some (b ∷ bs)) page e = rw e refl
 
 module _ (g : Ground) (fixed : IsFixed g) where
-  pick_by : (k : Live) (y : System) → StandsFor g k y → (o : Option Tau0) → g.policy.scheduling.tau0 ≡ o → pick_of (option_map (λ t. g.first (region t.region)) o) k.machine.pages ≡ pick_in y o
+  pick_by : (k : Live) (y : System) → StandsFor g k y → (o : Option Tau0) → g.policy.scheduling.tau0 ≡ o
+      → pick_of (option_map (λ t. g.first (region t.region)) o) k.machine.pages ≡ pick_in y o
   pick_by k y stands None e = refl
   pick_by k y stands (Some t) e =
       let x : Thing = region t.region in
@@ -104,7 +109,8 @@ module _ (g : Ground) (fixed : IsFixed g) where
 
   -- ---- inputs
 
-  port_stands : (k : Live) (y : System) (port value : ℕ) → IsByte value → StandsFor g k y → StandsFor g (record k { ports = slice_set k.ports port value }) (record y { ports = slice_set y.ports port value })
+  port_stands : (k : Live) (y : System) (port value : ℕ) → IsByte value → StandsFor g k y
+      → StandsFor g (record k { ports = slice_set k.ports port value }) (record y { ports = slice_set y.ports port value })
   port_stands k y port value small stands = record {
     shows = stands.shows;
     pages = stands.pages;
@@ -121,7 +127,8 @@ module _ (g : Ground) (fixed : IsFixed g) where
   with_all_pages pages k = record k { machine = record { pages = pages; cpus = k.machine.cpus } }
 
   -- bytes are written one by one
-  pub written_stands : (bs : List ℕ) (x : Thing) (at offset : ℕ) (k : Live) (y : System) → at ≡ 4096 * g.first x + offset → offset + length bs ≤ 4096 * g.pages x → All IsByte bs → StandsFor g k y → StandsFor g (with_all_pages (written k.machine.pages at bs) k) (with_bytes x offset bs y)
+  pub written_stands : (bs : List ℕ) (x : Thing) (at offset : ℕ) (k : Live) (y : System) → at ≡ 4096 * g.first x + offset → offset + length bs ≤ 4096 * g.pages x
+      → All IsByte bs → StandsFor g k y → StandsFor g (with_all_pages (written k.machine.pages at bs) k) (with_bytes x offset bs y)
   written_stands [] x at offset k y e room small stands =
       subst (λ things. StandsFor g k (record y { things = things })) (sym (thing_kept x offset y.things)) stands
   written_stands (b ∷ bs) x at offset k y e room small stands =
@@ -130,18 +137,21 @@ module _ (g : Ground) (fixed : IsFixed g) where
       let f : List ℕ → List ℕ = λ old. over old (offset % 4096) (b ∷ []) in
       let one = bytes_stand g fixed k y x offset (b ∷ []) (omega (arith, room)) (omega arith) (All-cons IsByte b [] byte (All-nil IsByte)) stands in
       let rest = written_stands bs x (at + 1) (offset + 1) (with_page_of page f k) (with_bytes x offset (b ∷ []) y) (omega (arith, e)) (omega (arith, room)) (All-tail IsByte b bs small) one in
-      subst (λ pages. StandsFor g (with_all_pages (written pages (at + 1) bs) k) (with_bytes x offset (b ∷ bs) y)) (stored_byte k.machine.pages page (offset % 4096) at b (omega (arith, e)) (omega (arith, e)) (omega (arith, byte)))
+      subst (λ pages. StandsFor g (with_all_pages (written pages (at + 1) bs) k) (with_bytes x offset (b ∷ bs) y))
+      (stored_byte k.machine.pages page (offset % 4096) at b (omega (arith, e)) (omega (arith, e)) (omega (arith, byte)))
       (subst (λ things. StandsFor g (with_all_pages (written (change k.machine.pages page f) (at + 1) bs) k) (record y { things = things })) (thing_next x offset b bs y.things) rest)
 
   write_stands : (k : Live) (y : System) (e : Effect) (x : Part) → IsWrite g e x → StandsFor g k y → StandsFor g (kernel_takes e k) (with_bytes x.thing x.offset x.bytes y)
   write_stands k y e x write stands = rw write.is (written_stands x.bytes x.thing write.at x.offset k y write.address write.room write.small stands)
 
-  irq_stands : (k : Live) (y : System) (s v : ℕ) (device irq : List ℕ) → SameIrq g s v device irq → StandsFor g k y → StandsFor g (kernel_takes (Irq s v) k) (takes g.policy (irq_input device irq) y)
+  irq_stands : (k : Live) (y : System) (s v : ℕ) (device irq : List ℕ) → SameIrq g s v device irq → StandsFor g k y
+      → StandsFor g (kernel_takes (Irq s v) k) (takes g.policy (irq_input device irq) y)
   irq_stands k y s v device irq same stands =
       let is = same.is in
       rw (same.granted, name_is g fixed s is.subject is.part is.control is.joined) (pended_now g fixed k y s is.subject is.part is.control (Some v) is.joined stands)
 
-  irqs_stand : (k : Live) (y : System) (es : List Effect) (device irq : List ℕ) → AreIrq g es device irq → StandsFor g k y → StandsFor g (all_taken (kernel g.setup) es k) (takes g.policy (irq_input device irq) y)
+  irqs_stand : (k : Live) (y : System) (es : List Effect) (device irq : List ℕ) → AreIrq g es device irq → StandsFor g k y
+      → StandsFor g (all_taken (kernel g.setup) es k) (takes g.policy (irq_input device irq) y)
   irqs_stand k y es device irq (nobody none is) stands = rw (none, is) stands
   irqs_stand k y es device irq (somebody s v one same) stands = rw one (irq_stands k y s v device irq same stands)
 
@@ -165,15 +175,18 @@ module _ (g : Ground) (fixed : IsFixed g) where
   part_written x [] offset y = ap (λ things. record y { things = things }) (sym (thing_kept x offset y.things))
   part_written x (b ∷ bs) offset y = part_written x bs (offset + 1) (with_bytes x offset (b ∷ []) y) ∙ ap (λ things. record y { things = things }) (thing_next x offset b bs y.things)
 
-  parts_stand : (es : List Effect) (parts : List Part) (k : Live) (y : System) → AllZip (IsWrite g) es parts → StandsFor g k y → StandsFor g (all_taken (kernel g.setup) es k) (with_each (flat_map each_of parts) y)
+  parts_stand : (es : List Effect) (parts : List Part) (k : Live) (y : System) → AllZip (IsWrite g) es parts → StandsFor g k y
+      → StandsFor g (all_taken (kernel g.setup) es k) (with_each (flat_map each_of parts) y)
   parts_stand [] [] k y all stands = stands
   parts_stand [] (x ∷ parts) k y all stands = absurd all
   parts_stand (e ∷ es) [] k y all stands = absurd all
   parts_stand (e ∷ es) (x ∷ parts) k y all stands =
-      subst (StandsFor g (all_taken (kernel g.setup) es (kernel_takes e k))) (ap (with_each (flat_map each_of parts)) (sym (part_written x.thing x.bytes x.offset y)) ∙ sym (each_both (each_of x) (flat_map each_of parts) y))
+      subst (StandsFor g (all_taken (kernel g.setup) es (kernel_takes e k)))
+      (ap (with_each (flat_map each_of parts)) (sym (part_written x.thing x.bytes x.offset y)) ∙ sym (each_both (each_of x) (flat_map each_of parts) y))
       (parts_stand es parts (kernel_takes e k) (with_bytes x.thing x.offset x.bytes y) all.1 (write_stands k y e x all.0 stands))
 
-  line_stands : (k : Live) (y : System) (es : List Effect) (writes : List (Option ByteWrite)) → AreLine g es writes → StandsFor g k y → StandsFor g (all_taken (kernel g.setup) es k) (with_line writes y)
+  line_stands : (k : Live) (y : System) (es : List Effect) (writes : List (Option ByteWrite)) → AreLine g es writes → StandsFor g k y
+      → StandsFor g (all_taken (kernel g.setup) es k) (with_line writes y)
   line_stands k y es writes (dropped none not_all) stands = rw (none, not_all) stands
   line_stands k y es writes (written_parts parts are whole) stands = rw (sym whole) (rw (parts_some parts) (parts_stand es parts k y are stands))
 

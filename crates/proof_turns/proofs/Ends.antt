@@ -1,5 +1,5 @@
 -- The end of a run: all CPUs are left, and memory shows the states and the things; and a run keeps how long each thing is.
-use Rattle.std.proofs.Common.{◌≡◌, ℕ, zero, suc, ◌+◌, ◌*◌, ◌<◌, ◌≤◌, Bool, true, List, [], ◌∷◌, ◌++◌, length, take, drop, replicate, Option, Some, None, refl, sym, ap, ◌∙◌, subst, inl, inr, arith}
+use Rattle.std.proofs.Common.{◌≡◌, ◌+◌, ◌*◌, ◌<◌, ◌≤◌, ◌∷◌, ◌++◌, ◌∙◌, ℕ, zero, suc, Bool, true, List, [], length, take, drop, replicate, Option, Some, None, refl, sym, ap, subst, inl, inr, arith}
 use Rattle.std.specs.Prelude.{if◌then◌else◌, false, option_map, slice_get, is_some, unwrap_or, nat_lt}
 use Rattle.std.specs.List.{flat_map, list_all}
 use Rattle.std.proofs.lemmas.Bool.{cases_lt, lt-ltb, le-ltb, true≢false, false≢true}
@@ -24,7 +24,7 @@ use Rattle.frame_clock.specs.Frames.{slot_in}
 use Rattle.subject_model.specs.StatePage.{page_bytes, state_in}
 use Rattle.subject_model.specs.SubjectState.{SubjectState}
 use Rattle.frame_clock.specs.Run.{all_taken, begun, turns, tick_ran, run_to}
-use Rattle.vmx_machine.specs.Machine.{MachineState, left, left_by, page_at, put_off_by}
+use Rattle.vmx_machine.specs.Machine.{MachineState, left, left_by, page_at}
 use Rattle.vmx_machine.specs.declared.control.Control.{Control}
 use Rattle.vmx_machine.specs.declared.cpu.Cpu.{Cpu}
 use Rattle.vmx_machine.specs.declared.cpu.Entered.{Entered}
@@ -37,10 +37,14 @@ use Rattle.proof_turns.specs.Ground.{Ground, Joined, part}
 use Rattle.proof_turns.specs.Fixed.{IsFixed}
 use Rattle.proof_turns.specs.Held.{Held, held, is_on, on_pages}
 use Rattle.proof_turns.specs.Stands.{SameEntered, StandsFor}
-use Rattle.subject_model.proofs.KeyLaws.{cases_thing, things_apart, value_changed, value_other}
+use Rattle.subject_model.proofs.KeyLaws.{things_apart, value_changed, value_other}
+use Rattle.policy_lawful.proofs.SameThings.{cases_thing}
 use Rattle.subject_model.proofs.SystemLaws.{raised_things}
 use Rattle.proof_turns.proofs.Holds.{held_off, not_some}
-use Rattle.proof_turns.proofs.Moves.{left_by_nobody, left_by_subject, left_pages, left_with, off, same_live}
+use Rattle.proof_turns.proofs.LeftPages.{left_pages}
+use Rattle.proof_turns.proofs.Leaving.{left_by_nobody, left_by_subject, left_with, machine_left, machine_left_by, machine_off, same_live}
+use Rattle.proof_turns.proofs.Residents.{Present}
+use Rattle.policy_lawful.proofs.NoPages.{NoPage}
 
 -- ---- lists
 
@@ -140,37 +144,37 @@ nobody_left n on h =
     ∙ (ap (λ i. replicate n None ++ drop i on) (sym h) ∙ (ap (λ xs. replicate n None ++ xs) (drop-length on) ∙ append-nil (replicate n None)))
 
 module _ (g : Ground) (fixed : IsFixed g) where
-  -- what is left of a CPU that is there
-  machine_left : (cpu : ℕ) (m : MachineState) (u : Cpu) → slice_get m.cpus cpu ≡ Some u → (o : Option Entered) → u.entered ≡ o → left cpu m ≡ record { pages = (put_off_by m.pages u o).pages; cpus = change_at cpu (off g fixed m.pages) m.cpus }
-  machine_left cpu m u at o e =
-      ap (left_by cpu m.pages m.cpus) at
-      ∙ ap (λ x. record { pages = (put_off_by m.pages u x).pages; cpus = change_at cpu (off g fixed m.pages) m.cpus }) e
-
-  live_left : (cpu : ℕ) (k : Live) (later : List Page) → left cpu k.machine ≡ record { pages = later; cpus = change_at cpu (off g fixed k.machine.pages) k.machine.cpus } → left_with g fixed cpu later k ≡ left_live cpu k
+  -- a live with such a machine is left
+  live_left : (cpu : ℕ) (k : Live) (later : List Page) → left cpu k.machine ≡ machine_off cpu later k.machine → left_with cpu later k ≡ left_live cpu k
   live_left cpu k later e =
-      same_live k (record { pages = later; cpus = change_at cpu (off g fixed k.machine.pages) k.machine.cpus }) (left cpu k.machine) (change_at cpu (λ _. None) k.on) (change_at cpu (λ _. None) k.on) (sym e) refl
+      same_live k (machine_off cpu later k.machine) (left cpu k.machine) (change_at cpu (λ _. None) k.on) (change_at cpu (λ _. None) k.on) (sym e) refl
 
   -- by who is on the CPU
-  leaves_by : (k : Live) (y : System) → StandsFor g k y → (cpu : ℕ) (u : Cpu) → slice_get k.machine.cpus cpu ≡ Some u → (who : Option ℕ) (o : Option Entered) → slice_get k.on cpu ≡ Some who → u.entered ≡ o → SameEntered g cpu who o → StandsFor g (left_live cpu k) y
+  leaves_by : (k : Live) (y : System) → StandsFor g k y → (cpu : ℕ) (u : Cpu) → slice_get k.machine.cpus cpu ≡ Some u → (who : Option ℕ) (o : Option Entered)
+      → slice_get k.on cpu ≡ Some who → u.entered ≡ o → SameEntered g cpu who o → StandsFor g (left_live cpu k) y
   leaves_by k y stands cpu u at None None on is same =
       subst (λ x. StandsFor g x y) (live_left cpu k k.machine.pages (machine_left cpu k.machine u at None is)) (left_by_nobody g fixed k y stands cpu on)
   leaves_by k y stands cpu u at None (Some e) on is same = absurd same
   leaves_by k y stands cpu u at (Some t) None on is same = absurd same
   leaves_by k y stands cpu u at (Some t) (Some e) on is same =
+      let here : Present g k cpu =
+      record { who = record { number = t; is = same.is; its = same.there }; on = on; unit = u; at = at; entry = e; entered = is } in
       subst (λ x. StandsFor g x y)
-      (live_left cpu k (left_pages same.is.control e.state u.file k.machine.pages)
-      (machine_left cpu k.machine u at (Some e) is ∙ ap (λ (d : Control). record { pages = left_pages d e.state u.file k.machine.pages; cpus = change_at cpu (off g fixed k.machine.pages) k.machine.cpus }) same.control))
-      (left_by_subject g fixed k y stands cpu t same.is.subject same.is.part same.is.control same.is.joined same.there on u at e is)
+      (live_left cpu k (left_pages same.is.control e.state u.file k.machine.pages) (machine_left_by cpu k.machine u e same.is.control at is same.control))
+      (left_by_subject g fixed k y stands cpu here)
 
   machine_same : (cpu : ℕ) (m : MachineState) → slice_get m.cpus cpu ≡ None → left cpu m ≡ m
   machine_same cpu m at = ap (left_by cpu m.pages m.cpus) at
 
   -- by whether the CPU is there
-  leaves_from : (k : Live) (y : System) → StandsFor g k y → (cpu : ℕ) (o : Option Cpu) (p : Option (Option ℕ)) → slice_get k.machine.cpus cpu ≡ o → slice_get k.on cpu ≡ p → is_some p ≡ is_some o → StandsFor g (left_live cpu k) y
+  leaves_from : (k : Live) (y : System) → StandsFor g k y → (cpu : ℕ) (o : Option Cpu) (p : Option (Option ℕ)) → slice_get k.machine.cpus cpu ≡ o
+      → slice_get k.on cpu ≡ p → is_some p ≡ is_some o → StandsFor g (left_live cpu k) y
   leaves_from k y stands cpu (Some u) (Some who) at on both =
       leaves_by k y stands cpu u at who u.entered on refl (stands.cpus.entered cpu who u on at)
   leaves_from k y stands cpu None None at on both =
-      subst (λ x. StandsFor g x y) (same_live k k.machine (left cpu k.machine) k.on (change_at cpu (λ _. None) k.on) (sym (machine_same cpu k.machine at)) (sym (unchanged cpu (λ _. None) k.on on))) stands
+      subst (λ x. StandsFor g x y)
+      (same_live k k.machine (left cpu k.machine) k.on (change_at cpu (λ _. None) k.on) (sym (machine_same cpu k.machine at)) (sym (unchanged cpu (λ _. None) k.on on)))
+      stands
   leaves_from k y stands cpu None (Some who) at on both = absurd (true≢false both)
   leaves_from k y stands cpu (Some u) None at on both = absurd (false≢true both)
 
@@ -193,16 +197,19 @@ module _ (g : Ground) (fixed : IsFixed g) where
     ended_is : all_left_live (numbers_below cpus) k ≡ ended cpus k
     ended_is =
         all_left_is (numbers_below cpus) k
-        ∙ same_live k (all_left (numbers_below cpus) k.machine) (all_left (numbers_below cpus) k.machine) (nobody_on (numbers_below cpus) k.on) (replicate cpus None) refl (nobody_left cpus k.on on_many)
+        ∙ same_live k (all_left (numbers_below cpus) k.machine) (all_left (numbers_below cpus) k.machine) (nobody_on (numbers_below cpus) k.on) (replicate cpus None)
+        refl (nobody_left cpus k.on on_many)
 
     -- the machine at its end stands for the system still
     pub ended_stands : StandsFor g (ended cpus k) y
     ended_stands = subst (λ x. StandsFor g x y) ended_is (all_left_stand (numbers_below cpus) k y stands)
 
     -- what each subject has is on its pages
-    pub final_held : (s : ℕ) (q : SubjectPart) (c : Control) → held (ended cpus k) s q c ≡ on_pages c.msrs (page_of (ended cpus k).machine.pages c.state) (page_of (ended cpus k).machine.pages c.msr_area)
+    pub final_held : (s : ℕ) (q : SubjectPart) (c : Control)
+        → held (ended cpus k) s q c ≡ on_pages c.msrs (page_of (ended cpus k).machine.pages c.state) (page_of (ended cpus k).machine.pages c.msr_area)
     final_held s q c =
-        held_off s c.msrs (page_of (ended cpus k).machine.pages c.state) (page_of (ended cpus k).machine.pages c.msr_area) (slice_get (replicate cpus None) q.cpu) (slice_get (ended cpus k).machine.cpus q.cpu)
+        held_off s c.msrs (page_of (ended cpus k).machine.pages c.state) (page_of (ended cpus k).machine.pages c.msr_area)
+        (slice_get (replicate cpus None) q.cpu) (slice_get (ended cpus k).machine.cpus q.cpu)
         (λ who at. ap (is_on s) (of_many cpus q.cpu None who at))
 
     -- a subject's page in the system is its state page
@@ -210,7 +217,8 @@ module _ (g : Ground) (fixed : IsFixed g) where
     final_state_page s n q c j = (ended_stands.owns s n q c j (λ e. not_some s e)).page ∙ ap (λ (h : Held). h.page) (final_held s q c)
 
     -- and so its state is what that page says
-    pub final_state : (s : ℕ) (n : Subject) (q : SubjectPart) (c : Control) → Joined g s n q c → option_map state_in (thing_in y.things (state n.name)) ≡ Some (state_in (page_at (ended cpus k).machine.pages c.state))
+    pub final_state : (s : ℕ) (n : Subject) (q : SubjectPart) (c : Control) → Joined g s n q c
+        → option_map state_in (thing_in y.things (state n.name)) ≡ Some (state_in (page_at (ended cpus k).machine.pages c.state))
     final_state s n q c j =
         let has = (ended_stands.pages s n q c j).state_is in
         ap (option_map state_in) (final_state_page s n q c j)
@@ -221,20 +229,17 @@ module _ (g : Ground) (fixed : IsFixed g) where
     final_page x j l = ap (λ o. unwrap_or o []) (ended_stands.shows.bytes x j l)
 
     -- the pages of a thing are its bytes
-    pub final_bytes : (x : Thing) (bytes : List ℕ) → thing_in y.things x ≡ Some bytes → length bytes ≡ 4096 * g.pages x → flat_map (λ j. page_at (ended cpus k).machine.pages (g.first x + j)) (numbers_below (g.pages x)) ≡ bytes
+    pub final_bytes : (x : Thing) (bytes : List ℕ) → thing_in y.things x ≡ Some bytes → length bytes ≡ 4096 * g.pages x
+        → flat_map (λ j. page_at (ended cpus k).machine.pages (g.first x + j)) (numbers_below (g.pages x)) ≡ bytes
     final_bytes x bytes at many =
         flat_map_below (λ j. page_at (ended cpus k).machine.pages (g.first x + j)) (λ j. part j bytes) (g.pages x) (λ j l. final_page x j l ∙ ap (λ o. unwrap_or (option_map (part j) o) []) at)
         ∙ parts_join (g.pages x) bytes many
 
 -- ---- how long things are
 
--- no state page
-abbrev pub IsNoState : Thing → Type 0
-IsNoState x = (name : List ℕ) → x ≡ state name → ⊥
-
 -- each thing that is no state page is as long in both
 abbrev pub SameLengths : Things → Things → Type 0
-SameLengths a b = (x : Thing) → IsNoState x → option_map length (thing_in a x) ≡ option_map length (thing_in b x)
+SameLengths a b = (x : Thing) → NoPage x → option_map length (thing_in a x) ≡ option_map length (thing_in b x)
 
 length_mapped : (f : List ℕ → List ℕ) (o : Option (List ℕ)) → ((old : List ℕ) → length (f old) ≡ length old) → option_map length o ≡ option_map length (option_map f o)
 length_mapped f None h = refl
@@ -268,7 +273,8 @@ answered_lengths p n a y x away =
     ∙ ap (λ things. option_map length (thing_in things x)) (sym (raised_things p n a.raised _)))
 
 -- ---- a turn
-from_lengths : (p : Source) (cpu tick : ℕ) (first : Bool) (n : Subject) (st : Option SubjectState) (values : Option MsrValues) (y : System) → SameLengths y.things (turn_from p cpu tick first n st values y).state.things
+from_lengths : (p : Source) (cpu tick : ℕ) (first : Bool) (n : Subject) (st : Option SubjectState) (values : Option MsrValues) (y : System)
+    → SameLengths y.things (turn_from p cpu tick first n st values y).state.things
 from_lengths p cpu tick first n (Some st) (Some values) y x away =
     answered_lengths p n (solo_turn (own_of p n) (record { state = st; msrs = values }) (inbox_of p y n first tick)) y x away
 from_lengths p cpu tick first n (Some st) None y x away = refl

@@ -49,16 +49,30 @@ module _ (g : Ground) (fixed : IsFixed g) where
   name_is s n q c j = ap (λ o. unwrap_or (option_map (λ (x : Subject). x.name) o) []) j.subject
 
   -- ---- one set
-  sets_change : (f : List Bool → List Bool) (h : List ℕ → List ℕ) → ((o : Option (List Bool)) (l : Option (List ℕ)) → SameSet o l → SameSet (option_map f o) (option_map h l)) → (sets : List (List Bool)) (entries : Named (List ℕ)) → ((s : ℕ) (n : Subject) (q : SubjectPart) (c : Control) → Joined g s n q c → SameSet (slice_get sets s) (named entries n.name)) → (t : ℕ) (m : Subject) (r : SubjectPart) (d : Control) → Joined g t m r d → (s : ℕ) (n : Subject) (q : SubjectPart) (c : Control) → Joined g s n q c → SameSet (slice_get (change_at t f sets) s) (named (change_named m.name h entries) n.name)
+  sets_change : (f : List Bool → List Bool) (h : List ℕ → List ℕ)
+      → ((o : Option (List Bool)) (l : Option (List ℕ)) → SameSet o l → SameSet (option_map f o) (option_map h l))
+      → (sets : List (List Bool)) (entries : Named (List ℕ))
+      → ((s : ℕ) (n : Subject) (q : SubjectPart) (c : Control) → Joined g s n q c → SameSet (slice_get sets s) (named entries n.name))
+      → (t : ℕ) (m : Subject) (r : SubjectPart) (d : Control) → Joined g t m r d → (s : ℕ) (n : Subject) (q : SubjectPart) (c : Control) → Joined g s n q c
+      → SameSet (slice_get (change_at t f sets) s) (named (change_named m.name h entries) n.name)
   sets_change f h both sets entries same t m r d i =
       each_subject g (λ s n q c. SameSet (slice_get (change_at t f sets) s) (named (change_named m.name h entries) n.name)) t m r d i
       (rw (element_changes t f sets, value_changed bytes_eq m.name h entries) (both (slice_get sets t) (named entries m.name) (same t m r d i)))
-      (λ s n q c j ne. rw (others_stay t s f sets ne, value_other bytes_eq m.name n.name h entries (names_apart m.name n.name (λ e. ne (fixed.names s t n m j.subject i.subject (sym e))))) (same s n q c j))
+      (λ s n q c j ne. rw (
+        others_stay t s f sets ne,
+        value_other bytes_eq m.name n.name h entries (names_apart m.name n.name (λ e. ne (fixed.names s t n m j.subject i.subject (sym e)))),
+      ) (same s n q c j))
 
-  sets_stay : (sets : List (List Bool)) (entries : Named (List ℕ)) → ((s : ℕ) (n : Subject) (q : SubjectPart) (c : Control) → Joined g s n q c → SameSet (slice_get sets s) (named entries n.name)) → (name : List ℕ) (s : ℕ) (n : Subject) (q : SubjectPart) (c : Control) → Joined g s n q c → SameSet (slice_get sets s) (named (change_named name (λ vs. vs) entries) n.name)
+  sets_stay : (sets : List (List Bool)) (entries : Named (List ℕ))
+      → ((s : ℕ) (n : Subject) (q : SubjectPart) (c : Control) → Joined g s n q c → SameSet (slice_get sets s) (named entries n.name))
+      → (name : List ℕ) (s : ℕ) (n : Subject) (q : SubjectPart) (c : Control) → Joined g s n q c
+      → SameSet (slice_get sets s) (named (change_named name (λ vs. vs) entries) n.name)
   sets_stay sets entries same name s n q c j = rw (named_same name n.name entries) (same s n q c j)
 
-  sets_pend : (vector : Option ℕ) (sets : List (List Bool)) (entries : Named (List ℕ)) → ((s : ℕ) (n : Subject) (q : SubjectPart) (c : Control) → Joined g s n q c → SameSet (slice_get sets s) (named entries n.name)) → (t : ℕ) (m : Subject) (r : SubjectPart) (d : Control) → Joined g t m r d → (s : ℕ) (n : Subject) (q : SubjectPart) (c : Control) → Joined g s n q c → SameSet (slice_get (pends vector t sets) s) (named (change_named m.name (with_in vector) entries) n.name)
+  sets_pend : (vector : Option ℕ) (sets : List (List Bool)) (entries : Named (List ℕ))
+      → ((s : ℕ) (n : Subject) (q : SubjectPart) (c : Control) → Joined g s n q c → SameSet (slice_get sets s) (named entries n.name))
+      → (t : ℕ) (m : Subject) (r : SubjectPart) (d : Control) → Joined g t m r d → (s : ℕ) (n : Subject) (q : SubjectPart) (c : Control) → Joined g s n q c
+      → SameSet (slice_get (pends vector t sets) s) (named (change_named m.name (with_in vector) entries) n.name)
   sets_pend None sets entries same t m r d i = sets_stay sets entries same m.name
   sets_pend (Some v) sets entries same t m r d i = sets_change (with_vector v) (with_in (Some v)) (set_with v) sets entries same t m r d i
 
@@ -66,7 +80,8 @@ module _ (g : Ground) (fixed : IsFixed g) where
   abbrev pub with_router : RouterState → Live → Live
   with_router r k = record k { router = r }
 
-  router_stands : (k : Live) (y : System) (r : RouterState) (now later : Named (List ℕ)) (active : List (List ℕ)) → StandsFor g k y → RouterStands g r now later active → StandsFor g (with_router r k) (record y { now = now; later = later; active = active })
+  router_stands : (k : Live) (y : System) (r : RouterState) (now later : Named (List ℕ)) (active : List (List ℕ)) → StandsFor g k y → RouterStands g r now later active
+      → StandsFor g (with_router r k) (record y { now = now; later = later; active = active })
   router_stands k y r now later active stands h = record {
     shows = stands.shows;
     pages = stands.pages;
@@ -80,7 +95,8 @@ module _ (g : Ground) (fixed : IsFixed g) where
   }
 
   -- ---- a vector is taken
-  pub took_stands : (k : Live) (y : System) (s : ℕ) (n : Subject) (q : SubjectPart) (c : Control) (v : Option ℕ) → Joined g s n q c → StandsFor g k y → StandsFor g (with_router (taken s v k.router) k) (took n.name v y)
+  pub took_stands : (k : Live) (y : System) (s : ℕ) (n : Subject) (q : SubjectPart) (c : Control) (v : Option ℕ) → Joined g s n q c → StandsFor g k y
+      → StandsFor g (with_router (taken s v k.router) k) (took n.name v y)
   took_stands k y s n q c None j stands =
       router_stands k y k.router (change_named n.name (λ vs. vs) y.now) (change_named n.name (λ vs. vs) y.later) y.active stands (record {
         now = sets_stay k.router.pending_now y.now stands.router.now n.name;
@@ -99,7 +115,8 @@ module _ (g : Ground) (fixed : IsFixed g) where
       })
 
   -- ---- a vector is pending
-  pub pended_now : (k : Live) (y : System) (t : ℕ) (m : Subject) (r : SubjectPart) (d : Control) (vector : Option ℕ) → Joined g t m r d → StandsFor g k y → StandsFor g (with_router (kernel_pends_now t vector k.router) k) (pends_now (record { subject = m.name; vector = vector }) y)
+  pub pended_now : (k : Live) (y : System) (t : ℕ) (m : Subject) (r : SubjectPart) (d : Control) (vector : Option ℕ) → Joined g t m r d → StandsFor g k y
+      → StandsFor g (with_router (kernel_pends_now t vector k.router) k) (pends_now (record { subject = m.name; vector = vector }) y)
   pended_now k y t m r d vector i stands =
       router_stands k y (kernel_pends_now t vector k.router) (change_named m.name (with_in vector) y.now) y.later y.active stands (record {
         now = sets_pend vector k.router.pending_now y.now stands.router.now t m r d i;
@@ -109,7 +126,8 @@ module _ (g : Ground) (fixed : IsFixed g) where
         members = stands.router.members;
       })
 
-  pub pended_later : (k : Live) (y : System) (t : ℕ) (m : Subject) (r : SubjectPart) (d : Control) (vector : Option ℕ) → Joined g t m r d → StandsFor g k y → StandsFor g (with_router (kernel_pends_later t vector k.router) k) (pends_later (record { subject = m.name; vector = vector }) y)
+  pub pended_later : (k : Live) (y : System) (t : ℕ) (m : Subject) (r : SubjectPart) (d : Control) (vector : Option ℕ) → Joined g t m r d → StandsFor g k y
+      → StandsFor g (with_router (kernel_pends_later t vector k.router) k) (pends_later (record { subject = m.name; vector = vector }) y)
   pended_later k y t m r d vector i stands =
       router_stands k y (kernel_pends_later t vector k.router) y.now (change_named m.name (with_in vector) y.later) y.active stands (record {
         now = stands.router.now;
@@ -120,10 +138,18 @@ module _ (g : Ground) (fixed : IsFixed g) where
       })
 
   -- ---- a handover
-  active_alike : (i h s : ℕ) (name : List ℕ) (numbers : List ℕ) (names : List (List ℕ)) → name_at g s ≡ name → slice_get names i ≡ option_map (name_at g) (slice_get numbers i) → slice_get (change_at h (λ _. name) names) i ≡ option_map (name_at g) (slice_get (change_at h (λ _. s) numbers) i)
+  active_alike : (i h s : ℕ) (name : List ℕ) (numbers : List ℕ) (names : List (List ℕ)) → name_at g s ≡ name
+      → slice_get names i ≡ option_map (name_at g) (slice_get numbers i)
+      → slice_get (change_at h (λ _. name) names) i ≡ option_map (name_at g) (slice_get (change_at h (λ _. s) numbers) i)
   active_alike i h s name numbers names e is =
       elim (cases_eq i h) [
-        | inl z ↦ ap (λ x. slice_get (change_at h (λ _. name) names) x) z ∙ (element_changes h (λ _. name) names ∙ (ap (option_map (λ _. name)) (ap (slice_get names) (sym z) ∙ (is ∙ ap (λ x. option_map (name_at g) (slice_get numbers x)) z)) ∙ (constant (slice_get numbers h) ∙ (ap (option_map (name_at g)) (sym (element_changes h (λ _. s) numbers)) ∙ ap (λ x. option_map (name_at g) (slice_get (change_at h (λ _. s) numbers) x)) (sym z)))))
+        | inl z ↦
+            ap (λ x. slice_get (change_at h (λ _. name) names) x) z
+            ∙ element_changes h (λ _. name) names
+            ∙ ap (option_map (λ _. name)) (ap (slice_get names) (sym z) ∙ is ∙ ap (λ x. option_map (name_at g) (slice_get numbers x)) z)
+            ∙ constant (slice_get numbers h)
+            ∙ ap (option_map (name_at g)) (sym (element_changes h (λ _. s) numbers))
+            ∙ ap (λ x. option_map (name_at g) (slice_get (change_at h (λ _. s) numbers) x)) (sym z)
         | inr ne ↦ others_stay h i (λ _. name) names ne ∙ (is ∙ ap (option_map (name_at g)) (sym (others_stay h i (λ _. s) numbers ne)))
       ]
     where
@@ -132,9 +158,12 @@ module _ (g : Ground) (fixed : IsFixed g) where
       constant (Some x) = ap Some (sym e)
 
   group_at : (k : Live) (y : System) (t : ℕ) (m : Subject) (r : SubjectPart) (d : Control) → Joined g t m r d → StandsFor g k y → slice_get k.router.groups t ≡ Some r.group
-  group_at k y t m r d i stands = ap (λ gs. slice_get gs t) stands.router.groups ∙ (mapped_at (λ (x : SubjectPart). x.group) g.setup.subjects t ∙ ap (option_map (λ (x : SubjectPart). x.group)) i.part)
+  group_at k y t m r d i stands =
+      ap (λ gs. slice_get gs t) stands.router.groups
+      ∙ (mapped_at (λ (x : SubjectPart). x.group) g.setup.subjects t ∙ ap (option_map (λ (x : SubjectPart). x.group)) i.part)
 
-  active_stands : (k : Live) (y : System) (t : ℕ) (m : Subject) (r : SubjectPart) (d : Control) → Joined g t m r d → StandsFor g k y → StandsFor g (with_router (record k.router { active = change_at r.group (λ _. t) k.router.active }) k) (record y { active = change_at r.group (λ _. m.name) y.active })
+  active_stands : (k : Live) (y : System) (t : ℕ) (m : Subject) (r : SubjectPart) (d : Control) → Joined g t m r d → StandsFor g k y
+      → StandsFor g (with_router (record k.router { active = change_at r.group (λ _. t) k.router.active }) k) (record y { active = change_at r.group (λ _. m.name) y.active })
   active_stands k y t m r d i stands =
       router_stands k y (record k.router { active = change_at r.group (λ _. t) k.router.active }) y.now y.later (change_at r.group (λ _. m.name) y.active) stands (record {
         now = stands.router.now;
@@ -146,25 +175,30 @@ module _ (g : Ground) (fixed : IsFixed g) where
             (λ ne wat. stands.router.members x s wat);
       })
 
-  handed_stands : (k : Live) (y : System) (t : ℕ) (m : Subject) (r : SubjectPart) (d : Control) → Joined g t m r d → StandsFor g k y → StandsFor g (with_router (hands_over t k.router) k) (with_active (group_of g.policy m.name) m.name y)
+  handed_stands : (k : Live) (y : System) (t : ℕ) (m : Subject) (r : SubjectPart) (d : Control) → Joined g t m r d → StandsFor g k y
+      → StandsFor g (with_router (hands_over t k.router) k) (with_active (group_of g.policy m.name) m.name y)
   handed_stands k y t m r d i stands = rw (group_at k y t m r d i stands, i.in_group) (active_stands k y t m r d i stands)
 
   -- ---- an event, by its mode
-  event_as : (mode : EventMode) (k : Live) (y : System) (t : ℕ) (m : Subject) (r : SubjectPart) (d : Control) (vector : Option ℕ) → Joined g t m r d → StandsFor g k y → StandsFor g (with_router (raised_as mode t vector k.router) k) (happens_as g.policy mode (record { subject = m.name; vector = vector }) y)
+  event_as : (mode : EventMode) (k : Live) (y : System) (t : ℕ) (m : Subject) (r : SubjectPart) (d : Control) (vector : Option ℕ) → Joined g t m r d → StandsFor g k y
+      → StandsFor g (with_router (raised_as mode t vector k.router) k) (happens_as g.policy mode (record { subject = m.name; vector = vector }) y)
   event_as Asap k y t m r d vector i stands = pended_now k y t m r d vector i stands
   event_as Async k y t m r d vector i stands = pended_later k y t m r d vector i stands
   event_as Own k y t m r d vector i stands = pended_now k y t m r d vector i stands
   event_as Switch k y t m r d vector i stands =
       handed_stands (with_router (kernel_pends_now t vector k.router) k) (pends_now (record { subject = m.name; vector = vector }) y) t m r d i (pended_now k y t m r d vector i stands)
 
-  event_stands : (k : Live) (y : System) (o : Option EventPart) → ((e : EventPart) → o ≡ Some e → IsSubject g e.target) → StandsFor g k y → StandsFor g (with_router (kernel_raised_by o k.router) k) (happens g.policy (option_map (raised_of g) o) y)
+  event_stands : (k : Live) (y : System) (o : Option EventPart) → ((e : EventPart) → o ≡ Some e → IsSubject g e.target) → StandsFor g k y
+      → StandsFor g (with_router (kernel_raised_by o k.router) k) (happens g.policy (option_map (raised_of g) o) y)
   event_stands k y None there stands = stands
   event_stands k y (Some e) there stands =
       let is = there e refl in
       rw (name_is e.target is.subject is.part is.control is.joined) (event_as e.mode k y e.target is.subject is.part is.control e.vector is.joined stands)
 
-  pub called_stands : (k : Live) (y : System) (s : ℕ) (n : Subject) (q : SubjectPart) (c : Control) (number : ℕ) → Joined g s n q c → StandsFor g k y → StandsFor g (with_router (kernel_raised_by (entry q.calls number) k.router) k) (raised_by g.policy n (Some (Call number)) y)
+  pub called_stands : (k : Live) (y : System) (s : ℕ) (n : Subject) (q : SubjectPart) (c : Control) (number : ℕ) → Joined g s n q c → StandsFor g k y
+      → StandsFor g (with_router (kernel_raised_by (entry q.calls number) k.router) k) (raised_by g.policy n (Some (Call number)) y)
   called_stands k y s n q c number j stands = rw (sym (j.calls number)) (event_stands k y (entry q.calls number) (λ e is. fixed.call_targets s number q e j.part is) stands)
 
-  pub trapped_stands : (k : Live) (y : System) (s : ℕ) (n : Subject) (q : SubjectPart) (c : Control) (reason : ℕ) → Joined g s n q c → StandsFor g k y → StandsFor g (with_router (kernel_raised_by (entry q.traps reason) k.router) k) (raised_by g.policy n (Some (Trap reason)) y)
+  pub trapped_stands : (k : Live) (y : System) (s : ℕ) (n : Subject) (q : SubjectPart) (c : Control) (reason : ℕ) → Joined g s n q c → StandsFor g k y
+      → StandsFor g (with_router (kernel_raised_by (entry q.traps reason) k.router) k) (raised_by g.policy n (Some (Trap reason)) y)
   trapped_stands k y s n q c reason j stands = rw (sym (j.traps reason)) (event_stands k y (entry q.traps reason) (λ e is. fixed.trap_targets s reason q e j.part is) stands)

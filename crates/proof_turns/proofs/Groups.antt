@@ -29,7 +29,8 @@ module _ {S I L : Type 0} (c : Clocked S I L) where
       same_turns tick order (begun (in_groups c) tick groups s)
       ∙ ap (turns c tick order) (groups_taken groups (c.begins tick s) ∙ ap (λ js. all_taken c js (c.begins tick s)) are)
 
-  pub same_run : (groups : ℕ → List (List I)) (inputs : ℕ → List I) (order : ℕ → List ℕ) → ((tick : ℕ) → joined (groups tick) ≡ inputs tick) → (n : ℕ) (s : S) → run_to (in_groups c) groups order n s ≡ run_to c inputs order n s
+  pub same_run : (groups : ℕ → List (List I)) (inputs : ℕ → List I) (order : ℕ → List ℕ) → ((tick : ℕ) → joined (groups tick) ≡ inputs tick)
+      → (n : ℕ) (s : S) → run_to (in_groups c) groups order n s ≡ run_to c inputs order n s
   same_run groups inputs order are zero s = refl
   same_run groups inputs order are (suc n) s =
       ap (λ (r : Ran S L). after_lines r.lines (tick_ran (in_groups c) n (groups n) (order n) r.state)) (same_run groups inputs order are n s)

@@ -19,12 +19,15 @@ use Rattle.proof_turns.proofs.Groups.{in_groups, joined, same_run}
 
 -- ---- the machine with its kernel, and the system
 
-module _ (g : Ground) (fixed : IsFixed g) (turn_stands : (cpu tick : ℕ) (k : Live) (y : System) → IsWord tick → StandsFor g k y → AreAlikeTurns (StandsFor g) (turn_of g.setup cpu tick k) (system_turn g.policy cpu tick y)) where
+module _ (g : Ground) (fixed : IsFixed g)
+    (turn_stands : (cpu tick : ℕ) (k : Live) (y : System) → IsWord tick → StandsFor g k y
+    → AreAlikeTurns (StandsFor g) (turn_of g.setup cpu tick k) (system_turn g.policy cpu tick y)) where
   alike : AreAlike (StandsFor g) (AreInput g) (2 ^ 64) (in_groups (kernel g.setup)) (system g.policy)
   alike = record { begins = begins_stand g fixed; takes = takes_stand g fixed; turn = λ cpu tick k y low stands. turn_stands cpu tick k y low stands }
 
   -- what reaches the machine in a tick falls into groups, each of which is an input
-  pub runs_stand : (groups : ℕ → List (List Effect)) (effects : ℕ → List Effect) (inputs : ℕ → List NamedInput) (order order' : ℕ → List ℕ) → ((tick : ℕ) → joined (groups tick) ≡ effects tick)
+  pub runs_stand : (groups : ℕ → List (List Effect)) (effects : ℕ → List Effect) (inputs : ℕ → List NamedInput) (order order' : ℕ → List ℕ)
+      → ((tick : ℕ) → joined (groups tick) ≡ effects tick)
       → AreAlikeTicks (AreInput g) (2 ^ 64) groups inputs order order' → (n : ℕ) → n ≤ 2 ^ 64 → (k : Live) (y : System) → StandsFor g k y
       → AreAlikeRuns (StandsFor g) (run_to (kernel g.setup) effects order n k) (run_to (system g.policy) inputs order' n y)
   runs_stand groups effects inputs order order' are ticks n few k y stands =

@@ -1,6 +1,7 @@
 -- A policy's system and a machine for it: which number stands for which subject, and which pages for which thing.
 use Rattle.std.specs.Prelude.{◌≡◌, ℕ, ◌+◌, ◌*◌, ◌/◌, ◌%◌, ◌<◌, not, Bool, List, take, drop, Some, is_some, option_map, slice_get, unwrap_or, []}
-use Rattle.subject_model.specs.Alone.{has_trap, reach_by}
+use Rattle.subject_model.specs.Alone.{reach_by}
+use Rattle.muen_num.specs.Numbers.{is_among}
 use Rattle.subject_model.specs.System.{subject_named}
 use Rattle.subject_model.specs.Resources.{are_granted, is_granted, msrs_of, ports_of}
 use Rattle.guest_isa.specs.Named.{renamed_reach}
@@ -62,7 +63,7 @@ pub record Joined (g : Ground) (s : ℕ) (n : Subject) (q : SubjectPart) (c : Co
   pub in_group : group_of g.policy n.name ≡ Some q.group
   pub calls : (i : ℕ) → option_map (raised_of g) (entry q.calls i) ≡ event_of g.policy n (Call i)
   pub traps : (i : ℕ) → option_map (raised_of g) (entry q.traps i) ≡ event_of g.policy n (Trap i)
-  pub trapped : (i : ℕ) → is_some (entry q.traps i) ≡ has_trap (traps_of n) i
+  pub trapped : (i : ℕ) → is_some (entry q.traps i) ≡ is_among (traps_of n) i
   pub ports : (port size : ℕ) → ports_exit g.memory c port size ≡ not (are_granted (ports_of g.policy n) port size)
   pub msrs : (index : ℕ) (write : Bool) → msr_exits_in g.memory c index write ≡ not (is_granted (msrs_of n) index write)
   pub walks : (kind : AccessKind) (addr : ℕ) → addr < GUEST_END

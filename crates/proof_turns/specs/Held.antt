@@ -2,7 +2,8 @@
 use Rattle.std.specs.Prelude.{◌≡◌, ℕ, ◌==◌, ◌<◌, Bool, true, false, if◌then◌else◌, List, [], ◌∷◌, length, Option, Some, None, option_map, slice_get, unwrap_or}
 use Rattle.std.specs.List.{All}
 use Rattle.guest_isa.specs.Words.{IsWord}
-use Rattle.subject_model.specs.Alone.{MsrValues, Things, is_in, msr_value, thing_in}
+use Rattle.subject_model.specs.Alone.{MsrValues, Things, msr_value, thing_in}
+use Rattle.muen_num.specs.Numbers.{is_among}
 use Rattle.subject_model.specs.System.{Named, named}
 use Rattle.kernel_core.specs.Vectors.{has}
 use Rattle.subject_model.specs.Resources.{is_granted, msrs_of}
@@ -58,7 +59,7 @@ indices (e ∷ es) = e.index ∷ indices es
 
 abbrev pub AreDistinct : List ℕ → Type 0
 AreDistinct [] = Unit {0}
-AreDistinct (i ∷ is) = (is_in is i ≡ false) × AreDistinct is
+AreDistinct (i ∷ is) = (is_among is i ≡ false) × AreDistinct is
 
 -- an MSR is granted to a subject, for reads or for writes
 abbrev pub HasMsr : Subject → ℕ → Type 0
@@ -67,13 +68,13 @@ HasMsr n index = (write : Bool) × (is_granted (msrs_of n) index write ≡ true)
 -- the entries have each index once, and each MSR that is granted
 pub record AreEntries (n : Subject) (entries : List AreaEntry) : Type 0 where
   pub distinct : AreDistinct (indices entries)
-  pub covers : (index : ℕ) → HasMsr n index → is_in (indices entries) index ≡ true
+  pub covers : (index : ℕ) → HasMsr n index → is_among (indices entries) index ≡ true
 
 -- ---- sets of vectors: marks that hold the same vectors as a list
 
 pub record IsSameSet (marks : List Bool) (vectors : List ℕ) : Type 0 where
   pub length : length marks ≡ 256
-  pub same : (v : ℕ) → v < 256 → has marks v ≡ is_in vectors v
+  pub same : (v : ℕ) → v < 256 → has marks v ≡ is_among vectors v
 
 abbrev pub SameSet : Option (List Bool) → Option (List ℕ) → Type 0
 SameSet (Some marks) (Some vectors) = IsSameSet marks vectors

@@ -3,6 +3,7 @@ pub mod Fixed
 pub mod Held
 pub mod Stands
 pub mod Inputs
+pub mod Laws
 pub use Rattle.frame_clock.specs.Alike
 pub use Rattle.kernel_core.specs.Control
 pub use Rattle.kernel_core.specs.Kernel

@@ -18,7 +18,7 @@ use Rattle.policy_lawful.specs.source.Source.{Source}
 use Rattle.policy_lawful.specs.source.Subject.{Subject}
 use Rattle.subject_model.specs.DeviceRecord.{DeviceRecord}
 use Rattle.subject_model.specs.Law.{NamesEachOnce}
-use Rattle.subject_model.specs.Reading.{are_distinct}
+use Rattle.muen_num.specs.Numbers.{are_distinct}
 use Rattle.subject_model.specs.SubjectState.{SubjectState}
 use Rattle.subject_model.specs.Run.{Turned, begun, run_to, turns}
 use Rattle.subject_model.specs.TurnLine.{TurnLine}
@@ -26,10 +26,11 @@ use Rattle.subject_model.specs.Alone.{MsrValues, OwnState, TurnAnswer, own_of, s
 use Rattle.subject_model.specs.Clock.{inputs_at, order_at, system}
 use Rattle.subject_model.specs.System.{System, idle, inbox_of, line_at, start_of, state_of, subject_named, system_turn}
 use Rattle.subject_model.specs.View.{ran_through, seen_in, through, view_of}
-use Rattle.proof_views.specs.AloneRun.{Arrival, nothing, at_turn, after_tick, alone_in, alone_to, alone_view, before, left_there, own_part, reaching, reaching_at, says_in, started_alone}
+use Rattle.proof_views.specs.AloneRun.{Arrival, nothing, at_turn, after_tick, alone_in, alone_to, before, left_there, own_part, reaching, reaching_at, says_in, started_alone}
 use Rattle.muen_num.proofs.Each.{found, mapped}
 use Rattle.muen_num.proofs.Lookups.{same_self}
 use Rattle.muen_num.proofs.NumbersBelow.{any_below}
+use Rattle.proof_views.specs.Laws.{SubjectsActAlone}
 use Rattle.proof_views.specs.Members.{AreListed}
 use Rattle.proof_views.proofs.Arrivals.{IsOther, arrival_cases}
 use Rattle.proof_views.proofs.ActiveMembers.{begun_listed, turn_listed}
@@ -196,10 +197,9 @@ module _ (p : Source) (s : Subject) (is : subject_named p s.name ≡ Some s) (la
       let at = in_tick n (alone_after n) (run_alone n) in
       λ i. record { line = at.line i; state = at.own.state i; msrs = at.own.msrs i }
 
-pub views_alone : (p : Source) (files : Held) (r : DeviceRecord) (s : Subject) → IsLawful p → subject_named p s.name ≡ Some s → All (λ e. NamesEachOnce p.processor.logical_cpus e.1) r.orders
-    → map own_part (view_of p files r s) ≡ alone_view (own_of p s) (reaching_at p files r s) (started_alone s) r.end
+pub views_alone : SubjectsActAlone
 unfolding view_of
-views_alone p files r s lawful is orders =
-    let each = recursion_from_All (λ (e : ℕ × List ℕ). NamesEachOnce p.processor.logical_cpus e.1) r.orders orders in
+views_alone p files r s run is =
+    let each = recursion_from_All (λ (e : ℕ × List ℕ). NamesEachOnce p.processor.logical_cpus e.1) r.orders run.orders in
     map-map own_part (λ tick. seen_in p s (ran_through p files r s.cpu tick)) (numbers_below r.end)
-    ∙ (λ i. map (λ tick. seen_alone p s is lawful files r each tick i) (numbers_below r.end))
+    ∙ (λ i. map (λ tick. seen_alone p s is run.policy files r each tick i) (numbers_below r.end))

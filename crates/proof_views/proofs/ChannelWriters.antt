@@ -17,7 +17,6 @@ use Rattle.muen_num.specs.declared.access.AccessKind.TheVariants.{Write}
 use Rattle.policy_lawful.proofs.KeptRules.{rules_of}
 use Rattle.policy_lawful.specs.Dma.{domain_windows}
 use Rattle.policy_lawful.specs.Events.{ChannelEnd, channel_ends, component_ends}
-use Rattle.policy_lawful.specs.Lawful.{IsLawful}
 use Rattle.policy_lawful.specs.MoreRules.{ends_of_channel, fits_event, is_connected, is_writer, offence_6, readers_of, writers_of}
 use Rattle.policy_lawful.specs.Offences.{alone}
 use Rattle.policy_lawful.specs.Rights.{allows}
@@ -43,9 +42,8 @@ use Rattle.policy_lawful.specs.source.Region.{Region}
 use Rattle.policy_lawful.specs.source.Required.{Required}
 use Rattle.policy_lawful.specs.source.Source.{Source}
 use Rattle.policy_lawful.specs.source.Subject.{Subject}
-use Rattle.subject_model.specs.System.{subject_named}
 use Rattle.proof_views.specs.Changes.{are_writable, may_change}
-use Rattle.proof_views.specs.Private.{IsPrivate}
+use Rattle.proof_views.specs.Laws.{ChannelsArePrivate}
 use Rattle.proof_views.specs.Writers.{is_writer_of}
 
 -- ---- lists in which none passes, or each does
@@ -199,7 +197,7 @@ connected p none name c is =
     let fits = fits_event (writers_of p c.name) (readers_of p c.name) c.has_event in
     subst (λ n. length (writers_of p n) ≡ 1) named (eqb-true (length (writers_of p c.name)) 1 (and_parts one read (and_parts (one && read) apart (and_parts (one && read && apart) fits kept).0).0).0)
 
-pub channel_private : (p : Source) (w : Subject) (name : List ℕ) (c : Channel) → IsLawful p → subject_named p w.name ≡ Some w → find (λ c. bytes_eq c.name name) p.channels ≡ Some c → is_writer_of p w name ≡ true → IsPrivate p w (channel name)
+pub channel_private : ChannelsArePrivate
 channel_private p w name c lawful is there writes = record {
   subjects = each_all (λ q. bytes_eq q.name w.name || not (may_change p q (channel name))) p.subjects (λ q within. by q within (bytes_eq q.name w.name) refl);
   domains = in_domains p name p.device_domains;

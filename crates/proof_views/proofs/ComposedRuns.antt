@@ -18,13 +18,14 @@ use Rattle.policy_lawful.specs.source.Source.{Source}
 use Rattle.policy_lawful.specs.source.Subject.{Subject}
 use Rattle.subject_model.specs.DeviceRecord.{DeviceRecord, NamedInput}
 use Rattle.subject_model.specs.Law.{NamesEachOnce}
-use Rattle.subject_model.specs.Reading.{are_distinct}
+use Rattle.muen_num.specs.Numbers.{are_distinct}
 use Rattle.subject_model.specs.Alone.{OwnState, own_of}
 use Rattle.subject_model.specs.Clock.{begins, inputs_at, order_at, run_of, system, takes}
 use Rattle.subject_model.specs.System.{System, start_of, subject_named, system_turn, turn_from, turn_in_slot, turn_of_member, turn_of_subject}
 use Rattle.subject_model.specs.TurnLine.{TurnLine}
 use Rattle.proof_views.specs.AloneRun.{after_tick, alone_to, before, reaching, reaching_at, started_alone}
 use Rattle.proof_views.specs.Composed.{AreFed, alone_in_run, composed, composed_in_slot, composed_of_member, composed_of_subject, composed_turn, fed_at}
+use Rattle.proof_views.specs.Laws.{OneRunAloneIsFed, OneRunIsComposed, RunsAloneAreFed, RunsAreComposed, TicksAreComposed}
 use Rattle.proof_views.specs.Members.{AreListed}
 use Rattle.proof_views.proofs.ActiveMembers.{begun_listed, turn_listed}
 use Rattle.proof_views.proofs.AloneViews.{each_once, run_alone}
@@ -155,22 +156,18 @@ module _ (p : Source) (files : Held) (r : DeviceRecord) (lawful : IsLawful p) (o
       ap (after_tick (own_of p s) (reaching_at p files r s n)) (run_feeds s is n)
       ∙ ap (λ arrival. after_tick (own_of p s) arrival (alone_to (own_of p s) (fed_at (alone_in_run p files r) p files r s) n (started_alone s))) (sym (fed_same (alone_in_run p files r) n (alone_there n) (run_composed n) s))
 
-pub runs_composed : (p : Source) (files : Held) (r : DeviceRecord) → IsLawful p → All (λ e. NamesEachOnce p.processor.logical_cpus e.1) r.orders
-    → run_to (composed (alone_in_run p files r) p) (inputs_at r) (order_at p r) r.end (start_of p files) ≡ run_of p files r
+pub runs_composed : RunsAreComposed
 unfolding run_of
-runs_composed p files r lawful orders = run_composed p files r lawful orders r.end
+runs_composed p files r run = run_composed p files r run.policy run.orders r.end
 
-pub ticks_composed : (p : Source) (files : Held) (r : DeviceRecord) (n : ℕ) → IsLawful p → All (λ e. NamesEachOnce p.processor.logical_cpus e.1) r.orders
-    → run_to (composed (alone_in_run p files r) p) (inputs_at r) (order_at p r) n (start_of p files) ≡ run_to (system p) (inputs_at r) (order_at p r) n (start_of p files)
-ticks_composed p files r n lawful orders = run_composed p files r lawful orders n
+pub ticks_composed : TicksAreComposed
+ticks_composed p files r n run = run_composed p files r run.policy run.orders n
 
-pub runs_feed : (p : Source) (files : Held) (r : DeviceRecord) → IsLawful p → All (λ e. NamesEachOnce p.processor.logical_cpus e.1) r.orders → AreFed (alone_in_run p files r) p files r
-runs_feed p files r lawful orders = run_feeds p files r lawful orders
+pub runs_feed : RunsAloneAreFed
+runs_feed p files r run = run_feeds p files r run.policy run.orders
 
-pub only_run : (p : Source) (files : Held) (r : DeviceRecord) (alone : Subject → ℕ → OwnState) (n : ℕ) → IsLawful p → All (λ e. NamesEachOnce p.processor.logical_cpus e.1) r.orders → AreFed alone p files r
-    → run_to (composed alone p) (inputs_at r) (order_at p r) n (start_of p files) ≡ run_to (system p) (inputs_at r) (order_at p r) n (start_of p files)
-only_run p files r alone n lawful orders fed = (only_so p files r lawful orders alone fed n).0
+pub only_run : OneRunIsComposed
+only_run p files r alone n run fed = (only_so p files r run.policy run.orders alone fed n).0
 
-pub only_parts : (p : Source) (files : Held) (r : DeviceRecord) (alone : Subject → ℕ → OwnState) (s : Subject) (n : ℕ) → IsLawful p → subject_named p s.name ≡ Some s → All (λ e. NamesEachOnce p.processor.logical_cpus e.1) r.orders → AreFed alone p files r
-    → alone s n ≡ alone_in_run p files r s n
-only_parts p files r alone s n lawful is orders fed = (only_so p files r lawful orders alone fed n).1 s is
+pub only_parts : OneRunAloneIsFed
+only_parts p files r alone s n run is fed = (only_so p files r run.policy run.orders alone fed n).1 s is

@@ -21,13 +21,14 @@ use Rattle.policy_lawful.specs.source.Subject.{Subject}
 use Rattle.subject_model.specs.Alone.{thing_in}
 use Rattle.subject_model.specs.Clock.{inputs_at, order_at, run_of, system}
 use Rattle.subject_model.specs.DeviceRecord.{DeviceRecord}
-use Rattle.subject_model.specs.Reading.{are_distinct}
+use Rattle.muen_num.specs.Numbers.{are_distinct}
 use Rattle.subject_model.specs.StatePage.{state_in}
 use Rattle.subject_model.specs.System.{System, is_shown, named, start_of, state_of, subject_named}
 use Rattle.subject_model.specs.View.{Seen, ran_through, seen_in, through, view_of}
 use Rattle.proof_views.specs.AloneRun.{started_alone}
 use Rattle.proof_views.specs.Changes.{may_change_on}
 use Rattle.proof_views.specs.LastViews.{at_rest, behind, without_line}
+use Rattle.proof_views.specs.Laws.{LastViewsAreTheEnd}
 use Rattle.proof_views.specs.Members.{AreListed}
 use Rattle.proof_views.proofs.ActiveMembers.{begun_listed}
 use Rattle.proof_views.proofs.LinesOfViews.{order_distinct}
@@ -126,7 +127,7 @@ module _ (p : Source) (files : Held) (r : DeviceRecord) (s : Subject) (is : subj
 
 -- ---- where its CPU takes the last turn
 
-pub last_view : (p : Source) (files : Held) (r : DeviceRecord) (s : Subject) (n : ℕ) → r.end ≡ suc n → through s.cpu (order_at p r n) ≡ order_at p r n → option_map without_line (slice_get (view_of p files r s) n) ≡ Some (at_rest p s (run_of p files r).state)
+pub last_view : LastViewsAreTheEnd
 unfolding run_of
 last_view p files r s n ends last =
     let there : n < r.end = omega (arith, ends) in

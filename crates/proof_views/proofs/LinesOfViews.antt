@@ -2,7 +2,7 @@
 use Rattle.std.proofs.Common.{◌≡◌, ℕ, zero, suc, ◌≤◌, Bool, true, false, cond, List, [], ◌∷◌, ◌++◌, map, Option, Some, None, refl, sym, ap, subst, ◌∙◌, arith}
 use Rattle.std.specs.Prelude.{◌==◌, ◌||◌, not, IsTrue}
 use Rattle.std.specs.Option.{IfSome, option_map_or}
-use Rattle.std.specs.List.{All, AllByRecursion, cons_option, filter, filter_map, find, list_any}
+use Rattle.std.specs.List.{AllByRecursion, cons_option, filter, filter_map, find, list_any}
 use Rattle.std.specs.Str.{bytes_eq}
 use Rattle.std.proofs.lemmas.Bool.{and_from, and_parts, eqb-false, eqb-true, ne_eqb, not-true, or_from, or_parts}
 use Rattle.std.proofs.lemmas.List.{map-append}
@@ -12,17 +12,17 @@ use Rattle.muen_num.specs.Range.{numbers_below}
 use Rattle.policy_lawful.proofs.KeptMajors.{MajorsKept, majors_kept}
 use Rattle.policy_lawful.proofs.KeptMembers.{MembersKept, members_kept}
 use Rattle.policy_lawful.proofs.KeptRules.{rules_of}
-use Rattle.policy_lawful.specs.Lawful.{IsLawful}
 use Rattle.policy_lawful.specs.Contents.{Held}
 use Rattle.policy_lawful.specs.source.Source.{Source}
 use Rattle.policy_lawful.specs.source.Subject.{Subject}
 use Rattle.subject_model.specs.DeviceRecord.{DeviceRecord}
-use Rattle.subject_model.specs.Reading.{are_distinct}
+use Rattle.muen_num.specs.Numbers.{are_distinct}
 use Rattle.subject_model.specs.Run.{begun, run_to, tick_ran, turns}
 use Rattle.subject_model.specs.TurnLine.{TurnLine}
 use Rattle.subject_model.specs.Clock.{inputs_at, order_at, run_of, system}
 use Rattle.subject_model.specs.System.{System, start_of, subject_named, system_turn}
 use Rattle.subject_model.specs.View.{Seen, ran_through, seen_in, through, view_of}
+use Rattle.proof_views.specs.Laws.{LinesAreThoseOfViews}
 use Rattle.proof_views.specs.LinesOf.{lines_of}
 use Rattle.proof_views.specs.Members.{AreListed}
 use Rattle.proof_views.proofs.ActiveMembers.{begun_listed, turn_listed}
@@ -128,8 +128,7 @@ module _ (p : Source) (majors : MajorsKept p) (members : MembersKept p) (s : Sub
         ∙ sym (filter_map-append (λ v. v.line) (map seen (numbers_below n)) (seen n ∷ []))
         ∙ ap (filter_map (λ v. v.line)) (sym (map-append seen (numbers_below n) (n ∷ [])))
 
-pub lines_of_views : (p : Source) (files : Held) (r : DeviceRecord) (s : Subject) → IsLawful p → subject_named p s.name ≡ Some s → All (λ e. IsTrue (are_distinct e.1)) r.orders
-    → lines_of s.name (run_of p files r).lines ≡ filter_map (λ v. v.line) (view_of p files r s)
+pub lines_of_views : LinesAreThoseOfViews
 unfolding run_of view_of
 lines_of_views p files r s lawful is once =
     lines_to p (majors_kept p (rules_of lawful).rule_16) (members_kept p (rules_of lawful).rule_17) s is files r (recursion_from_All (λ (e : ℕ × List ℕ). IsTrue (are_distinct e.1)) r.orders once) r.end

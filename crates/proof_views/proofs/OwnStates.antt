@@ -25,14 +25,14 @@ use Rattle.subject_model.specs.Clock.{begins, line_writes, system, takes}
 use Rattle.subject_model.specs.Laws.{StoresElsewhere}
 use Rattle.subject_model.specs.System.{System, answered, change_thing, inbox_of, named, start_of, state_of, subject_named, system_turn, took, with_own, with_store, with_write}
 use Rattle.subject_model.proofs.DeviceWrites.{line_things, page_stays}
-use Rattle.subject_model.proofs.StartLists.{named_map}
-use Rattle.subject_model.proofs.KeyLaws.{cases_thing, names_apart, things_apart, value_changed, value_other}
+use Rattle.subject_model.proofs.StartLists.{named_map, state_started}
+use Rattle.subject_model.proofs.KeyLaws.{names_apart, things_apart, value_changed, value_other}
+use Rattle.policy_lawful.proofs.SameThings.{cases_thing}
 use Rattle.subject_model.proofs.SystemLaws.{stored_elsewhere}
 use Rattle.proof_views.specs.AloneRun.{alters, on_page, started_alone}
 use Rattle.proof_views.specs.Members.{AreListed}
 use Rattle.proof_views.proofs.Kept.{acted, turn_cases}
 use Rattle.proof_views.proofs.OwnLines.{not_of, other_name, turn_on}
-use Rattle.proof_views.proofs.StatePages.{first_paged}
 use Rattle.proof_views.proofs.Unmoved.{by_irq, by_raised}
 use Rattle.proof_views.proofs.MonitorCpus.{MonitorsKept, spares_others}
 use Rattle.proof_views.proofs.Untouched.{solo_spares}
@@ -55,7 +55,7 @@ own_stays s y z mine stays h = record { state = ap (option_map state_in) stays.p
 pub started_own : (p : Source) (s : Subject) → subject_named p s.name ≡ Some s → (files : Held) → IsOwn s (start_of p files) (started_alone s)
 unfolding start_of
 started_own p s is files =
-    record { state = ap (option_map state_in) (first_paged p files s is); msrs = named_map (λ n. map (λ m. (m.index, 0)) (msrs_of n)) p.subjects s.name ∙ ap (option_map (λ n. map (λ m. (m.index, 0)) (msrs_of n))) is }
+    record { state = ap (option_map state_in) (state_started p files s is); msrs = named_map (λ n. map (λ m. (m.index, 0)) (msrs_of n)) p.subjects s.name ∙ ap (option_map (λ n. map (λ m. (m.index, 0)) (msrs_of n))) is }
 
 -- ---- a store
 

@@ -20,7 +20,8 @@ use Rattle.policy_lawful.specs.source.Subject.{Subject}
 use Rattle.subject_model.proofs.DeviceWrites.{line_things}
 use Rattle.subject_model.proofs.KeyLaws.{names_apart, value_changed, value_other}
 use Rattle.subject_model.proofs.StartLists.{named_map}
-use Rattle.subject_model.specs.Alone.{Inbox, MsrValues, TurnAnswer, is_in, own_of, solo_turn}
+use Rattle.subject_model.specs.Alone.{Inbox, MsrValues, TurnAnswer, own_of, solo_turn}
+use Rattle.muen_num.specs.Numbers.{is_among}
 use Rattle.subject_model.specs.Clock.{inputs_at, irq_reaches, line_writes, order_at, system, takes}
 use Rattle.subject_model.specs.DeviceRecord.{DeviceRecord, NamedInput, port_input, memory_input, irq_input, dma_input}
 use Rattle.subject_model.specs.SubjectState.{SubjectState}
@@ -35,42 +36,42 @@ use Rattle.proof_views.proofs.OwnLines.{found_so}
 
 -- each vector in each of these sets is such a one
 abbrev pub AreAll : (List ℕ → ℕ → Type 0) → Named (List ℕ) → Type 0
-AreAll R sets = (name : List ℕ) (v : ℕ) → is_in (pending sets name) v ≡ true → R name v
+AreAll R sets = (name : List ℕ) (v : ℕ) → is_among (pending sets name) v ≡ true → R name v
 
 module _ (R : List ℕ → ℕ → Type 0) (sets : Named (List ℕ)) (all : AreAll R sets) where
   -- a change of one set that adds such vectors alone
-  changed : (name : List ℕ) (f : List ℕ → List ℕ) → ((vs : List ℕ) (v : ℕ) → is_in (f vs) v ≡ true → (is_in vs v ≡ true) ⊎ R name v) → AreAll R (change_named name f sets)
+  changed : (name : List ℕ) (f : List ℕ → List ℕ) → ((vs : List ℕ) (v : ℕ) → is_among (f vs) v ≡ true → (is_among vs v ≡ true) ⊎ R name v) → AreAll R (change_named name f sets)
   changed name f adds other v h =
       elim (cases_Bool (bytes_eq name other)) [
         | inl e ↦ its e
-        | inr n ↦ all other v (subst (λ o. is_in (unwrap_or o []) v ≡ true) (value_other bytes_eq name other f sets (names_apart name other (λ e. absurd_same e n))) h)
+        | inr n ↦ all other v (subst (λ o. is_among (unwrap_or o []) v ≡ true) (value_other bytes_eq name other f sets (names_apart name other (λ e. absurd_same e n))) h)
       ]
     where
       absurd_same : name ≡ other → bytes_eq name other ≡ false → ⊥
       absurd_same e n = let t : bytes_eq name other ≡ true = (bytes_eq-Decides name other).1 e in let f : true ≡ false = sym t ∙ n in absurd (cc (f))
 
-      by_set : (o : Option (List ℕ)) → is_in (unwrap_or (option_map f o) []) v ≡ true → (is_in (unwrap_or o []) v ≡ true) ⊎ R name v
+      by_set : (o : Option (List ℕ)) → is_among (unwrap_or (option_map f o) []) v ≡ true → (is_among (unwrap_or o []) v ≡ true) ⊎ R name v
       by_set None k = absurd (cc (k))
       by_set (Some vs) k = adds vs v k
 
       its : bytes_eq name other ≡ true → R other v
       its e =
           let same : name ≡ other = (bytes_eq-Decides name other).0 e in
-          let here : is_in (unwrap_or (option_map f (named sets name)) []) v ≡ true =
-          subst (λ o. is_in (unwrap_or o []) v ≡ true) (value_changed bytes_eq name f sets) (subst (λ n. is_in (pending (change_named name f sets) n) v ≡ true) (sym same) h) in
+          let here : is_among (unwrap_or (option_map f (named sets name)) []) v ≡ true =
+          subst (λ o. is_among (unwrap_or o []) v ≡ true) (value_changed bytes_eq name f sets) (subst (λ n. is_among (pending (change_named name f sets) n) v ≡ true) (sym same) h) in
           elim (by_set (named sets name) here) as (λ _. R other v) [
             | inl there ↦ subst (λ n. R n v) same (all name v there)
             | inr new ↦ subst (λ n. R n v) same new
           ]
 
-  left_out : (w v : ℕ) (vs : List ℕ) → is_in (filter (λ x. not (x == w)) vs) v ≡ true → is_in vs v ≡ true
+  left_out : (w v : ℕ) (vs : List ℕ) → is_among (filter (λ x. not (x == w)) vs) v ≡ true → is_among vs v ≡ true
   left_out w v [] h = h
   left_out w v (x ∷ xs) h =
-      elim (x == w) as (λ b. is_in (cond (not b) (x ∷ filter (λ x. not (x == w)) xs) (filter (λ x. not (x == w)) xs)) v ≡ true → is_in (x ∷ xs) v ≡ true) [
-        | true ↦ λ k. or_right (x == v) (is_in xs v) (left_out w v xs k)
-        | false ↦ λ k. elim (or_cases (x == v) (is_in (filter (λ x. not (x == w)) xs) v) k) as (λ _. is_in (x ∷ xs) v ≡ true) [
-          | inl e ↦ or_left (x == v) (is_in xs v) e
-          | inr later ↦ or_right (x == v) (is_in xs v) (left_out w v xs later)
+      elim (x == w) as (λ b. is_among (cond (not b) (x ∷ filter (λ x. not (x == w)) xs) (filter (λ x. not (x == w)) xs)) v ≡ true → is_among (x ∷ xs) v ≡ true) [
+        | true ↦ λ k. or_right (x == v) (is_among xs v) (left_out w v xs k)
+        | false ↦ λ k. elim (or_cases (x == v) (is_among (filter (λ x. not (x == w)) xs) v) k) as (λ _. is_among (x ∷ xs) v ≡ true) [
+          | inl e ↦ or_left (x == v) (is_among xs v) e
+          | inr later ↦ or_right (x == v) (is_among xs v) (left_out w v xs later)
         ]
       ] h
 
@@ -84,11 +85,11 @@ module _ (R : List ℕ → ℕ → Type 0) (sets : Named (List ℕ)) (all : AreA
   put_in name None new = changed name (with_vector None) (λ vs v h. inl h)
   put_in name (Some w) new = changed name (with_vector (Some w)) adds
     where
-      adds : (vs : List ℕ) (v : ℕ) → is_in (with_vector (Some w) vs) v ≡ true → (is_in vs v ≡ true) ⊎ R name v
+      adds : (vs : List ℕ) (v : ℕ) → is_among (with_vector (Some w) vs) v ≡ true → (is_among vs v ≡ true) ⊎ R name v
       adds vs v h =
-          elim (list_any (λ x. x == w) vs) as (λ b. is_in (cond b vs (w ∷ vs)) v ≡ true → (is_in vs v ≡ true) ⊎ R name v) [
+          elim (list_any (λ x. x == w) vs) as (λ b. is_among (cond b vs (w ∷ vs)) v ≡ true → (is_among vs v ≡ true) ⊎ R name v) [
             | true ↦ λ k. inl k
-            | false ↦ λ k. elim (or_cases (w == v) (is_in vs v) k) as (λ _. (is_in vs v ≡ true) ⊎ R name v) [
+            | false ↦ λ k. elim (or_cases (w == v) (is_among vs v) k) as (λ _. (is_among vs v ≡ true) ⊎ R name v) [
               | inl e ↦ let same : w ≡ v = eqb-true w v e in inr (new v (ap (λ n. Some n) same))
               | inr there ↦ inl there
             ]
@@ -174,11 +175,11 @@ module _ (p : Source) where
 
 -- ---- a run
 
-none_first : (ss : List Subject) (name : List ℕ) (v : ℕ) → is_in (pending (map (λ s. (s.name, [])) ss) name) v ≡ false
+none_first : (ss : List Subject) (name : List ℕ) (v : ℕ) → is_among (pending (map (λ s. (s.name, [])) ss) name) v ≡ false
 none_first ss name v =
-    ap (λ o. is_in (unwrap_or o []) v) (named_map (λ _. []) ss name) ∙ by (find (λ s. bytes_eq s.name name) ss)
+    ap (λ o. is_among (unwrap_or o []) v) (named_map (λ _. []) ss name) ∙ by (find (λ s. bytes_eq s.name name) ss)
   where
-    by : (o : Option Subject) → is_in (unwrap_or (option_map (λ _. []) o) []) v ≡ false
+    by : (o : Option Subject) → is_among (unwrap_or (option_map (λ _. []) o) []) v ≡ false
     by None = refl
     by (Some s) = refl
 
@@ -205,8 +206,8 @@ module _ (p : Source) (files : Held) where
     abbrev here : System
     here = (turns (system p) n (before s.cpu (order_at p r n)) (begun (system p) n (inputs_at r n) (run_to (system p) (inputs_at r) (order_at p r) n (start_of p files)).state)).state
 
-    pub now_raised : (inbox : Inbox) (v : ℕ) → reaching_at p files r s n ≡ at_turn inbox → is_in inbox.now v ≡ true → IsRaisedNow p s.name v
-    now_raised inbox v reaches pends = turn_raised.now s.name v (subst (λ vs. is_in vs v ≡ true) (arrived_now p s n here inbox reaches) pends)
+    pub now_raised : (inbox : Inbox) (v : ℕ) → reaching_at p files r s n ≡ at_turn inbox → is_among inbox.now v ≡ true → IsRaisedNow p s.name v
+    now_raised inbox v reaches pends = turn_raised.now s.name v (subst (λ vs. is_among vs v ≡ true) (arrived_now p s n here inbox reaches) pends)
 
-    pub later_raised : (inbox : Inbox) (v : ℕ) → reaching_at p files r s n ≡ at_turn inbox → is_in inbox.later v ≡ true → IsRaisedLater p s.name v
-    later_raised inbox v reaches pends = turn_raised.later s.name v (subst (λ vs. is_in vs v ≡ true) (arrived_later p s n here inbox reaches) pends)
+    pub later_raised : (inbox : Inbox) (v : ℕ) → reaching_at p files r s n ≡ at_turn inbox → is_among inbox.later v ≡ true → IsRaisedLater p s.name v
+    later_raised inbox v reaches pends = turn_raised.later s.name v (subst (λ vs. is_among vs v ≡ true) (arrived_later p s n here inbox reaches) pends)

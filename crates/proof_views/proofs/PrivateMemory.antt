@@ -24,7 +24,7 @@ use Rattle.subject_model.specs.Alone.{Inbox, MsrValues, OwnState, own_of, solo_t
 use Rattle.subject_model.specs.Clock.{inputs_at, order_at, run_of, system}
 use Rattle.subject_model.specs.DeviceRecord.{DeviceRecord, NamedInput, port_input, memory_input, irq_input, dma_input}
 use Rattle.subject_model.specs.Law.{NamesEachOnce}
-use Rattle.subject_model.specs.Reading.{are_distinct}
+use Rattle.muen_num.specs.Numbers.{are_distinct}
 use Rattle.subject_model.specs.SubjectState.{SubjectState}
 use Rattle.subject_model.specs.System.{System, idle, inbox_of, is_shown, start_of, state_of, subject_named, system_turn}
 use Rattle.subject_model.specs.View.{Seen, through, ran_through, view_of}

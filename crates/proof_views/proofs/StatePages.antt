@@ -12,15 +12,14 @@ use Rattle.subject_model.specs.DeviceRecord.{NamedInput, port_input, memory_inpu
 use Rattle.subject_model.specs.StatePage.{page_bytes}
 use Rattle.subject_model.specs.States.{started}
 use Rattle.subject_model.specs.SubjectState.{SubjectState}
-use Rattle.subject_model.specs.Run.{run_to}
 use Rattle.subject_model.specs.Alone.{MsrValues, Things, TurnAnswer, own_of, solo_turn, thing_in}
-use Rattle.subject_model.specs.Clock.{system, takes}
+use Rattle.subject_model.specs.Clock.{takes}
 use Rattle.subject_model.specs.System.{System, answered, change_thing, first_page, inbox_of, start_of, subject_named, took, with_own, with_store}
 use Rattle.subject_model.proofs.DeviceWrites.{page_stays}
-use Rattle.subject_model.proofs.KeyLaws.{cases_thing, things_apart, value_changed, value_other}
-use Rattle.subject_model.proofs.StartLists.{made_behind, states_map}
-use Rattle.subject_model.proofs.NoPages.{pages_apart}
-use Rattle.proof_views.specs.Pages.{IsStatePage}
+use Rattle.subject_model.proofs.KeyLaws.{things_apart, value_changed, value_other}
+use Rattle.policy_lawful.proofs.SameThings.{cases_thing}
+use Rattle.subject_model.proofs.StartLists.{state_started}
+use Rattle.proof_views.specs.Laws.{StatePagesStay}
 use Rattle.proof_views.specs.AloneRun.{is_altered}
 use Rattle.proof_views.proofs.Unmoved.{by_irq, by_raised}
 use Rattle.subject_model.specs.Laws.{StoresElsewhere}
@@ -33,14 +32,8 @@ Paged name things = (st : SubjectState) × (thing_in things (state name) ≡ Som
 
 -- ---- the start
 
-pub first_paged : (p : Source) (files : Held) (s : Subject) → subject_named p s.name ≡ Some s → thing_in (start_of p files).things (state s.name) ≡ Some (page_bytes (started s.entry))
-unfolding start_of first_page
-first_paged p files s is =
-    made_behind (initial_bytes p files) (things_of p) (map (λ n. (state n.name, first_page n)) p.subjects) (state s.name) (pages_apart p s.name)
-    ∙ (states_map first_page p.subjects s.name ∙ ap (option_map first_page) is)
-
 started_paged : (p : Source) (files : Held) (s : Subject) → subject_named p s.name ≡ Some s → Paged s.name (start_of p files).things
-started_paged p files s is = (started s.entry, first_paged p files s is)
+started_paged p files s is = (started s.entry, state_started p files s is)
 
 module _ (name : List ℕ) where
   -- ---- what changes things
@@ -90,8 +83,7 @@ solo_kept p s none first tick q member is st values y h =
     let turn : TurnAnswer = solo_turn (own_of p q) (record { state = st; msrs = values }) (inbox_of p y q first tick) in
     answer_kept s.name p s q refl turn y (solo_elsewhere p s none q member is (record { state = st; msrs = values }) (inbox_of p y q first tick)) h
 
-pub pages_stay : (p : Source) (files : Held) (inputs : ℕ → List NamedInput) (order : ℕ → List ℕ) (n : ℕ) (s : Subject) → is_altered p s ≡ false → subject_named p s.name ≡ Some s
-    → IsStatePage (run_to (system p) inputs order n (start_of p files)).state s.name
+pub pages_stay : StatePagesStay
 pages_stay p files inputs order n s none is =
     let at = run_keeps p (λ y. Paged s.name y.things) (λ tick y h. h) (input_kept s.name p) (solo_kept p s none) inputs order n (start_of p files) (started_paged p files s is) in
     record { state = at.0; is = at.1 }

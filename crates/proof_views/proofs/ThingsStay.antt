@@ -25,7 +25,8 @@ use Rattle.policy_lawful.specs.source.Subject.{Subject}
 use Rattle.subject_model.specs.Run.{Turned, all_taken, begun, run_to, turns}
 use Rattle.subject_model.specs.Slot.{Slot}
 use Rattle.subject_model.proofs.DeviceWrites.{IsWritable, unwritten_stays}
-use Rattle.subject_model.proofs.KeyLaws.{same_thing_self, same_things, things_apart, value_changed, value_other}
+use Rattle.subject_model.proofs.KeyLaws.{things_apart, value_changed, value_other}
+use Rattle.policy_lawful.proofs.SameThings.{same_thing_self, same_things}
 use Rattle.subject_model.specs.Alone.{Inbox, Own, OwnState, Things, TurnAnswer, alone, own_of, reach_by, solo_turn, stepped, thing_in, unless_delivered, vector_for, waits}
 use Rattle.subject_model.specs.Clock.{begins, inputs_at, order_at, system, takes}
 use Rattle.subject_model.specs.DeviceRecord.{DeviceRecord, NamedInput, port_input, memory_input, irq_input, dma_input}
@@ -35,6 +36,7 @@ use Rattle.subject_model.specs.SubjectState.{SubjectState}
 use Rattle.subject_model.specs.System.{System, answered, change_thing, inbox_of, is_shown, named, shown_to, start_of, subject_named, system_turn, took, turn_answered, turn_from, turn_in_slot, turn_of_member, turn_of_subject, with_own, with_store}
 use Rattle.subject_model.specs.TurnLine.{TurnLine}
 use Rattle.proof_views.specs.Changes.{IsSpared, acting, after_store, are_writable, input_changes, may_change, may_change_on, whose_turn}
+use Rattle.proof_views.specs.Laws.{InputsSpareOtherThings, TurnsChangeByTheirStore, TurnsSpareOtherThings}
 use Rattle.proof_views.specs.Members.{AreListed, HasTurn}
 use Rattle.proof_views.proofs.ActiveMembers.{turn_listed}
 use Rattle.proof_views.proofs.Kept.{turn_cases}
@@ -114,7 +116,7 @@ pub has_whose : (p : Source) (cpu tick : ℕ) (y : System) (slot : Slot) (member
 has_whose p cpu tick y slot member q has =
     ap (option_and_then (λ (slot : Slot). option_and_then (subject_named p) (slice_get y.active slot.group))) has.in_slot ∙ ap (option_and_then (subject_named p)) has.active ∙ has.is
 
-pub turn_leaves : (p : Source) (cpu tick : ℕ) (y : System) (x : Thing) → IfSome (whose_turn p cpu tick y) (λ q. may_change p q x ≡ false) → thing_in (system_turn p cpu tick y).state.things x ≡ thing_in y.things x
+pub turn_leaves : TurnsSpareOtherThings
 turn_leaves p cpu tick y x may =
     turn_cases p cpu tick y (λ t. thing_in t.state.things x ≡ thing_in y.things x) refl (λ slot member q st values has.
     let its : may_change p q x ≡ false = subst (λ o. IfSome o (λ q. may_change p q x ≡ false)) (has_whose p cpu tick y slot member q has) may in
@@ -153,8 +155,7 @@ turn_is p cpu tick y s first st h =
     ∙ ap (λ o. turn_from p cpu tick h.slot.first s (Some st) o y) h.has
     ∙ ap (λ b. turn_answered p cpu tick s st.pc (solo_turn (own_of p s) (record { state = st; msrs = h.values }) (inbox_of p y s b tick)) y) h.begins
 
-pub turn_stores : (p : Source) (cpu tick : ℕ) (y : System) (s : Subject) (first : Bool) (st : SubjectState) (h : IsTurnOf p cpu tick y s first st) (x : Thing) → same_thing (state s.name) x ≡ false
-    → thing_in (system_turn p cpu tick y).state.things x ≡ option_map (after_store (solo_turn (own_of p s) (record { state = st; msrs = h.values }) (inbox_of p y s first tick)).stored x) (thing_in y.things x)
+pub turn_stores : TurnsChangeByTheirStore
 turn_stores p cpu tick y s first st h x page =
     ap (λ (t : Turned System TurnLine). thing_in t.state.things x) (turn_is p cpu tick y s first st h)
     ∙ own_lands p s x page (solo_turn (own_of p s) (record { state = st; msrs = h.values }) (inbox_of p y s first tick)) y
@@ -168,7 +169,7 @@ turns_leave p tick x (cpu ∷ cpus) y h =
 
 -- ---- inputs
 
-pub input_leaves : (p : Source) (i : NamedInput) (y : System) (x : Thing) → input_changes p i x ≡ false → thing_in (takes p i y).things x ≡ thing_in y.things x
+pub input_leaves : InputsSpareOtherThings
 input_leaves p (port_input device port value) y x h = refl
 input_leaves p (memory_input device memory offset bytes) y x h =
     value_other same_thing (device_memory device memory) x (λ old. over old offset bytes) y.things (things_apart (device_memory device memory) x (not_same (device_memory device memory) x h))

@@ -9,7 +9,7 @@ use Rattle.policy_lawful.proofs.KeptMembers.{MembersKept}
 use Rattle.policy_lawful.specs.source.Source.{Source}
 use Rattle.policy_lawful.specs.source.Subject.{Subject}
 use Rattle.subject_model.specs.Clock.{system}
-use Rattle.subject_model.specs.Reading.{are_distinct}
+use Rattle.muen_num.specs.Numbers.{are_distinct}
 use Rattle.subject_model.specs.System.{System, subject_named, system_turn}
 use Rattle.subject_model.specs.View.{through}
 use Rattle.proof_views.specs.AloneRun.{before}

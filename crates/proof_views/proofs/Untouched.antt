@@ -35,7 +35,7 @@ use Rattle.subject_model.specs.Alone.{Inbox, Own, OwnState, alone, own_of, reach
 use Rattle.subject_model.specs.Laws.{StoresElsewhere}
 use Rattle.subject_model.specs.System.{subject_named}
 use Rattle.subject_model.proofs.StepLaws.{step_stored}
-use Rattle.subject_model.proofs.NoPages.{NoPage}
+use Rattle.policy_lawful.proofs.NoPages.{NoPage}
 use Rattle.muen_num.proofs.Each.{chained, each_append, each_flat, each_map, each_some, found, mapped}
 use Rattle.proof_views.specs.AloneRun.{alters, is_altered}
 

@@ -1,86 +1,50 @@
 //! Laws over runs of the abstract system.
 //!
-//! What they speak of stands in specs/ (`Pages`, `LastViews`, `LinesOf`, `AloneRun`, `Changes`, `Private`,
-//! `Raisers`, `Writers`, `Composed`). The functions here carry the laws; no command calls one.
+//! They stand in specs/ (`Laws`), and so does what they speak of (`Pages`, `LastViews`, `LinesOf`, `AloneRun`, `Changes`,
+//! `Private`, `Raisers`, `Writers`, `Composed`). The functions here carry them; no command calls one.
 #![tactic(auto)]
 
-ghost use Rattle.std.specs.Prelude.{◌≡◌, ◌≤◌, ◌<◌, ◌==◌, ◌&&◌, if◌then◌else◌, ℕ, suc, Bool, true, false, List, Some, All, IsTrue, map, option_map, slice_get};
-ghost use Rattle.std.specs.List.{filter_map, find, list_any};
-ghost use Rattle.std.specs.Option.{IfSome};
-ghost use Rattle.std.specs.Str.{bytes_eq};
-ghost use Rattle.muen_num.specs.declared.access.AccessKind.TheVariants.{Write};
-ghost use Rattle.policy_lawful.specs.Dma.{dma_windows};
-ghost use Rattle.policy_lawful.specs.Lawful.{IsLawful};
-ghost use Rattle.policy_lawful.specs.Contents.{Held};
-ghost use Rattle.policy_lawful.specs.Thing.{Thing, channel, same_thing, state};
-ghost use Rattle.policy_lawful.specs.Rights.{allows};
-ghost use Rattle.policy_lawful.specs.Windows.{windows_of};
-ghost use Rattle.policy_lawful.specs.source.Channel.{Channel};
-ghost use Rattle.policy_lawful.specs.source.Source.{Source};
-ghost use Rattle.policy_lawful.specs.source.Subject.{Subject};
-ghost use Rattle.subject_model.specs.DeviceRecord.{DeviceRecord, NamedInput, dma_input};
-ghost use Rattle.subject_model.specs.Law.{NamesEachOnce};
-ghost use Rattle.subject_model.specs.Reading.{are_distinct};
-ghost use Rattle.subject_model.specs.Run.{run_to};
-ghost use Rattle.subject_model.specs.Alone.{Inbox, OwnState, is_in, own_of, solo_turn, thing_in};
-ghost use Rattle.subject_model.specs.Clock.{inputs_at, order_at, run_of, system, takes};
-ghost use Rattle.subject_model.specs.Laws.{IsTurnOf};
-ghost use Rattle.subject_model.specs.SubjectState.{SubjectState};
-ghost use Rattle.subject_model.specs.System.{System, inbox_of, is_shown, named, pending, start_of, state_of, subject_named, system_turn};
-ghost use Rattle.subject_model.specs.View.{Seen, through, view_of};
-ghost use Rattle.proof_views.specs.AloneRun.{at_turn, alone_view, before, is_altered, own_part, reaching_at, started_alone};
-ghost use Rattle.proof_views.specs.Composed.{AreFed, alone_in_run, composed};
-ghost use Rattle.proof_views.specs.Changes.{IsSpared, after_store, input_changes, may_change, may_change_on, whose_turn};
-ghost use Rattle.proof_views.specs.LastViews.{at_rest, behind, without_line};
-ghost use Rattle.proof_views.specs.LinesOf.{lines_of};
-ghost use Rattle.proof_views.specs.Pages.{IsStatePage};
-ghost use Rattle.proof_views.specs.Private.{IsPrivate, held_alone};
-ghost use Rattle.proof_views.specs.Raisers.{IsRaisedLater, IsRaisedNow};
-ghost use Rattle.proof_views.specs.Writers.{is_writer_of};
+ghost use Rattle.proof_views.specs.Laws.{FirstMsrsAreLeft, FirstStatesAreLeft, LastBytesAreLeft, LastMsrsAreLeft, LastStatesAreLeft, LastViewsAreTheEnd, StatePagesStay};
+ghost use Rattle.proof_views.specs.Laws.{LinesAreThoseOfViews, PrivateMemoryHasOwnStores, PrivateMemoryIsKept, PrivateMemoryIsLeft, PrivateMemoryIsOfTheStart, SubjectsActAlone};
+ghost use Rattle.proof_views.specs.Laws.{ChannelsArePrivate, ChannelsHoldWritersStores, PendingWereRaised, ReachingLaterWereRaised, ReachingWereRaised, WaitingWereRaised, WritersStoresReachReaders};
+ghost use Rattle.proof_views.specs.Laws.{DevicesSpareOtherThings, DevicesWriteThingsAlone, InputsSpareOtherThings, TicksSpareThings, TurnsChangeByTheirStore, TurnsSpareOtherThings};
+ghost use Rattle.proof_views.specs.Laws.{OneRunAloneIsFed, OneRunIsComposed, RunsAloneAreFed, RunsAreComposed, TicksAreComposed};
 
 /// The page of a subject that no monitor may write is that of a state, with zeros elsewhere, after any
 /// number of ticks of every run: nothing else is ever written on it.
 pub fn state_pages_are_their_subjects()
-    ensures { (p : Source) (files : Held) (inputs : ℕ → List NamedInput) (order : ℕ → List ℕ) (n : ℕ) (s : Subject) → is_altered p s ≡ false
-        → subject_named p s.name ≡ Some s → IsStatePage (run_to (system p) inputs order n (start_of p files)).state s.name }
+    ensures { StatePagesStay }
 {}
 
 /// Where the CPU of a subject takes the last turn of a run, the subject's view ends with what the run
 /// leaves: its state, which is printed at the end, its MSRs and pending events, and all that its windows
 /// show.
 pub fn last_views_are_the_end()
-    ensures { (p : Source) (files : Held) (r : DeviceRecord) (s : Subject) (n : ℕ) → r.end ≡ suc n → through s.cpu (order_at p r n) ≡ order_at p r n
-        → option_map without_line (slice_get (view_of p files r s) n) ≡ Some (at_rest p s (run_of p files r).state) }
+    ensures { LastViewsAreTheEnd }
 {}
 
 /// A run leaves of each subject the state and the MSRs that its last view has, whichever turns come after that of
 /// its CPU; a run of no ticks leaves those of the start. The policy is lawful, and no order of the record names a CPU
 /// twice. The state that is left is what the run prints of the subject.
 pub fn final_states_are_those_of_the_last_views()
-    ensures states { (p : Source) (files : Held) (r : DeviceRecord) (s : Subject) (n : ℕ) → IsLawful p → subject_named p s.name ≡ Some s → All (λ o. IsTrue (are_distinct o.1)) r.orders
-        → r.end ≡ suc n → option_map (λ v. v.state) (slice_get (view_of p files r s) n) ≡ Some (state_of (run_of p files r).state s.name) }
-    ensures msrs { (p : Source) (files : Held) (r : DeviceRecord) (s : Subject) (n : ℕ) → IsLawful p → subject_named p s.name ≡ Some s → All (λ o. IsTrue (are_distinct o.1)) r.orders
-        → r.end ≡ suc n → option_map (λ v. v.msrs) (slice_get (view_of p files r s) n) ≡ Some (named (run_of p files r).state.msrs s.name) }
-    ensures first_state { (p : Source) (files : Held) (r : DeviceRecord) (s : Subject) → subject_named p s.name ≡ Some s → r.end ≡ 0
-        → state_of (run_of p files r).state s.name ≡ Some (started_alone s).state }
-    ensures first_msrs { (p : Source) (files : Held) (r : DeviceRecord) (s : Subject) → subject_named p s.name ≡ Some s → r.end ≡ 0
-        → named (run_of p files r).state.msrs s.name ≡ Some (started_alone s).msrs }
+    ensures states { LastStatesAreLeft }
+    ensures msrs { LastMsrsAreLeft }
+    ensures first_state { FirstStatesAreLeft }
+    ensures first_msrs { FirstMsrsAreLeft }
 {}
 
 /// A run leaves of a thing the bytes that the last view of a subject has of it, if one of the subject's windows shows it
 /// and no turn of a CPU that comes later in the last tick may change it (`may_change_on`). The digest of these bytes is what
 /// the run prints of the thing. The policy is lawful.
 pub fn digests_are_fixed_by_last_views()
-    ensures { (p : Source) (files : Held) (r : DeviceRecord) (s : Subject) (x : Thing) (n : ℕ) → IsLawful p → r.end ≡ suc n → is_shown (windows_of p s) x ≡ true
-        → may_change_on p (behind s.cpu (order_at p r n)) x ≡ false → option_map (λ v. thing_in v.things x) (slice_get (view_of p files r s) n) ≡ Some (thing_in (run_of p files r).state.things x) }
+    ensures { LastBytesAreLeft }
 {}
 
 /// The lines that a run prints of a subject are those that its view shows, one tick after another: a
 /// turn prints of a subject of its own CPU alone, and each CPU has one turn in a tick. The policy is lawful,
 /// and no order of the record names a CPU twice.
 pub fn lines_are_those_of_the_views()
-    ensures { (p : Source) (files : Held) (r : DeviceRecord) (s : Subject) → IsLawful p → subject_named p s.name ≡ Some s → All (λ o. IsTrue (are_distinct o.1)) r.orders
-        → lines_of s.name (run_of p files r).lines ≡ filter_map (λ v. v.line) (view_of p files r s) }
+    ensures { LinesAreThoseOfViews }
 {}
 
 /// **Each subject acts alone.** The view of a subject is, tick by tick, that of the subject by itself
@@ -90,8 +54,7 @@ pub fn lines_are_those_of_the_views()
 /// it is the state that its page then has, if that subject may write the page, and else nothing. The policy is
 /// lawful, and each order of the record names each CPU once, as in every record that is read.
 pub fn views_are_those_of_subjects_alone()
-    ensures { (p : Source) (files : Held) (r : DeviceRecord) (s : Subject) → IsLawful p → subject_named p s.name ≡ Some s
-        → All (λ o. NamesEachOnce p.processor.logical_cpus o.1) r.orders → map own_part (view_of p files r s) ≡ alone_view (own_of p s) (reaching_at p files r s) (started_alone s) r.end }
+    ensures { SubjectsActAlone }
 {}
 
 /// What a subject alone may change (`IsPrivate`) holds what the subject itself has left there: at its turn it has the bytes
@@ -100,18 +63,10 @@ pub fn views_are_those_of_subjects_alone()
 /// leaves what the last view has, of which the digest is printed. The policy is lawful, and each order of the record
 /// names each CPU once, as in every record that is read.
 pub fn private_memory_is_the_subjects_own()
-    ensures kept { (p : Source) (files : Held) (r : DeviceRecord) (s : Subject) (x : Thing) (n : ℕ) (inbox : Inbox) (v : Seen) → IsLawful p → subject_named p s.name ≡ Some s
-        → All (λ o. NamesEachOnce p.processor.logical_cpus o.1) r.orders → IsPrivate p s x → reaching_at p files r s (suc n) ≡ at_turn inbox → slice_get (view_of p files r s) n ≡ Some v
-        → thing_in inbox.things x ≡ thing_in v.things x }
-    ensures first { (p : Source) (files : Held) (r : DeviceRecord) (s : Subject) (x : Thing) (inbox : Inbox) → IsLawful p → subject_named p s.name ≡ Some s
-        → All (λ o. NamesEachOnce p.processor.logical_cpus o.1) r.orders → IsPrivate p s x → is_shown (windows_of p s) x ≡ true → reaching_at p files r s 0 ≡ at_turn inbox
-        → thing_in inbox.things x ≡ thing_in (start_of p files).things x }
-    ensures stores { (p : Source) (files : Held) (r : DeviceRecord) (s : Subject) (x : Thing) (bytes : List ℕ) (n : ℕ) (v : Seen) → IsLawful p → subject_named p s.name ≡ Some s
-        → All (λ o. NamesEachOnce p.processor.logical_cpus o.1) r.orders → IsPrivate p s x → is_shown (windows_of p s) x ≡ true → thing_in (start_of p files).things x ≡ Some bytes
-        → slice_get (view_of p files r s) n ≡ Some v → thing_in v.things x ≡ Some (held_alone (own_of p s) (reaching_at p files r s) (started_alone s) x bytes (suc n)) }
-    ensures left { (p : Source) (files : Held) (r : DeviceRecord) (s : Subject) (x : Thing) (n : ℕ) → IsLawful p → subject_named p s.name ≡ Some s
-        → All (λ o. NamesEachOnce p.processor.logical_cpus o.1) r.orders → IsPrivate p s x → is_shown (windows_of p s) x ≡ true → r.end ≡ suc n
-        → option_map (λ v. thing_in v.things x) (slice_get (view_of p files r s) n) ≡ Some (thing_in (run_of p files r).state.things x) }
+    ensures kept { PrivateMemoryIsKept }
+    ensures first { PrivateMemoryIsOfTheStart }
+    ensures stores { PrivateMemoryHasOwnStores }
+    ensures left { PrivateMemoryIsLeft }
 {}
 
 /// A channel is private memory of its writer (`IsPrivate`), of which a lawful policy has one (`is_writer_of`). So after
@@ -120,15 +75,9 @@ pub fn private_memory_is_the_subjects_own()
 /// writer's store of that tick too where the writer's CPU comes before its own in the tick's order. Each order of the
 /// record names each CPU once, as in every record that is read.
 pub fn channels_hold_what_their_writers_stored()
-    ensures private { (p : Source) (w : Subject) (name : List ℕ) (c : Channel) → IsLawful p → subject_named p w.name ≡ Some w → find (λ c. bytes_eq c.name name) p.channels ≡ Some c
-        → is_writer_of p w name ≡ true → IsPrivate p w (channel name) }
-    ensures holds { (p : Source) (files : Held) (r : DeviceRecord) (w : Subject) (name : List ℕ) (c : Channel) (bytes : List ℕ) (n : ℕ) → IsLawful p → subject_named p w.name ≡ Some w
-        → All (λ o. NamesEachOnce p.processor.logical_cpus o.1) r.orders → find (λ c. bytes_eq c.name name) p.channels ≡ Some c → is_writer_of p w name ≡ true → thing_in (start_of p files).things (channel name) ≡ Some bytes
-        → thing_in (run_to (system p) (inputs_at r) (order_at p r) n (start_of p files)).state.things (channel name) ≡ Some (held_alone (own_of p w) (reaching_at p files r w) (started_alone w) (channel name) bytes n) }
-    ensures reaches { (p : Source) (files : Held) (r : DeviceRecord) (w : Subject) (name : List ℕ) (c : Channel) (bytes : List ℕ) (n : ℕ) (s : Subject) (inbox : Inbox) → IsLawful p → subject_named p w.name ≡ Some w
-        → All (λ o. NamesEachOnce p.processor.logical_cpus o.1) r.orders → find (λ c. bytes_eq c.name name) p.channels ≡ Some c → is_writer_of p w name ≡ true → thing_in (start_of p files).things (channel name) ≡ Some bytes
-        → is_shown (windows_of p s) (channel name) ≡ true → reaching_at p files r s n ≡ at_turn inbox → thing_in inbox.things (channel name)
-        ≡ Some (held_alone (own_of p w) (reaching_at p files r w) (started_alone w) (channel name) bytes (if list_any (λ c. c == w.cpu) (before s.cpu (order_at p r n)) then suc n else n)) }
+    ensures private { ChannelsArePrivate }
+    ensures holds { ChannelsHoldWritersStores }
+    ensures reaches { WritersStoresReachReaders }
 {}
 
 /// Each vector that pends for a subject, after any number of ticks of every run, comes of an event that a
@@ -136,23 +85,17 @@ pub fn channels_hold_what_their_writers_stored()
 /// a device's interrupt that the policy grants it (`irq_of`); and so does each that reaches it at its turn
 /// (`reaching_at`). Those that wait are of events that do.
 pub fn pending_vectors_were_raised()
-    ensures now { (p : Source) (files : Held) (inputs : ℕ → List NamedInput) (order : ℕ → List ℕ) (n : ℕ) (name : List ℕ) (v : ℕ)
-        → is_in (pending (run_to (system p) inputs order n (start_of p files)).state.now name) v ≡ true → IsRaisedNow p name v }
-    ensures later { (p : Source) (files : Held) (inputs : ℕ → List NamedInput) (order : ℕ → List ℕ) (n : ℕ) (name : List ℕ) (v : ℕ)
-        → is_in (pending (run_to (system p) inputs order n (start_of p files)).state.later name) v ≡ true → IsRaisedLater p name v }
-    ensures reaches_now { (p : Source) (files : Held) (r : DeviceRecord) (s : Subject) (n : ℕ) (inbox : Inbox) (v : ℕ) → reaching_at p files r s n ≡ at_turn inbox
-        → is_in inbox.now v ≡ true → IsRaisedNow p s.name v }
-    ensures reaches_later { (p : Source) (files : Held) (r : DeviceRecord) (s : Subject) (n : ℕ) (inbox : Inbox) (v : ℕ) → reaching_at p files r s n ≡ at_turn inbox
-        → is_in inbox.later v ≡ true → IsRaisedLater p s.name v }
+    ensures now { PendingWereRaised }
+    ensures later { WaitingWereRaised }
+    ensures reaches_now { ReachingWereRaised }
+    ensures reaches_later { ReachingLaterWereRaised }
 {}
 
 /// A line of direct memory access writes only into regions on which its device's domain has a window with
 /// write: it changes no other thing, and nothing of the system but things.
 pub fn devices_write_through_their_domain_alone()
-    ensures things { (p : Source) (device bytes : List ℕ) (address : ℕ) (y : System) (x : Thing) → list_any (λ w. allows w.rights Write && same_thing w.thing x) (dma_windows p device) ≡ false
-        → thing_in (takes p (dma_input device address bytes) y).things x ≡ thing_in y.things x }
-    ensures rest { (p : Source) (device bytes : List ℕ) (address : ℕ) (y : System)
-        → takes p (dma_input device address bytes) y ≡ record y { things = (takes p (dma_input device address bytes) y).things } }
+    ensures things { DevicesSpareOtherThings }
+    ensures rest { DevicesWriteThingsAlone }
 {}
 
 /// What a thing holds changes in a turn only where the subject whose turn it is (`whose_turn`) has a window with
@@ -161,13 +104,10 @@ pub fn devices_write_through_their_domain_alone()
 /// names, or where the device's domain has a window with write on it (`input_changes`). So over ticks of a run, a thing
 /// that none of their inputs and none of the subjects with a turn there may change (`IsSpared`) holds what it held.
 pub fn things_change_through_windows_alone()
-    ensures turns { (p : Source) (cpu tick : ℕ) (y : System) (x : Thing) → IfSome (whose_turn p cpu tick y) (λ q. may_change p q x ≡ false)
-        → thing_in (system_turn p cpu tick y).state.things x ≡ thing_in y.things x }
-    ensures stores { (p : Source) (cpu tick : ℕ) (y : System) (s : Subject) (first : Bool) (st : SubjectState) (h : IsTurnOf p cpu tick y s first st) (x : Thing) → same_thing (state s.name) x ≡ false
-        → thing_in (system_turn p cpu tick y).state.things x ≡ option_map (after_store (solo_turn (own_of p s) (record { state = st; msrs = h.values }) (inbox_of p y s first tick)).stored x) (thing_in y.things x) }
-    ensures inputs { (p : Source) (i : NamedInput) (y : System) (x : Thing) → input_changes p i x ≡ false → thing_in (takes p i y).things x ≡ thing_in y.things x }
-    ensures ticks { (p : Source) (files : Held) (r : DeviceRecord) (x : Thing) (m n : ℕ) → m ≤ n → ((k : ℕ) → m ≤ k → k < n → IsSpared p files r x k)
-        → thing_in (run_to (system p) (inputs_at r) (order_at p r) n (start_of p files)).state.things x ≡ thing_in (run_to (system p) (inputs_at r) (order_at p r) m (start_of p files)).state.things x }
+    ensures turns { TurnsSpareOtherThings }
+    ensures stores { TurnsChangeByTheirStore }
+    ensures inputs { InputsSpareOtherThings }
+    ensures ticks { TicksSpareThings }
 {}
 
 /// **The whole is its parts.** The run of the system on a record is that of its subjects alone, put together
@@ -180,14 +120,9 @@ pub fn things_change_through_windows_alone()
 /// together they are the joint run (`only_run`). The policy is lawful, and each order of the record names each CPU once, as in
 /// every record that is read.
 pub fn runs_are_composed_of_subjects_alone()
-    ensures run { (p : Source) (files : Held) (r : DeviceRecord) → IsLawful p → All (λ o. NamesEachOnce p.processor.logical_cpus o.1) r.orders
-        → run_to (composed (alone_in_run p files r) p) (inputs_at r) (order_at p r) r.end (start_of p files) ≡ run_of p files r }
-    ensures ticks { (p : Source) (files : Held) (r : DeviceRecord) (n : ℕ) → IsLawful p → All (λ o. NamesEachOnce p.processor.logical_cpus o.1) r.orders
-        → run_to (composed (alone_in_run p files r) p) (inputs_at r) (order_at p r) n (start_of p files) ≡ run_to (system p) (inputs_at r) (order_at p r) n (start_of p files) }
-    ensures fed { (p : Source) (files : Held) (r : DeviceRecord) → IsLawful p → All (λ o. NamesEachOnce p.processor.logical_cpus o.1) r.orders
-        → AreFed (alone_in_run p files r) p files r }
-    ensures only_run { (p : Source) (files : Held) (r : DeviceRecord) (alone : Subject → ℕ → OwnState) (n : ℕ) → IsLawful p → All (λ o. NamesEachOnce p.processor.logical_cpus o.1) r.orders
-        → AreFed alone p files r → run_to (composed alone p) (inputs_at r) (order_at p r) n (start_of p files) ≡ run_to (system p) (inputs_at r) (order_at p r) n (start_of p files) }
-    ensures only_parts { (p : Source) (files : Held) (r : DeviceRecord) (alone : Subject → ℕ → OwnState) (s : Subject) (n : ℕ) → IsLawful p → subject_named p s.name ≡ Some s
-        → All (λ o. NamesEachOnce p.processor.logical_cpus o.1) r.orders → AreFed alone p files r → alone s n ≡ alone_in_run p files r s n }
+    ensures run { RunsAreComposed }
+    ensures ticks { TicksAreComposed }
+    ensures fed { RunsAloneAreFed }
+    ensures only_run { OneRunIsComposed }
+    ensures only_parts { OneRunAloneIsFed }
 {}

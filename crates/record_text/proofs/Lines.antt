@@ -9,7 +9,8 @@ use Rattle.record_text.specs.Bench.{BenchDevice, bench_device, bench_of, has_byt
 use Rattle.record_text.specs.DeviceRecord.{DeviceRecord, NamedInput, port_input, memory_input, irq_input, dma_input}
 use Rattle.record_text.specs.Made.{grown, made_line, made_says, made_with, standing_of, with_end, with_input, with_order}
 use Rattle.record_text.specs.Resolving.{bytes_in, irq_of, is_in_span, memory_of, order_at, resolved, resolved_at, resolved_input, port_of, raised}
-use Rattle.record_text.specs.Reading.{Standing, are_distinct, entry_at, in_line, names_known, not_back, nothing_until, order_fits, record_after, standing_after, with_entry}
+use Rattle.record_text.specs.Reading.{Standing, entry_at, in_line, names_known, not_back, nothing_until, order_fits, record_after, standing_after, with_entry}
+use Rattle.muen_num.specs.Numbers.{are_distinct}
 use Rattle.record_text.specs.Saying.{line_of, said}
 use Rattle.text_words.specs.Steps.{◌>>=◌, ◌>>◌, mapped}
 use Rattle.record_text.specs.Table.{Entry, input_entry, order_entry, end_entry, entry_tick, read_words}

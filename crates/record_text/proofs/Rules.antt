@@ -12,7 +12,8 @@ use Rattle.muen_num.specs.declared.limits.TheConstants.{GUEST_END, LAST_PORT, MO
 use Rattle.record_text.specs.Bench.{Bench, bench_of, is_known}
 use Rattle.record_text.specs.DeviceRecord.{NamedInput, port_input, memory_input, irq_input, dma_input}
 use Rattle.record_text.specs.Made.{IsInOrder, made_with, standing_of}
-use Rattle.record_text.specs.Reading.{Standing, are_distinct, entry_at, in_line, names_known, not_after_end, not_back, order_fits}
+use Rattle.record_text.specs.Reading.{Standing, entry_at, in_line, names_known, not_after_end, not_back, order_fits}
+use Rattle.muen_num.specs.Numbers.{are_distinct}
 use Rattle.text_words.specs.Steps.{◌>>=◌, ◌>>◌, mapped}
 use Rattle.record_text.specs.Table.{Entry, input_entry, order_entry, end_entry, as_many, cpu_numbers, dma_line, end_line, entry_tick, first_word, five, four, irq_line, kind_of, line_of_kind, mem_line, one, order_line, port_line, read_words, three}
 use Rattle.text_words.specs.Numbers.{number_of}

@@ -4,7 +4,7 @@ use Rattle.std.specs.List.{list_all, list_any}
 use Rattle.std.specs.List.Sorted.{IsNonDecreasing, IsStrictlyIncreasing}
 use Rattle.muen_num.specs.declared.limits.TheConstants.{GUEST_END, MOST_TICKS}
 use Rattle.record_text.specs.Resolving.{is_in_span}
-use Rattle.record_text.specs.Reading.{are_distinct}
+use Rattle.muen_num.specs.Numbers.{are_distinct}
 use Rattle.record_text.specs.declared.devices.Devices.{Devices}
 use Rattle.muen_num.specs.declared.devices.IrqTarget.{IrqTarget}
 use Rattle.record_text.specs.declared.record.TheConstants.{INPUT_MOST}

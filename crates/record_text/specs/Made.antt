@@ -3,7 +3,8 @@ use Rattle.std.specs.Prelude.{ℕ, ◌<◌, ◌≤◌, ◌==◌, ◌&&◌, true,
 use Rattle.std.specs.List.{list_any}
 use Rattle.record_text.specs.DeviceRecord.{DeviceRecord}
 use Rattle.record_text.specs.Resolving.{resolved_input, resolved_at, order_at}
-use Rattle.record_text.specs.Reading.{Standing, are_distinct}
+use Rattle.record_text.specs.Reading.{Standing}
+use Rattle.muen_num.specs.Numbers.{are_distinct}
 use Rattle.record_text.specs.Table.{Entry, input_entry, order_entry, end_entry}
 use Rattle.record_text.specs.declared.devices.Devices.{Devices}
 use Rattle.record_text.specs.declared.fault.LineWant.TheVariants.{Order as OrderWant}

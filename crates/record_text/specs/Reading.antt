@@ -11,6 +11,7 @@ use Rattle.record_text.specs.declared.fault.LineWant.{LineWant}
 use Rattle.record_text.specs.declared.fault.LineWant.TheVariants.{Order}
 use Rattle.record_text.specs.declared.fault.RecordFault.{RecordFault}
 use Rattle.record_text.specs.declared.fault.RecordFault.TheVariants.{NotAscii, TooMany, Line, Back, Unknown, NoEnd}
+use Rattle.muen_num.specs.Numbers.{are_distinct}
 
 -- ---- what the lines before one leave for it
 
@@ -41,10 +42,6 @@ in_line n (Err want) = Err (Line n want)
 
 abbrev pub not_back : Standing → ℕ → ℕ → Result (Unit {0}) RecordFault
 not_back s n tick = if nat_lt tick s.tick then Err (Back n) else Ok tt
-
-abbrev pub are_distinct : List ℕ → Bool
-are_distinct [] = true
-are_distinct (x ∷ xs) = not (list_any (λ y. y == x) xs) && are_distinct xs
 
 -- each CPU once, and one order for a tick
 abbrev pub order_fits : Standing → ℕ → Entry → Result (Unit {0}) RecordFault

@@ -3,7 +3,7 @@ ghost use Rattle.std.specs.Prelude.{◌≡◌, ◌==◌, ◌&&◌, ◌≤◌, Er
 ghost use Rattle.std.specs.List.{list_any};
 ghost use Rattle.muen_num.specs.Answers.{Answers};
 ghost use Rattle.record_text.specs.Made.{IsInOrder, RisesTo, made_line, made_order, nothing, with_end, with_input, with_order};
-ghost use Rattle.record_text.specs.Reading.{are_distinct};
+ghost use Rattle.muen_num.specs.Numbers.{are_distinct};
 
 use crate::fault::{LineWant, RecordFault};
 use crate::line::{RecordLine, Says};

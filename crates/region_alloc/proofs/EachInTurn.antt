@@ -4,23 +4,10 @@ use Rattle.std.specs.Prelude.{filter, nat_le, not, slice_get}
 use Rattle.std.specs.List.{enumerate_from}
 use Rattle.std.proofs.lemmas.Bool.{cases_Bool}
 use Rattle.std.proofs.lemmas.List.Elements.{All-append, All-cons, All-filter, All-head, All-nil, All-tail}
+use Rattle.expand_kernel.proofs.Ordered.{All-in_order}
 use Rattle.expand_kernel.specs.Ordered.{in_order, inserted}
 use Rattle.expand_kernel.specs.declared.region.Region.{Region}
 use Rattle.region_alloc.specs.Placement.{in_turn, is_fixed}
-
-pub All-inserted : {X : Type 0} (before : X → X → Bool) (P : X → Type 0) (x : X) (ys : List X) → P x → All P ys → All P (inserted before x ys)
-unfolding inserted
-All-inserted before P x [] p h = All-cons P x [] p h
-All-inserted before P x (y ∷ ys) p h = elim (cases_Bool (before x y)) [
-  | inl here ↦ rw here (All-cons P x (y ∷ ys) p h)
-  | inr later ↦ rw later (All-cons P y (inserted before x ys) (All-head P y ys h) (All-inserted before P x ys p (All-tail P y ys h)))
-]
-
-pub All-in_order : {X : Type 0} (before : X → X → Bool) (P : X → Type 0) (xs : List X) → All P xs → All P (in_order before xs)
-unfolding in_order
-All-in_order before P [] h = All-nil P
-All-in_order before P (x ∷ xs) h =
-    All-inserted before P x (in_order before xs) (All-head P x xs h) (All-in_order before P xs (All-tail P x xs h))
 
 -- what holds of each with its number
 pub each_in_turn : (P : ℕ × Region → Type 0) (regions : List Region) → All P (enumerate_from 0 regions) → All P (in_turn regions)

@@ -13,7 +13,8 @@ use Rattle.muen_num.specs.declared.limits.TheConstants.{LARGE_PAGE, PAGE}
 use Rattle.policy_lawful.specs.Lawful.{IsLawful}
 use Rattle.policy_lawful.specs.Offences.{alone, two}
 use Rattle.policy_lawful.specs.Resolution.{Resolution, source_of}
-use Rattle.policy_lawful.specs.Rules.{component_offence, is_alignment, is_fixed, is_guest, is_laid, is_page_aligned, is_page_size, is_physical, offence_4}
+use Rattle.policy_lawful.specs.Rules.{component_offence, is_alignment, is_fixed, is_guest, is_laid, is_page_size, is_physical, offence_4}
+use Rattle.muen_num.specs.Numbers.{is_page_aligned}
 use Rattle.policy_lawful.specs.Thing.{component_by}
 use Rattle.policy_lawful.specs.Windows.{windows_of}
 use Rattle.policy_lawful.proofs.KeptAddresses.{brings, component_brings, used_brings}

@@ -8,7 +8,7 @@ use Rattle.std.proofs.lemmas.Bool.{cases_Bool, cases_order, eq-eqb, leb-false, l
 use Rattle.std.proofs.lemmas.Bool.Decides.{nat_tests}
 use Rattle.std.proofs.lemmas.List.Elements.{All-cons, All-head, All-nil, All-tail, All-weaker, filter_agree}
 use Rattle.expand_kernel.specs.Ordered.{in_order, inserted}
-use Rattle.region_alloc.proofs.EachInTurn.{All-inserted}
+use Rattle.expand_kernel.proofs.Ordered.{All-inserted}
 
 module _ {X : Type 0} (n : X → ℕ) where
   abbrev pub alike : X → X → Bool

@@ -23,7 +23,8 @@ use Rattle.policy_lawful.specs.declared.offence.Offence.{Offence}
 use Rattle.policy_lawful.specs.source.Device.{Device}
 use Rattle.policy_lawful.specs.source.Ports.{Ports}
 use Rattle.policy_lawful.proofs.Positions.{position_same}
-use Rattle.rules_devices.specs.Ranges.{is_port_range, port_extent}
+use Rattle.rules_devices.specs.Ranges.{port_extent}
+use Rattle.policy_lawful.specs.Ranges.{is_port_range}
 
 -- one more device
 pub ports_more : (ds : List Device) (i : ℕ) (d : Device) → i < length ds → d ≡ get_or ds i d → map port_extent (flat_map (λ d. d.io_ports) (take i ds)) ++ map port_extent d.io_ports ≡ map port_extent (flat_map (λ d. d.io_ports) (take (i + 1) ds))

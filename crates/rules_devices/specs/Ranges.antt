@@ -10,9 +10,7 @@ use Rattle.policy_lawful.specs.declared.offence.Offence.{Offence}
 use Rattle.policy_lawful.specs.declared.resolved.Subject.{Subject}
 use Rattle.policy_lawful.specs.source.Msrs.{Msrs}
 use Rattle.policy_lawful.specs.source.Ports.{Ports}
-
-abbrev pub is_port_range : Ports → Bool
-is_port_range x = nat_le x.start x.end && nat_le x.end LAST_PORT
+use Rattle.policy_lawful.specs.Ranges.{is_port_range}
 
 -- empty where it isn't a range of ports
 abbrev pub port_extent : Ports → Extent

@@ -7,7 +7,8 @@ use Rattle.muen_num.specs.declared.limits.TheConstants.{GUEST_END}
 use Rattle.muen_num.specs.Search.{first_in, first_pair, unless}
 use Rattle.policy_lawful.specs.Domains.{domain_overlap}
 use Rattle.policy_lawful.specs.Offences.{two}
-use Rattle.policy_lawful.specs.Rules.{is_declared, is_page_aligned}
+use Rattle.policy_lawful.specs.Rules.{is_declared}
+use Rattle.muen_num.specs.Numbers.{is_page_aligned}
 use Rattle.policy_lawful.specs.declared.offence.Extent.{Extent}
 use Rattle.policy_lawful.specs.declared.offence.Offence.{Offence}
 use Rattle.policy_lawful.specs.Rights.{may_execute}

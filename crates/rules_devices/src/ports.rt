@@ -3,7 +3,8 @@ ghost use Rattle.std.specs.Prelude.{◌≡◌, ◌++◌, position, ◌==◌, map
 ghost use Rattle.std.specs.List.{flat_map, position_or_len};
 ghost use Rattle.policy_lawful.specs.MoreRules.{offence_10};
 ghost use Rattle.policy_lawful.specs.Resolution.{source_of};
-ghost use Rattle.rules_devices.specs.Ranges.{is_port_range, port_extent};
+ghost use Rattle.rules_devices.specs.Ranges.{port_extent};
+ghost use Rattle.policy_lawful.specs.Ranges.{is_port_range};
 
 use muen_num::NoMemory;
 use muen_num::limits::LAST_PORT;

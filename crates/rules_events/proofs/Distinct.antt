@@ -8,9 +8,9 @@ use Rattle.std.proofs.lemmas.List.{take_more, take-append-drop}
 use Rattle.std.proofs.lemmas.List.Folds.{list_all-append, list_any-append}
 use Rattle.std.proofs.Math.Bool.{or-false}
 use Rattle.muen_num.proofs.Numbers.{equal_turned}
-use Rattle.policy_lawful.specs.MoreRules.{are_distinct}
+use Rattle.muen_num.specs.Numbers.{are_distinct, is_among}
 use Rattle.rules_events.specs.Marks.{Marks}
-use Rattle.rules_events.specs.Numbers.{is_among, are_distinct_in, may_follow}
+use Rattle.rules_events.specs.Numbers.{are_distinct_in, may_follow}
 
 -- one more number stands in a list
 among_push : (xs : List ℕ) (n k : ℕ) → is_among (xs ++ n ∷ []) k ≡ (is_among xs k || (n == k))

@@ -3,12 +3,13 @@ use Rattle.std.proofs.Common.{◌≡◌, ℕ, ◌+◌, ◌-◌, ◌<◌, ◌≤�
 use Rattle.std.specs.Prelude.{◌||◌}
 use Rattle.std.proofs.lemmas.Bool.{eq-eqb}
 use Rattle.std.proofs.lemmas.List.{drop_all, drop_more, get_or-drop}
-use Rattle.rules_events.specs.Listings.{Rises, share, stands_in}
+use Rattle.rules_events.specs.Listings.{Rises}
+use Rattle.muen_num.specs.Numbers.{is_among, share}
 use Rattle.rules_events.proofs.Rising.{nowhere}
 use Rattle.rules_events.proofs.Shares.{none_shared, one_more}
 
 -- an index that is less than one of a list stands nowhere from there on
-above : (xs : List ℕ) (i x : ℕ) → Rises xs → x < get_or xs i 0 → stands_in (drop i xs) x ≡ false
+above : (xs : List ℕ) (i x : ℕ) → Rises xs → x < get_or xs i 0 → is_among (drop i xs) x ≡ false
 above xs i x up less =
     nowhere (drop i xs) x (λ k l e.
     let there : get_or (drop i xs) k 0 ≡ get_or xs (i + k) 0 = get_or-drop i xs k 0 in
@@ -31,8 +32,8 @@ pub first_shared : (xs ys : List ℕ) (i j : ℕ) → i < length xs → j < leng
 first_shared xs ys i j l m same =
     ap (λ zs. share zs (drop j ys)) (drop_more xs i 0 l)
     ∙ ap (λ b. b || share (drop (i + 1) xs) (drop j ys))
-    (ap (λ zs. stands_in zs (get_or xs i 0)) (drop_more ys j 0 m)
-    ∙ ap (λ b. b || stands_in (drop (j + 1) ys) (get_or xs i 0)) (eq-eqb (get_or ys j 0) (get_or xs i 0) (sym same)))
+    (ap (λ zs. is_among zs (get_or xs i 0)) (drop_more ys j 0 m)
+    ∙ ap (λ b. b || is_among (drop (j + 1) ys) (get_or xs i 0)) (eq-eqb (get_or ys j 0) (get_or xs i 0) (sym same)))
 
 pub one_ends : (xs ys : List ℕ) (i j : ℕ) → length xs ≤ i → share (drop i xs) (drop j ys) ≡ false
 one_ends xs ys i j l = ap (λ zs. share zs (drop j ys)) (drop_all i xs l)

@@ -32,7 +32,8 @@ use Rattle.policy_lawful.specs.source.Channel.{Channel}
 use Rattle.policy_lawful.specs.source.Event.{Event}
 use Rattle.policy_lawful.specs.Views.{channel_ends_of}
 use Rattle.rules_channels.specs.ByIndex.{AreItems, items_at}
-use Rattle.rules_events.specs.Listings.{all_memberships, memberships, share, stands_in}
+use Rattle.rules_events.specs.Listings.{all_memberships, memberships}
+use Rattle.muen_num.specs.Numbers.{is_among, share}
 use Rattle.rules_events.specs.Directions.{channel_fault, channel_mode, channels_fault, event_fault, events_fault, fits_mode, mode_fault, parties_of, source_fault}
 use Rattle.rules_channels.specs.ChannelEnds.{all_channel_ends, all_readers, all_writers, met, met_channel_ends}
 use Rattle.rules_channels.specs.Parties.{party, source_parties, sources_at, target_parties, targets_at}
@@ -141,8 +142,8 @@ one_number test n (suc i) (h ∷ gs) g is =
 -- two subjects share a group just where some group lists both
 shared : (a b : ℕ) (gs : List ResolvedGroup) → share (items_at a (all_memberships gs)) (items_at b (all_memberships gs)) ≡ list_any (λ g. lists a g && lists b g) gs
 shared a b gs =
-    of_groups (stands_in (items_at b (all_memberships gs))) a 0 gs
-    ∙ any_numbered (λ x. lists a x.1 && stands_in (items_at b (all_memberships gs)) x.0) (λ g. lists a g && lists b g) 0 gs
+    of_groups (is_among (items_at b (all_memberships gs))) a 0 gs
+    ∙ any_numbered (λ x. lists a x.1 && is_among (items_at b (all_memberships gs)) x.0) (λ g. lists a g && lists b g) 0 gs
     (λ i g is. ap (λ t. lists a g && t) (of_groups (λ j. j == 0 + i) b 0 gs ∙ one_number (lists b) 0 i gs g is))
 
 member_same : (r : Resolution) (k : ℕ) (g : ResolvedGroup) → repeated (subject_names r) ≡ None → k < length r.subjects → group_in_range r g ≡ true

@@ -12,7 +12,8 @@ use Rattle.muen_num.specs.declared.limits.TheConstants.{MOST_CALLS}
 use Rattle.muen_num.proofs.Lists.{all_true, map-map}
 use Rattle.muen_num.proofs.SameAnswers.{first_in-map, list_all_same}
 use Rattle.policy_lawful.specs.MoreRules as rules
-use Rattle.policy_lawful.specs.MoreRules.{are_distinct, are_numbers, are_vectors, call_number, calls_of, is_switch, offence_14, offence_15, vectors_of}
+use Rattle.policy_lawful.specs.MoreRules.{are_numbers, are_vectors, call_number, calls_of, is_switch, offence_14, offence_15, vectors_of}
+use Rattle.muen_num.specs.Numbers.{are_distinct}
 use Rattle.policy_lawful.specs.Offences.{alone}
 use Rattle.policy_lawful.specs.Resolution.{Resolution, IsResolved, device_named, device_part, name_at, source_of, subject_named, subject_in_range}
 use Rattle.policy_lawful.specs.declared.resolved.IrqUse.{IrqUse as ResolvedIrq}

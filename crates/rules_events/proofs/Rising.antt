@@ -11,21 +11,22 @@ use Rattle.std.proofs.lemmas.List.Concat.{flat_map-cons}
 use Rattle.std.proofs.lemmas.List.Sorted.{searched}
 use Rattle.policy_lawful.specs.declared.resolved.Group.{Group}
 use Rattle.rules_channels.specs.ByIndex.{AreItems, items_at}
-use Rattle.rules_events.specs.Listings.{HaveRising, Rises, all_memberships, memberships, stands_in}
+use Rattle.rules_events.specs.Listings.{HaveRising, Rises, all_memberships, memberships}
+use Rattle.muen_num.specs.Numbers.{is_among}
 use Rattle.rules_channels.proofs.NotedItems.{items-append}
 
 -- ---- a search
 
-stands_at : (xs : List ℕ) (x i : ℕ) → i < length xs → get_or xs i 0 ≡ x → stands_in xs x ≡ true
+stands_at : (xs : List ℕ) (x i : ℕ) → i < length xs → get_or xs i 0 ≡ x → is_among xs x ≡ true
 stands_at [] x i l e = absurd (omega arith)
-stands_at (y ∷ ys) x zero l e = ap (λ b. b || stands_in ys x) (eq-eqb y x e)
-stands_at (y ∷ ys) x (suc i) l e = or_right (y == x) (stands_in ys x) (stands_at ys x i (omega arith) e)
+stands_at (y ∷ ys) x zero l e = ap (λ b. b || is_among ys x) (eq-eqb y x e)
+stands_at (y ∷ ys) x (suc i) l e = or_right (y == x) (is_among ys x) (stands_at ys x i (omega arith) e)
 
-pub nowhere : (xs : List ℕ) (x : ℕ) → ((i : ℕ) → i < length xs → get_or xs i 0 ≡ x → ⊥) → stands_in xs x ≡ false
+pub nowhere : (xs : List ℕ) (x : ℕ) → ((i : ℕ) → i < length xs → get_or xs i 0 ≡ x → ⊥) → is_among xs x ≡ false
 nowhere [] x none = refl
-nowhere (y ∷ ys) x none = ap (λ b. b || stands_in ys x) (ne_eqb y x (none 0 (omega arith))) ∙ nowhere ys x (λ i l. none (suc i) (omega arith))
+nowhere (y ∷ ys) x none = ap (λ b. b || is_among ys x) (ne_eqb y x (none 0 (omega arith))) ∙ nowhere ys x (λ i l. none (suc i) (omega arith))
 
-pub stands : (xs : List ℕ) (x : ℕ) (r : Result ℕ ℕ) → IsBinarySearchResult (λ y. nat_cmp y x) xs r → Rises xs → is_ok r ≡ stands_in xs x
+pub stands : (xs : List ℕ) (x : ℕ) (r : Result ℕ ℕ) → IsBinarySearchResult (λ y. nat_cmp y x) xs r → Rises xs → is_ok r ≡ is_among xs x
 stands xs x (Ok i) h up = let at = searched xs x (Ok i) h up in sym (stands_at xs x i at.0 at.1)
 stands xs x (Err i) h up =
     let at = searched xs x (Err i) h up in

@@ -12,7 +12,7 @@ use Rattle.policy_lawful.specs.source.Event.{Event}
 use Rattle.policy_lawful.specs.Resolution.{Resolution}
 use Rattle.rules_channels.specs.ByIndex.{items_at}
 use Rattle.rules_channels.specs.ChannelEnds.{all_readers, all_writers}
-use Rattle.rules_events.specs.Listings.{share}
+use Rattle.muen_num.specs.Numbers.{share}
 use Rattle.rules_channels.specs.Parties.{sources_at, targets_at}
 use Rattle.rules_channels.specs.declared.channel_ends.Met.{Met}
 use Rattle.rules_channels.specs.declared.parties.Party.{Party}

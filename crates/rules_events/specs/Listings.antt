@@ -3,6 +3,7 @@ use Rattle.std.specs.Prelude.{◌≡◌, ℕ, ◌<◌, ◌≤◌, ◌==◌, Bool
 use Rattle.std.specs.List.{All, enumerate_from, flat_map, list_any}
 use Rattle.policy_lawful.specs.declared.resolved.Group.{Group}
 use Rattle.rules_events.specs.declared.listings.Shared.{Shared}
+use Rattle.muen_num.specs.Numbers.{share}
 
 -- a group with its index, at each of its members
 abbrev pub memberships : ℕ × Group → List (ℕ × ℕ)
@@ -10,13 +11,6 @@ memberships (index, g) = map (λ i. (i, index)) g.subjects
 
 abbrev pub all_memberships : List Group → List (ℕ × ℕ)
 all_memberships groups = flat_map memberships (enumerate_from 0 groups)
-
-abbrev pub stands_in : List ℕ → ℕ → Bool
-stands_in indexes index = list_any (λ j. j == index) indexes
-
--- some index stands in both lists
-abbrev pub share : List ℕ → List ℕ → Bool
-share one other = list_any (stands_in other) one
 
 -- no index is less than one before it
 abbrev pub Rises : List ℕ → Type 0

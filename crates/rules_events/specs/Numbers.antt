@@ -1,11 +1,7 @@
 -- Numbers of calls, traps and interrupts.
 use Rattle.std.specs.Prelude.{ℕ, ◌==◌, ◌&&◌, Bool, false, not, List, nat_le, slice_index_or}
 use Rattle.std.specs.List.{list_all, list_any}
-use Rattle.policy_lawful.specs.MoreRules.{are_distinct}
-
--- the number stands in the list
-abbrev pub is_among : List ℕ → ℕ → Bool
-is_among ns n = list_any (λ m. m == n) ns
+use Rattle.muen_num.specs.Numbers.{are_distinct}
 
 -- all in the range, no two equal
 abbrev pub are_distinct_in : ℕ → ℕ → List ℕ → Bool

@@ -1,7 +1,8 @@
 //! The scheduling groups that list each subject.
 ghost use Rattle.std.specs.Prelude.{◌≡◌, ℕ, List, ◌++◌, [], slice_index_or, IfOk, IfSome};
 ghost use Rattle.rules_channels.specs.ByIndex.{AreItems};
-ghost use Rattle.rules_events.specs.Listings.{AreKnown, HaveRising, Rises, stands_in, share, memberships, all_memberships};
+ghost use Rattle.rules_events.specs.Listings.{AreKnown, HaveRising, Rises, memberships, all_memberships};
+ghost use Rattle.muen_num.specs.Numbers.{is_among, share};
 
 use muen_num::{NoMemory, Seq};
 use policy_lawful::resolved::Group;
@@ -66,9 +67,9 @@ fn all_memberships(alloc: Global, groups: &[Group]) -> Result<Vec<(usize, usize)
 
 // Whether an index stands in a list that rises.
 #[tactic(auto, using(crate::proofs::Rising::stands))]
-fn stands_in(indexes: &[usize], index: usize) -> bool
+fn is_among(indexes: &[usize], index: usize) -> bool
     requires { Rises indexes.now }
-    ensures { result ≡ stands_in indexes.now index }
+    ensures { result ≡ is_among indexes.now index }
 {
     indexes.binary_search(&index).is_ok()
 }
@@ -79,7 +80,7 @@ fn share(one: &[usize], other: &[usize]) -> bool
     ensures { result ≡ share one.now other.now }
 {
     for index in one {
-        if stands_in(other, *index) {
+        if is_among(other, *index) {
             return true;
         }
     }

@@ -19,7 +19,8 @@ use Rattle.policy_lawful.specs.MoreRules.{offence_19}
 use Rattle.policy_lawful.specs.Offences.{alone}
 use Rattle.policy_lawful.specs.Ranges.{in_a_block}
 use Rattle.policy_lawful.specs.Resolution.{Resolution, source_of}
-use Rattle.policy_lawful.specs.Rules.{first_overlap, is_alignment, is_fixed, is_laid, is_page_aligned, is_page_size, offence_4, offence_18, overlapping}
+use Rattle.policy_lawful.specs.Rules.{first_overlap, is_alignment, is_fixed, is_laid, is_page_size, offence_4, offence_18, overlapping}
+use Rattle.muen_num.specs.Numbers.{is_page_aligned}
 use Rattle.policy_lawful.specs.declared.offence.Extent.{Extent}
 use Rattle.policy_lawful.proofs.KeptAddresses.{addresses_kept}
 use Rattle.policy_lawful.specs.source.Region.{Region}

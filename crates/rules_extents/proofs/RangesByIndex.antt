@@ -11,7 +11,8 @@ use Rattle.muen_num.proofs.SearchLaws.{all_pass, first_over-map, none_both, opti
 use Rattle.policy_lawful.specs.ByIndex.{block_extent}
 use Rattle.policy_lawful.specs.Offences.{alone, two}
 use Rattle.policy_lawful.specs.Resolution.{IsResolved, Resolution, source_of, subject_named, subject_in_range}
-use Rattle.policy_lawful.specs.Rules.{component_offence, first_overlap, is_guest, is_page_aligned, is_page_size, is_physical, offence_4, offence_5, offence_18, window_extents, window_offence}
+use Rattle.policy_lawful.specs.Rules.{component_offence, first_overlap, is_guest, is_page_size, is_physical, offence_4, offence_5, offence_18, window_extents, window_offence}
+use Rattle.muen_num.specs.Numbers.{is_page_aligned}
 use Rattle.policy_lawful.specs.declared.offence.Extent.{Extent}
 use Rattle.policy_lawful.proofs.SourceElements.{parts_in_range}
 use Rattle.policy_lawful.specs.source.Block.{Block}

@@ -2,7 +2,8 @@
 ghost use Rattle.std.specs.Prelude.{◌≡◌, ◌+◌, true};
 ghost use Rattle.muen_num.specs.Search.{first_in, unless};
 ghost use Rattle.policy_lawful.specs.Offences.{alone};
-ghost use Rattle.policy_lawful.specs.Rules.{is_page_aligned, is_page_size, is_physical, is_guest, is_alignment, is_fixed, is_laid, offence_4};
+ghost use Rattle.policy_lawful.specs.Rules.{is_page_size, is_physical, is_guest, is_alignment, is_fixed, is_laid, offence_4};
+ghost use Rattle.muen_num.specs.Numbers.{is_page_aligned};
 ghost use Rattle.policy_lawful.specs.Resolution.{IsResolved, source_of};
 ghost use Rattle.rules_extents.specs.Windows.{addresses_offence, component_channel_offence, component_ranges, device_offence, elements_offence, provided_offence, range_offence, required_offence};
 

@@ -20,7 +20,8 @@ use Rattle.policy_lawful.specs.source.Block.{Block}
 use Rattle.policy_lawful.specs.source.Device.{Device}
 use Rattle.region_alloc.proofs.Lowest.{ends_well}
 use Rattle.span_emit.specs.ByAddress.{AreSpansByAddress, HasNames}
-use Rattle.span_emit.specs.Spans.{device_span, device_spans, memories_of, region_spans}
+use Rattle.span_emit.specs.Spans.{device_span, device_spans, region_spans}
+use Rattle.policy_lawful.specs.ByIndex.{memories_of}
 use Rattle.span_emit.proofs.DeviceSpans.{IsDeviceSpan, beside_regions, device_pages_are, device_spans_apart, device_spans_are, some_block}
 use Rattle.span_emit.proofs.Numbers.{Numbered, devices_numbered, numbered_append, numbered_between, numbered_differ, regions_numbered}
 use Rattle.span_emit.proofs.Pages.{no_device_pages, pages_within}

@@ -11,7 +11,8 @@ use Rattle.muen_num.specs.declared.limits.TheConstants.{PAGE}
 use Rattle.policy_lawful.specs.source.Device.{Device}
 use Rattle.policy_lawful.specs.source.DeviceMemory.{DeviceMemory}
 use Rattle.span_emit.specs.ByAddress.{HasNames}
-use Rattle.span_emit.specs.Spans.{device_span, memories_of, region_span, region_spans}
+use Rattle.span_emit.specs.Spans.{device_span, region_span, region_spans}
+use Rattle.policy_lawful.specs.ByIndex.{memories_of}
 use Rattle.span_emit.proofs.PairLaws.{all_second}
 
 abbrev Named : SpanPart → Type 0

@@ -17,7 +17,7 @@ use Rattle.policy_lawful.specs.source.Block.{Block}
 use Rattle.policy_lawful.specs.source.Device.{Device}
 use Rattle.policy_lawful.specs.source.DeviceMemory.{DeviceMemory}
 use Rattle.policy_lawful.specs.source.Source.{Source}
-use Rattle.span_emit.specs.Spans.{memories_of}
+use Rattle.policy_lawful.specs.ByIndex.{memories_of}
 use Rattle.span_emit.proofs.PairLaws.{pairs_across, pairs_second, pairs_weaker}
 use Rattle.policy_lawful.proofs.KeptAddresses.{IsPhysical, addresses_kept, is_memory, physical}
 

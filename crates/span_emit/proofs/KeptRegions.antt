@@ -10,7 +10,8 @@ use Rattle.expand_kernel.specs.declared.region.Region.{Region}
 use Rattle.image_pack.specs.Codes.{is_part, part_code}
 use Rattle.muen_num.proofs.Lists.{all_flat, all_passing}
 use Rattle.muen_num.specs.declared.limits.TheConstants.{LARGE_PAGE, PAGE}
-use Rattle.policy_lawful.specs.Rules.{is_alignment, is_fixed, is_guest, is_laid, is_page_aligned, is_page_size, is_physical, offence_4}
+use Rattle.policy_lawful.specs.Rules.{is_alignment, is_fixed, is_guest, is_laid, is_page_size, is_physical, offence_4}
+use Rattle.muen_num.specs.Numbers.{is_page_aligned}
 use Rattle.policy_lawful.specs.Thing.{component_by}
 use Rattle.policy_lawful.specs.Windows.{windows_of}
 use Rattle.policy_lawful.specs.source.Channel.{Channel}

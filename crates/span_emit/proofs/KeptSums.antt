@@ -15,7 +15,7 @@ use Rattle.policy_lawful.specs.source.Device.{Device}
 use Rattle.policy_lawful.specs.source.DeviceMemory.{DeviceMemory}
 use Rattle.policy_lawful.specs.source.Source.{Source}
 use Rattle.policy_lawful.specs.source.Subject.{Subject}
-use Rattle.span_emit.specs.Spans.{memories_of}
+use Rattle.policy_lawful.specs.ByIndex.{memories_of}
 use Rattle.policy_lawful.proofs.KeptLimits.{limits_kept}
 use Rattle.expand_kernel.specs.ByIndex.{channel_region, own_region, provided_region, provided_regions}
 use Rattle.expand_kernel.proofs.ByKind.{regions_are}

@@ -18,7 +18,8 @@ use Rattle.region_alloc.proofs.Placing.{IsSized}
 use Rattle.region_alloc.proofs.Sized.{blocks_end, regions_sized}
 use Rattle.region_alloc.specs.Placed.{AreDisjoint, AreInside, Placement}
 use Rattle.region_alloc.specs.Placement.{placement_of}
-use Rattle.span_emit.specs.Spans.{device_spans, memories_of, region_spans}
+use Rattle.span_emit.specs.Spans.{device_spans, region_spans}
+use Rattle.policy_lawful.specs.ByIndex.{memories_of}
 use Rattle.span_emit.specs.SpansOf.{spans_of}
 use Rattle.span_emit.proofs.DeviceSpans.{some_block}
 use Rattle.policy_lawful.proofs.KeptAddresses.{IsPhysical}

@@ -1,6 +1,6 @@
 -- The spans of an image (this project's own format): regions at their addresses, and devices' memory.
 use Rattle.std.specs.Prelude.{ℕ, ◌/◌, List, map, zip}
-use Rattle.std.specs.List.{enumerate_from, flat_map}
+use Rattle.std.specs.List.{enumerate_from}
 use Rattle.expand_kernel.specs.declared.region.Region.{Region}
 use Rattle.expand_kernel.specs.declared.region.RegionKind.{RegionKind}
 use Rattle.expand_kernel.specs.declared.region.RegionKind.TheVariants.{Own as OwnRegion, Channel as ChannelRegion, Provided as ProvidedRegion, Kernel as KernelRegion}
@@ -9,6 +9,7 @@ use Rattle.image_pack.specs.declared.parts.SpanKind.TheVariants.{Own, Channel, P
 use Rattle.image_pack.specs.declared.parts.SpanPart.{SpanPart}
 use Rattle.muen_num.specs.declared.limits.TheConstants.{PAGE}
 use Rattle.muen_num.specs.declared.tag.TagPart.TheVariants.{Named}
+use Rattle.policy_lawful.specs.ByIndex.{memories_of}
 use Rattle.policy_lawful.specs.source.Device.{Device as SourceDevice}
 use Rattle.policy_lawful.specs.source.DeviceMemory.{DeviceMemory}
 
@@ -25,10 +26,6 @@ region_span (number, (r, address)) =
 
 abbrev pub region_spans : List Region → List ℕ → List SpanPart
 region_spans regions addresses = map region_span (enumerate_from 0 (zip regions addresses))
-
--- each device's memory with the device's name, in order
-abbrev pub memories_of : List SourceDevice → List (List ℕ × DeviceMemory)
-memories_of devices = flat_map (λ d. map (λ m. (d.name, m)) d.memory) devices
 
 abbrev pub device_span : ℕ × (List ℕ × DeviceMemory) → SpanPart
 device_span (number, (device, m)) = record {

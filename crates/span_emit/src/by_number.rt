@@ -1,9 +1,10 @@
 //! The spans of a placed policy by their numbers.
-ghost use Rattle.std.specs.Prelude.{◌≡◌, ℕ, List, [], ◌∷◌, ◌+◌, ◌/◌, ◌<◌, ◌≤◌, ◌^◌, ◌++◌, length, map, true, All, IfOk, OnOk};
+ghost use Rattle.std.specs.Prelude.{◌≡◌, ℕ, List, [], ◌∷◌, ◌+◌, ◌/◌, ◌<◌, ◌≤◌, ◌^◌, ◌++◌, length, map, All, IfOk, OnOk};
 ghost use Rattle.std.specs.List.{enumerate_from};
 ghost use Rattle.muen_num.specs.declared.limits.TheConstants.{PAGE};
 ghost use Rattle.span_emit.specs.ByAddress.{AreSpansByAddress, HasNames, memory_tag};
-ghost use Rattle.span_emit.specs.Spans.{device_span, device_spans, memories_of, region_span, region_spans, span_kind};
+ghost use Rattle.span_emit.specs.Spans.{device_span, device_spans, region_span, region_spans, span_kind};
+ghost use Rattle.policy_lawful.specs.ByIndex.{memories_of};
 ghost use Rattle.span_emit.specs.SpansOf.{spans_of};
 
 use expand_kernel::{Region, RegionKind};
@@ -13,21 +14,6 @@ use muen_num::{Name, NoMemory, Tag, TagPart};
 use policy_lawful::source::{Device, DeviceMemory};
 use region_alloc::Placed;
 use std::alloc::{AllocError, Global};
-
-// Whether the names of a tag are some: they are, since their type says so.
-#[tactic(auto, unfolding(muen_num::specs::Naming::is_name))]
-fn has_names(tag: &Tag) -> bool
-    ensures named { HasNames tag.now }
-    ensures holds { result ≡ true }
-{
-    if tag.owner.bytes().is_empty() {
-        return false;
-    }
-    match &tag.part {
-        TagPart::Named(name) => !name.bytes().is_empty(),
-        _ => true,
-    }
-}
 
 fn span_kind(kind: RegionKind) -> SpanKind
     ensures { result ≡ span_kind kind }
@@ -41,12 +27,11 @@ fn span_kind(kind: RegionKind) -> SpanKind
 }
 
 // A region at its address.
-fn region_span(number: u16, region: &Region, address: u64) -> SpanPart
-    requires { region.now.size / PAGE < 2 ^ 32 }
-    ensures span { result ≡ region_span (number, (region.now, address)) }
+fn region_span(number: u16, region: Region, address: u64) -> SpanPart
+    requires { region.size / PAGE < 2 ^ 32 }
+    ensures span { result ≡ region_span (number, (region, address)) }
     ensures named { HasNames result.tag }
 {
-    prove!(has_names(&region.tag));
     SpanPart {
         address,
         pages: (region.size / PAGE) as u32,
@@ -62,7 +47,6 @@ fn device_span(number: u16, tag: Tag, memory: &DeviceMemory) -> SpanPart
     ensures span { (device : List ℕ) → tag ≡ memory_tag device memory.now → result ≡ device_span (number, (device, memory.now)) }
     ensures named { HasNames result.tag }
 {
-    prove!(has_names(&tag));
     SpanPart {
         address: memory.physical_address,
         pages: (memory.size / PAGE) as u32,
@@ -86,7 +70,7 @@ fn of_regions(
     let mut spans = Vec::new(alloc);
     for (region, address) in regions.iter().zip(addresses) {
         let number = spans.len() as u16;
-        spans.push(region_span(number, region, *address))?;
+        spans.push(region_span(number, *region, *address))?;
     }
     Ok(spans)
 }

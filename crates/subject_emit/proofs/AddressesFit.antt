@@ -17,7 +17,8 @@ use Rattle.muen_num.proofs.Pairs.{other_at}
 use Rattle.muen_num.specs.declared.limits.TheConstants.{LARGE_PAGE, PAGE, PHYSICAL_END}
 use Rattle.muen_num.specs.declared.tag.TagPart.TheVariants.{State as StatePart, Ept}
 use Rattle.policy_lawful.specs.Ranges.{in_a_block}
-use Rattle.policy_lawful.specs.Rules.{is_alignment, is_fixed, is_laid, is_page_aligned, is_page_size, is_physical}
+use Rattle.policy_lawful.specs.Rules.{is_alignment, is_fixed, is_laid, is_page_size, is_physical}
+use Rattle.muen_num.specs.Numbers.{is_page_aligned}
 use Rattle.policy_lawful.specs.declared.resolved.Subject.{Subject}
 use Rattle.policy_lawful.specs.source.Device.{Device as SomeDevice}
 use Rattle.policy_lawful.specs.source.DeviceMemory.{DeviceMemory}

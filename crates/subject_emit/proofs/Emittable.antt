@@ -8,7 +8,8 @@ use Rattle.ept_emit.specs.declared.window.Leaf.TheVariants.{Small, Large, Huge}
 use Rattle.ept_emit.specs.Entries.{IsEmittable, level_of}
 use Rattle.expand_kernel.specs.granted.Grants.{Grants}
 use Rattle.machine_layout.specs.Walks.{entry_size}
-use Rattle.policy_lawful.specs.Rules.{is_guest, is_page_aligned, is_page_size}
+use Rattle.policy_lawful.specs.Rules.{is_guest, is_page_size}
+use Rattle.muen_num.specs.Numbers.{is_page_aligned}
 use Rattle.policy_lawful.specs.declared.view.View.{View}
 use Rattle.region_alloc.specs.Placed.{Placement}
 use Rattle.subject_emit.specs.Mapped.{leaf_for, mapped, mapped_windows, shown_address}

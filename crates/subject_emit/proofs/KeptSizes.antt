@@ -8,7 +8,7 @@ use Rattle.policy_lawful.specs.Resolution.{IsResolved, Resolution, source_of}
 use Rattle.policy_lawful.specs.Rules.{is_guest}
 use Rattle.policy_lawful.specs.declared.resolved.Subject.{Subject}
 use Rattle.policy_lawful.specs.Views.{views_of}
-use Rattle.region_alloc.proofs.EachInTurn.{All-in_order}
+use Rattle.expand_kernel.proofs.Ordered.{All-in_order}
 use Rattle.std.proofs.lemmas.List.Sums.{AllPass-from_list_all}
 use Rattle.policy_lawful.proofs.KeptViews.{views_kept}
 

@@ -4,7 +4,7 @@ use Rattle.std.specs.Prelude.{option_and_then, option_map, slice_get}
 use Rattle.std.specs.Option.{option_map_or}
 use Rattle.expand_kernel.specs.Grants.{AreGrantsOf}
 use Rattle.expand_kernel.specs.granted.Grants.{Grants}
-use Rattle.policy_lawful.specs.ByIndex.{provided_at}
+use Rattle.policy_lawful.specs.ByIndex.{provided_at, brought_to}
 use Rattle.muen_num.specs.declared.limits.TheConstants.{PAGE}
 use Rattle.policy_lawful.specs.Resolution.{Resolution}
 use Rattle.policy_lawful.specs.declared.resolved.Subject.{Subject}
@@ -13,8 +13,8 @@ use Rattle.policy_lawful.specs.source.DeviceMemory.{DeviceMemory}
 use Rattle.policy_lawful.specs.Views.{views_of}
 use Rattle.policy_lawful.specs.declared.view.View.{View}
 use Rattle.policy_lawful.proofs.EachView.{each_view}
-use Rattle.region_alloc.proofs.EachInTurn.{All-in_order}
-use Rattle.subject_emit.specs.Shows.{IsShown, brought_to}
+use Rattle.expand_kernel.proofs.Ordered.{All-in_order}
+use Rattle.subject_emit.specs.Shows.{IsShown}
 
 module _ (r : Resolution) (k : ℕ) where
   abbrev Shows : View → Type 0

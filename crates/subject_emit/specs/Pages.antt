@@ -9,7 +9,7 @@ use Rattle.expand_kernel.specs.declared.kernel.KernelRegion.TheVariants.{Tables}
 use Rattle.iobm_emit.specs.Ports.{is_granted_access}
 use Rattle.machine_layout.specs.Exits.{area_bytes, msr_exits, port_exits}
 use Rattle.msrbm_emit.specs.Area.{area_of, count_of}
-use Rattle.msrbm_emit.specs.Msrs.{is_granted}
+use Rattle.policy_lawful.specs.MsrGrants.{is_granted}
 use Rattle.muen_num.specs.declared.limits.TheConstants.{PAGE, MOST_MSRS}
 use Rattle.machine_layout.specs.PageFields.{padded}
 use Rattle.policy_lawful.specs.declared.resolved.Subject.{Subject}

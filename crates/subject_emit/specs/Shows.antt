@@ -1,19 +1,13 @@
 -- What windows show is there.
-use Rattle.std.specs.Prelude.{◌≡◌, ℕ, ◌+◌, ◌<◌, ◌≤◌, List, [], length, slice_get, Option, Some, option_and_then, option_map}
-use Rattle.std.specs.Option.{option_map_or}
-use Rattle.policy_lawful.specs.ByIndex.{provided_at}
+use Rattle.std.specs.Prelude.{◌≡◌, ℕ, ◌+◌, ◌<◌, ◌≤◌, length, slice_get, Option, Some, option_and_then, option_map}
+use Rattle.policy_lawful.specs.ByIndex.{brought_to}
 use Rattle.muen_num.specs.declared.limits.TheConstants.{PAGE}
 use Rattle.policy_lawful.specs.Resolution.{Resolution}
-use Rattle.policy_lawful.specs.source.Provided.{Provided as Brought}
 use Rattle.policy_lawful.specs.declared.view.Shown.{Shown}
 use Rattle.policy_lawful.specs.declared.view.Shown.TheVariants.{Memory, Channel, Provided, Device, State}
 use Rattle.policy_lawful.specs.declared.view.View.{View}
 use Rattle.region_alloc.specs.Placed.{Placement}
 use Rattle.subject_emit.specs.Mapped.{brought_before, kernel_first}
-
--- what the component of the subject at an index brings along
-abbrev pub brought_to : Resolution → ℕ → List Brought
-brought_to r subject = option_map_or (λ s. provided_at r.components s.component) (slice_get r.subjects subject) []
 
 -- the bytes of what the subject at an index is shown, if it is there
 abbrev pub shown_size : Resolution → ℕ → Shown → Option ℕ

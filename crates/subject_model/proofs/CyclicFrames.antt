@@ -14,7 +14,7 @@ use Rattle.muen_num.proofs.Lists.{there}
 use Rattle.frame_clock.proofs.SlotLaws.{first_major, later_major, length_slots, ticks_of}
 use Rattle.frame_clock.specs.Slot.{frame_slots, slot_at, slots_from}
 use Rattle.muen_num.specs.Frame.{Frame}
-use Rattle.subject_model.specs.Laws.{AreFrames, frame_after}
+use Rattle.subject_model.specs.Laws.{FramesGoCyclically, frame_after}
 
 -- ---- the ticks of major frames
 
@@ -178,6 +178,6 @@ slot_by_frame frames tick at p =
     ∙ ap (slice_get (slots_from 0 frames)) (sym round)
 
 -- where nothing picks one, the slot of the major frame at a tick is the tick's slot in the row of all
-pub slots_cyclic : (frames : List (List Frame)) (ticks : List ℕ) (tick : ℕ) → AreFrames frames ticks → slot_in frames (frame_after ticks tick) tick ≡ slot_at frames tick
+pub slots_cyclic : FramesGoCyclically
 slots_cyclic frames ticks tick a =
     slot_by_frame frames tick (frame_after ticks tick) (subst (λ ts. IsFrame ts tick (frame_after ticks tick)) a.sums (frame_runs ticks tick a.each a.some))

@@ -23,7 +23,8 @@ use Rattle.record_text.specs.DeviceRecord.{dma_input}
 use Rattle.subject_model.specs.Alone.{thing_in}
 use Rattle.subject_model.specs.Clock.{ByteWrite, line_writes, takes, with_byte, with_each, with_line, write_to}
 use Rattle.subject_model.specs.System.{System}
-use Rattle.subject_model.proofs.KeyLaws.{same_thing_self, things_apart, value_other}
+use Rattle.subject_model.proofs.KeyLaws.{things_apart, value_other}
+use Rattle.policy_lawful.proofs.SameThings.{same_thing_self}
 
 -- ---- the windows of domains
 

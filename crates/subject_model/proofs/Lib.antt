@@ -1,5 +1,4 @@
 pub mod KeyLaws
-pub mod NoPages
 pub mod SystemLaws
 mod CyclicFrames
 mod KeptTicks

@@ -1,10 +1,9 @@
--- The names of a lawful policy, and what is found in lists by a test.
-use Rattle.std.proofs.Common.{◌≡◌, ℕ, ◌<◌, Bool, true, false, cond, List, [], ◌∷◌, length, map, Some, None, refl, sym, ap, ◌∙◌, arith}
-use Rattle.std.specs.Prelude.{◌||◌, is_some, slice_get}
-use Rattle.std.specs.List.{find, list_any, position_or_len}
+-- The names of a lawful policy.
+use Rattle.std.proofs.Common.{◌≡◌, ℕ, ◌<◌, List, length, map, Some, None, sym, ap, ◌∙◌, arith}
+use Rattle.std.specs.Prelude.{slice_get}
+use Rattle.std.specs.List.{position_or_len}
 use Rattle.std.specs.Str.{bytes_eq}
 use Rattle.std.proofs.lemmas.List.{length-map}
-use Rattle.std.proofs.lemmas.List.Folds.{find_at}
 use Rattle.std.proofs.lemmas.Option.{slice_get_within}
 use Rattle.subject_model.specs.System.{subject_named}
 use Rattle.policy_lawful.specs.Lawful.{IsLawful}
@@ -15,21 +14,6 @@ use Rattle.policy_lawful.proofs.UniqueNames.{unique}
 use Rattle.policy_lawful.proofs.WindowsByIndex.{found_by_name, name_there}
 use Rattle.policy_lawful.specs.source.Source.{Source}
 use Rattle.policy_lawful.specs.source.Subject.{Subject}
-
--- ---- what is found
-
--- what is found has an index
-pub found_index : {X : Type 0} (test : X → Bool) (xs : List X) (x : X) → find test xs ≡ Some x → (k : ℕ) × (slice_get xs k ≡ Some x)
-found_index test xs x h = (position_or_len test xs, sym (find_at test xs) ∙ h)
-
--- something is found just where something passes
-pub found_any : {X : Type 0} (test : X → Bool) (xs : List X) → is_some (find test xs) ≡ list_any test xs
-found_any test [] = refl
-found_any test (x ∷ xs) =
-    elim (test x) as (λ b. is_some (cond b (Some x) (find test xs)) ≡ (b || list_any test xs)) [
-      | true ↦ refl
-      | false ↦ found_any test xs
-    ]
 
 -- ---- by unique names
 

@@ -6,10 +6,15 @@ use Rattle.std.specs.Str.{bytes_eq}
 use Rattle.std.proofs.lemmas.Bool.{cases_Bool, false_from_ne_true, lt-ltb, ltb-true, or_parts}
 use Rattle.std.proofs.lemmas.Bool.Decides.{nat_tests}
 use Rattle.subject_model.specs.Alone.{thing_in}
-use Rattle.subject_model.specs.System.{named}
-use Rattle.policy_lawful.specs.Thing.{Thing, state, same_thing}
+use Rattle.subject_model.specs.System.{first_page, named, start_of, subject_named}
+use Rattle.policy_lawful.specs.Contents.{Held, initial_bytes}
+use Rattle.policy_lawful.specs.Thing.{Thing, state, same_thing, things_of}
+use Rattle.policy_lawful.specs.source.Source.{Source}
 use Rattle.policy_lawful.specs.source.Subject.{Subject}
-use Rattle.subject_model.proofs.KeyLaws.{same_things}
+use Rattle.policy_lawful.proofs.NoPages.{pages_apart}
+use Rattle.policy_lawful.proofs.SameThings.{same_things}
+use Rattle.subject_model.specs.StatePage.{page_bytes}
+use Rattle.subject_model.specs.States.{started}
 use Rattle.muen_num.proofs.Lists.{numbered_at as counted_at}
 
 -- ---- one value, over and over
@@ -63,3 +68,12 @@ made_behind f [] rest x h = refl
 made_behind f (y ∷ ys) rest x h =
     let both = or_parts (same_thing y x) (list_any (λ y. same_thing y x) ys) h in
     ap (λ b. cond b (Some (f y)) (thing_in (map (λ y. (y, f y)) ys ++ rest) x)) both.0 ∙ made_behind f ys rest x both.1
+
+-- ---- state pages
+
+-- the page of a subject's state at the start
+pub state_started : (p : Source) (files : Held) (s : Subject) → subject_named p s.name ≡ Some s → thing_in (start_of p files).things (state s.name) ≡ Some (page_bytes (started s.entry))
+unfolding start_of first_page
+state_started p files s is =
+    made_behind (initial_bytes p files) (things_of p) (map (λ n. (state n.name, first_page n)) p.subjects) (state s.name) (pages_apart p s.name)
+    ∙ (states_map first_page p.subjects s.name ∙ ap (option_map first_page) is)

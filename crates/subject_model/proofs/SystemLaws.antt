@@ -3,13 +3,12 @@ use Rattle.std.proofs.Common.{◌≡◌, ℕ, ◌+◌, cond, map, Bool, true, fa
 use Rattle.std.specs.Prelude.{option_map, slice_get}
 use Rattle.std.specs.Str.{bytes_eq}
 use Rattle.expand_grants.specs.Resources.{are_granted}
-use Rattle.guest_isa.specs.Step.{MsrWrite, Stored, World, step}
+use Rattle.guest_isa.specs.Step.{Stored, World, step}
 use Rattle.guest_isa.specs.declared.reach.Reach.TheVariants.{Reached}
 use Rattle.machine_layout.specs.Memory.{le_number}
 use Rattle.muen_num.specs.Range.{numbers_below}
 use Rattle.muen_num.proofs.ChangeLaws.{element_changes}
 use Rattle.machine_layout.specs.Pending.{with_vector}
-use Rattle.muen_num.specs.declared.access.AccessKind.{AccessKind}
 use Rattle.muen_num.specs.declared.mode.EventMode.{EventMode}
 use Rattle.muen_num.specs.declared.mode.EventMode.TheVariants.{Asap, Async, Own as OwnMode, Switch}
 use Rattle.policy_lawful.specs.Events.{Raised, Target, event_of}
@@ -20,13 +19,14 @@ use Rattle.policy_lawful.specs.source.SourceWay.{SourceWay}
 use Rattle.policy_lawful.specs.source.Subject.{Subject}
 use Rattle.guest_isa.specs.StatePage.{page_bytes}
 use Rattle.policy_lawful.specs.Frames.{group_of}
-use Rattle.guest_isa.specs.state.SubjectState.{SubjectState}
-use Rattle.subject_model.specs.Alone.{Inbox, MsrValues, Own, OwnState, TurnAnswer, alone, bytes_in, delivered, input_byte, input_of, reach_by, solo_turn, stepped, thing_in, unless_delivered, vector_for, waits}
-use Rattle.subject_model.specs.Laws.{AreOthers, KeepsOthers, StoresElsewhere}
-use Rattle.subject_model.specs.System.{System, answered, happens, happens_as, named, pends_now, raised_by, took, with_active, with_own, with_store, with_write}
+use Rattle.subject_model.specs.Alone.{Inbox, MsrValues, Own, OwnState, TurnAnswer, alone, delivered, input_byte, input_of, reach_by, solo_turn, stepped, thing_in, unless_delivered, vector_for, waits}
+use Rattle.subject_model.specs.Laws.{KeepsOthers, StoresElsewhere}
+use Rattle.subject_model.specs.Laws.{GrantedPortsAloneAreRead, HaltedWaits, StoppedDoesNothing, TurnSeesItsInboxAlone, WindowsAloneAreReached}
+use Rattle.subject_model.specs.Laws.{EventsReachTheirTargetAlone, HandoversCountFromTheNextTurn, OtherMsrsStay, OwnMsrsAreWritten, ThePageIsThatOfTheState}
+use Rattle.subject_model.specs.System.{System, happens, happens_as, pends_now, raised_by, took, with_active, with_own, with_store, with_write}
 use Rattle.subject_model.proofs.KeyLaws.{names_apart, things_apart, value_changed, value_other}
 
-pub stopped_idle : (own : Own) (mine : OwnState) (inbox : Inbox) → mine.state.stopped ≡ true → solo_turn own mine inbox ≡ waits mine.state
+pub stopped_idle : StoppedDoesNothing
 unfolding solo_turn
 stopped_idle own mine inbox h =
     ap (λ b. cond b (waits mine.state) (unless_delivered mine.state (vector_for mine.state inbox) (cond mine.state.halted (waits mine.state) (stepped own.traps (step (alone own mine.msrs inbox) mine.state))))) h
@@ -37,7 +37,7 @@ by_stop own mine inbox false halted none =
     ap (λ o. unless_delivered mine.state o (cond mine.state.halted (waits mine.state) (stepped own.traps (step (alone own mine.msrs inbox) mine.state)))) none
     ∙ ap (λ b. cond b (waits mine.state) (stepped own.traps (step (alone own mine.msrs inbox) mine.state))) halted
 
-pub halted_idle : (own : Own) (mine : OwnState) (inbox : Inbox) → mine.state.halted ≡ true → vector_for mine.state inbox ≡ None → solo_turn own mine inbox ≡ waits mine.state
+pub halted_idle : HaltedWaits
 unfolding solo_turn
 halted_idle own mine inbox halted none = by_stop own mine inbox mine.state.stopped halted none
 
@@ -54,7 +54,7 @@ turn_by own mine inbox bytes ports now later first tick =
     (unless_delivered mine.state (cond mine.state.interrupts (delivered now later (first || mine.state.exited)) None)
     (cond mine.state.halted (waits mine.state) (stepped own.traps (step (world_by own mine.msrs inbox bytes ports tick) mine.state))))
 
-pub inbox_alone : (own : Own) (mine : OwnState) (a b : Inbox) → ((x : Thing) → bytes_in a.things x ≡ bytes_in b.things x) → a.ports ≡ b.ports → a.now ≡ b.now → a.later ≡ b.later → a.first ≡ b.first → a.tick ≡ b.tick → solo_turn own mine a ≡ solo_turn own mine b
+pub inbox_alone : TurnSeesItsInboxAlone
 unfolding solo_turn
 inbox_alone own mine a b bytes ports now later first tick =
     λ i. turn_by own mine a (λ x. bytes x i) (ports i) (now i) (later i) (first i) (tick i)
@@ -63,14 +63,14 @@ inbox_alone own mine a b bytes ports now later first tick =
 pub same_byte : (z x : Thing) (o offset : ℕ) → Reached z o ≡ Reached x offset → byte z o ≡ byte x offset
 same_byte z x o offset e = cc (e)
 
-pub window_alone : (own : Own) (values : MsrValues) (inbox : Inbox) (kind : AccessKind) (addr : ℕ) (x : Thing) (offset : ℕ) → (alone own values inbox).look kind addr ≡ Reached x offset → access_of own.windows addr kind ≡ byte x offset
+pub window_alone : WindowsAloneAreReached
 window_alone own values inbox kind addr x offset h = by_access (access_of own.windows addr kind) h
   where
     by_access : (a : Access Thing) → reach_by kind addr a ≡ Reached x offset → a ≡ byte x offset
     by_access (byte z o) e = same_byte z x o offset e
     by_access (violation found) e = absurd (cc (e))
 
-pub port_alone : (own : Own) (values : MsrValues) (inbox : Inbox) (port size value : ℕ) → (alone own values inbox).input port size ≡ Some value → are_granted own.ports port size ≡ true
+pub port_alone : GrantedPortsAloneAreRead
 port_alone own values inbox port size value h = by_grant (are_granted own.ports port size) (le_number (map (λ k. input_byte inbox.ports (port + k)) (numbers_below size))) h
   where
     by_grant : (b : Bool) (v : ℕ) → cond b (Some v) None ≡ Some value → b ≡ true
@@ -105,17 +105,17 @@ there_after : (new : List ℕ) (o : Option (List ℕ)) (page : List ℕ) → o �
 there_after new (Some x) page e = refl
 there_after new None page e = absurd (cc (e))
 
-pub page_after : (p : Source) (s : Subject) (a : TurnAnswer) (y : System) (page : List ℕ) → thing_in y.things (state s.name) ≡ Some page → StoresElsewhere s a.stored → thing_in (answered p s a y).things (state s.name) ≡ Some (page_bytes a.state)
+pub page_after : ThePageIsThatOfTheState
 page_after p s a y page at h =
     let own : System = with_own s.name a.state a.msr y in
     ap (λ things. thing_in things (state s.name)) (raised_things p s a.raised (took s.name a.taken (with_store a.stored own)))
     ∙ (stored_elsewhere s a.stored own h
     ∙ (value_changed same_thing (state s.name) (λ _. page_bytes a.state) y.things ∙ there_after (page_bytes a.state) (thing_in y.things (state s.name)) page at))
 
-pub own_msrs : (name : List ℕ) (s : SubjectState) (m : MsrWrite) (y : System) (values : MsrValues) → named y.msrs name ≡ Some values → named (with_own name s (Some m) y).msrs name ≡ Some (with_write (Some m) values)
+pub own_msrs : OwnMsrsAreWritten
 own_msrs name s m y values at = value_changed bytes_eq name (with_write (Some m)) y.msrs ∙ ap (option_map (with_write (Some m))) at
 
-pub other_msrs : (name other : List ℕ) (s : SubjectState) (m : MsrWrite) (y : System) → AreOthers name other → named (with_own name s (Some m) y).msrs other ≡ named y.msrs other
+pub other_msrs : OtherMsrsStay
 other_msrs name other s m y ne = value_other bytes_eq name other (with_write (Some m)) y.msrs (names_apart name other ne)
 
 -- ---- events
@@ -139,10 +139,10 @@ others_stay p Switch t y = by_group (group_of p t.subject)
     by_group None = record { now = (others_now t y).now; later = (others_now t y).later }
     by_group (Some g) = record { now = (others_now t y).now; later = (others_now t y).later }
 
-pub handed_over : (p : Source) (t : Target) (y : System) (group : ℕ) (member : List ℕ) → group_of p t.subject ≡ Some group → slice_get y.active group ≡ Some member → slice_get (happens_as p Switch t y).active group ≡ Some t.subject
+pub handed_over : HandoversCountFromTheNextTurn
 handed_over p t y group member is at =
     ap (λ o. slice_get (with_active o t.subject (pends_now t y)).active group) is
     ∙ (element_changes group (λ _. t.subject) y.active ∙ ap (option_map (λ _. t.subject)) at)
 
-pub raised_alone : (p : Source) (s : Subject) (way : SourceWay) (e : Raised) (y : System) → event_of p s way ≡ Some e → KeepsOthers e.target.subject y (raised_by p s (Some way) y)
+pub raised_alone : EventsReachTheirTargetAlone
 raised_alone p s way e y is = subst (λ o. KeepsOthers e.target.subject y (happens p o y)) (sym is) (others_stay p e.mode e.target y)

@@ -29,6 +29,7 @@ use Rattle.view_text.specs.declared.ExitEnd.TheVariants.{On, Halt, Trap as Trapp
 use Rattle.view_text.specs.declared.TurnAction.{TurnAction}
 use Rattle.view_text.specs.declared.TurnAction.TheVariants.{Ran, Inject, Exit}
 use Rattle.subject_model.specs.ByKey.{value_of}
+use Rattle.muen_num.specs.Numbers.{is_among}
 
 -- ---- what a subject is given for itself
 
@@ -138,10 +139,6 @@ injects s v = record { state = injected v s; what = Some (Inject v); stored = No
 
 -- ---- after an exit
 
--- the subject has a trap entry for this reason
-abbrev pub has_trap : List ℕ → ℕ → Bool
-has_trap traps reason = list_any (λ t. t == reason) traps
-
 -- how it goes on, as a line tells it
 abbrev pub exit_end_of : ℕ → Bool → ExitEnd
 exit_end_of reason trap =
@@ -154,16 +151,16 @@ abbrev pub way_of : List ℕ → ℕ → ℕ → Option SourceWay
 way_of traps reason call =
     if reason == EXIT_HLT then None
     else (if reason == EXIT_VMCALL then Some (Call call)
-    else (if has_trap traps reason then Some (Trap reason) else None))
+    else (if is_among traps reason then Some (Trap reason) else None))
 
 -- ---- after a step, by how it ended
 
 abbrev pub what_of : List ℕ → StepEnd → TurnAction
 what_of traps (ends.Ran change) = Ran change
-what_of traps (ends.Exit reason qualification addr call) = Exit reason qualification addr (exit_end_of reason (has_trap traps reason))
+what_of traps (ends.Exit reason qualification addr call) = Exit reason qualification addr (exit_end_of reason (is_among traps reason))
 
 abbrev pub state_after : List ℕ → StepEnd → SubjectState → SubjectState
-state_after traps (ends.Exit reason qualification addr call) s = finished (finish_of reason (has_trap traps reason)) s
+state_after traps (ends.Exit reason qualification addr call) s = finished (finish_of reason (is_among traps reason)) s
 state_after traps (ends.Ran change) s = s
 
 abbrev pub way_after : List ℕ → StepEnd → Option SourceWay
@@ -182,9 +179,6 @@ stepped traps a = record {
 
 -- ---- the turn
 
-abbrev pub is_in : List ℕ → ℕ → Bool
-is_in vectors v = list_any (λ w. w == v) vectors
-
 -- the greatest number below n for which the test holds
 abbrev pub greatest : ℕ → (ℕ → Bool) → Option ℕ
 greatest zero test = None
@@ -193,7 +187,7 @@ greatest (suc n) test = if test n then Some n else greatest n test
 -- the vector that is delivered: the greatest of those that are deliverable at any turn, and where `entry` holds of those that
 -- are deliverable later too; vectors are below 256
 abbrev pub delivered : List ℕ → List ℕ → Bool → Option ℕ
-delivered now later entry = greatest 256 (λ v. is_in now v || (entry && is_in later v))
+delivered now later entry = greatest 256 (λ v. is_among now v || (entry && is_among later v))
 
 -- where the subject lets events in; those that wait are deliverable at the first tick of a minor frame, and after an exit
 abbrev pub vector_for : SubjectState → Inbox → Option ℕ

@@ -1,6 +1,6 @@
 //! Fields of an entry, and bits of bitmaps.
 use crate::agree::{agree, agree_at};
-use machine_layout::{bits, msr_exits, port_exits, with_bits};
+use machine_layout::{bits, msr_exits, port_exits};
 use muen_num::AccessSize;
 use std::test::Fail;
 
@@ -63,6 +63,4 @@ fn msrs_of_four_parts(rt: HostRuntime) -> Result<(), Fail> {
 fn fields_of_an_entry(rt: HostRuntime) {
     agree(&rt, bits(0x8000_00b3, 12, 51), 0x80000);
     agree(&rt, bits(u64::MAX, 0, 63), u64::MAX);
-    agree(&rt, with_bits(u64::MAX, 12, 51, 1), 0xfff0_0000_0000_1fff);
-    agree(&rt, with_bits(7, 63, 63, 1), 0x8000_0000_0000_0007);
 }

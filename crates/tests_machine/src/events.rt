@@ -49,12 +49,10 @@ fn greatest_vector_first(rt: HostRuntime) -> Result<(), Fail> {
     router.raise_irq(1, 40);
     router.raise(&event(EventMode::Own, 1, Some(200)));
     router.raise(&event(EventMode::Async, 1, Some(255)));
-    assert!(rt; router.pending(1, 255));
     agree(&rt, router.deliver(1, false), Some(200));
     agree(&rt, router.deliver(1, true), Some(255));
     agree(&rt, router.deliver(1, true), Some(40));
     agree(&rt, router.deliver(1, true), None);
-    assert!(rt; !router.pending(1, 200));
     agree(&rt, router.deliver(9, true), None);
     Ok(())
 }
@@ -72,7 +70,7 @@ fn handovers(rt: HostRuntime) -> Result<(), Fail> {
     agree(&rt, router.active(0), Some(0));
     agree(&rt, router.deliver(0, false), Some(33));
     router.raise(&event(EventMode::Asap, 2, Some(40)));
-    assert!(rt; router.pending(2, 40));
+    agree(&rt, router.deliver(2, false), Some(40));
     agree(&rt, router.active(0), Some(0));
     Ok(())
 }

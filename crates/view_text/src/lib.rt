@@ -1,15 +1,14 @@
 //! The lines that a run prints.
 #![tactic(auto)]
 
-mod digits;
-
 ghost use Rattle.std.specs.Prelude.{◌≡◌, ◌+◌, ◌≤◌, ◌++◌, length, take};
 ghost use Rattle.view_text.specs.ViewText.{turn_text, what_text, change_text, exit_end_text, flags_of, state_text, end_line_text, registers_text, region_text, kind_word};
 
-use digits::{append_hex4, append_hex8, append_hex16};
 use guest_isa::Change;
 pub use guest_isa::SubjectState;
-use muen_num::text::{append, append_decimal8, append_decimal32, append_hex32};
+use muen_num::text::{
+    append, append_decimal8, append_decimal32, append_hex4, append_hex8, append_hex16, append_hex32,
+};
 use muen_num::{AccessSize, Name, Tag};
 
 /// The line of a turn.

@@ -29,7 +29,8 @@ use Rattle.guest_isa.specs.declared.finish.Finish.{Finish}
 use Rattle.guest_isa.specs.declared.reach.Reach.{Reach}
 use Rattle.guest_isa.specs.declared.reach.Reach.TheVariants.{Reached, Refused}
 use Rattle.muen_num.specs.ListChange.{change_at}
-use Rattle.vmx_machine.specs.MsrFile.{value_in, with_msr, zeros, most}
+use Rattle.vmx_machine.specs.MsrFile.{value_in, with_msr, most}
+use Rattle.muen_num.specs.Numbers.{zeros}
 use Rattle.vmx_machine.specs.declared.control.Control.{Control}
 use Rattle.vmx_machine.specs.declared.cpu.Cpu.{Cpu}
 use Rattle.vmx_machine.specs.declared.cpu.Entered.{Entered}

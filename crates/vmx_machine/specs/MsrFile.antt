@@ -14,10 +14,6 @@ slot_of index =
 abbrev pub most : ℕ
 most = LOW_MSR_LAST + 1 + (HIGH_MSR_LAST + 1 - HIGH_MSR_FIRST)
 
--- at first all are 0
-unfoldable pub zeros : ℕ → List ℕ
-zeros n = replicate n 0
-
 -- the value of an MSR, if the file has it
 abbrev pub value_in : List ℕ → ℕ → Option ℕ
 value_in file index = option_and_then (slice_get file) (slot_of index)

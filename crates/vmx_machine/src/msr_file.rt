@@ -1,7 +1,8 @@
 //! The machine-specific registers of a CPU.
 ghost use Rattle.std.specs.Prelude.{◌≡◌, IfOk};
 ghost use Rattle.muen_num.specs.ListChange.{change_at};
-ghost use Rattle.vmx_machine.specs.MsrFile.{slot_of, value_in, with_msr, most, zeros};
+ghost use Rattle.vmx_machine.specs.MsrFile.{slot_of, value_in, with_msr, most};
+ghost use Rattle.muen_num.specs.Numbers.{zeros};
 
 use muen_num::NoMemory;
 use muen_num::limits::{HIGH_MSR_FIRST, HIGH_MSR_LAST, LOW_MSR_LAST};
@@ -53,7 +54,7 @@ fn put_value(values: &mut [u64], slot: usize, value: u64)
 }
 
 // So many zeros.
-#[tactic(auto, unfolding(crate::specs::MsrFile::zeros))]
+#[tactic(auto, unfolding(muen_num::specs::Numbers::zeros))]
 fn zeros(alloc: Global, count: usize) -> Result<Vec<u64>, NoMemory>
     ensures { IfOk result (λ z. z.items ≡ zeros count) }
 {

@@ -9,37 +9,37 @@ pub returns : goal.returns
 returns g c =
     let p = c.call.ensures.ran in
     record {
-      history = history_clause _ _ _ _ _ _ _ _ _ _ p;
-      once = once_clause _ _ _ _ _ _ _ _ _ _ p;
-      agrees = agrees_clause _ _ _ _ _ _ _ _ _ _ p;
-      asked = asked_clause _ _ _ _ _ _ _ _ _ _ p;
-      held = held_clause _ _ _ _ _ _ _ _ _ _ p;
+      history = history_clause p;
+      once = once_clause p;
+      agrees = agrees_clause p;
+      asked = asked_clause p;
+      held = held_clause p;
       boots = λ m policy inputs q r shows asked there says.
-          (prints_clause _ _ _ _ _ _ _ _ _ _ p m (trace_of q m r) shows (ap (answer_of m) asked ∙ boot_prints m policy inputs q r says there), boot_alike m policy inputs q r says there);
+          (prints_clause p m (trace_of q m r) shows (ap (answer_of m) asked ∙ boot_prints m policy inputs q r says there), boot_alike m policy inputs q r says there);
       runs_sound = λ m image inputs dma tables q built_of r shows asked there hands fit says.
-          (prints_clause _ _ _ _ _ _ _ _ _ _ p m (trace_of q built_of r) shows (ap (answer_of m) asked ∙ sound_prints m image inputs q r says built_of dma tables there hands fit), sound_alike m image inputs q r says built_of there);
+          (prints_clause p m (trace_of q built_of r) shows (ap (answer_of m) asked ∙ sound_prints m image inputs q r says built_of dma tables there hands fit), sound_alike m image inputs q r says built_of there);
       runs_built = λ m image inputs dma q built_of r shows asked there hands says.
-          (prints_clause _ _ _ _ _ _ _ _ _ _ p m (trace_of q built_of r) shows (ap (answer_of m) asked ∙ built_prints m image inputs q r says built_of dma there hands), built_alike m image inputs q r says built_of there);
-      built = built_clause _ _ _ _ _ _ _ _ _ _ p;
-      verifies = sound_clause _ _ _ _ _ _ _ _ _ _ p;
-      condemns = unsound_clause _ _ _ _ _ _ _ _ _ _ p;
-      acquits_built = accepts_clause _ _ _ _ _ _ _ _ _ _ p;
-      done = done_clause _ _ _ _ _ _ _ _ _ _ p;
-      prefix = prefix_clause _ _ _ _ _ _ _ _ _ _ p;
-      refuses_policy = policy_clause _ _ _ _ _ _ _ _ _ _ p;
-      lacks_file = file_clause _ _ _ _ _ _ _ _ _ _ p;
-      refuses_image = image_clause _ _ _ _ _ _ _ _ _ _ p;
-      refuses_dma = dma_clause _ _ _ _ _ _ _ _ _ _ p;
-      refuses_record = record_clause _ _ _ _ _ _ _ _ _ _ p;
-      finds_fault = found_clause _ _ _ _ _ _ _ _ _ _ p;
-      ends = ends_clause _ _ _ _ _ _ _ _ _ _ p;
-      complete = complete_clause _ _ _ _ _ _ _ _ _ _ p;
-      usage = usage_clause _ _ _ _ _ _ _ _ _ _ p;
+          (prints_clause p m (trace_of q built_of r) shows (ap (answer_of m) asked ∙ built_prints m image inputs q r says built_of dma there hands), built_alike m image inputs q r says built_of there);
+      built = built_clause p;
+      verifies = sound_clause p;
+      condemns = unsound_clause p;
+      acquits_built = accepts_clause p;
+      done = done_clause p;
+      prefix = prefix_clause p;
+      refuses_policy = policy_clause p;
+      lacks_file = file_clause p;
+      refuses_image = image_clause p;
+      refuses_dma = dma_clause p;
+      refuses_record = record_clause p;
+      finds_fault = found_clause p;
+      ends = ends_clause p;
+      complete = complete_clause p;
+      usage = usage_clause p;
       no_command = c.call.ensures.no_command;
-      file_fault = fault_clause _ _ _ _ _ _ _ _ _ _ p;
-      no_memory = memory_clause _ _ _ _ _ _ _ _ _ _ p;
+      file_fault = fault_clause p;
+      no_memory = memory_clause p;
       reports = (p.outcome, p.status_is, p.report);
-      unwritten = unwritten_clause _ _ _ _ _ _ _ _ _ _ p;
-      quiet_out = quiet_out_clause _ _ _ _ _ _ _ _ _ _ p;
-      quiet_err = quiet_err_clause _ _ _ _ _ _ _ _ _ _ p;
+      unwritten = unwritten_clause p;
+      quiet_out = quiet_out_clause p;
+      quiet_err = quiet_err_clause p;
     }

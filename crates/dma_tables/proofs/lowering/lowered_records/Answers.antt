@@ -1,4 +1,5 @@
-use Rattle.dma_tables.proofs.LoweredLaws.{can_run, each_byte, each_page, still_record}
+use Rattle.dma_tables.proofs.LoweredLaws.{can_run, still_record}
+use Rattle.dma_tables.proofs.LoweredWrites.{each_byte, each_page}
 use Rattle.dma_tables.proofs.lowering.lowered_records.Goals as goal
 
 pub returns : goal.returns

@@ -1,7 +1,7 @@
 use Rattle.std.proofs.Common.{◌≡◌, ◌∙◌, ◌-◌, Some, sym, ap, arith}
 use Rattle.machine_layout.specs.Walks.{entry_of, index_at}
 use Rattle.ept_check.specs.Pieces.{leaves}
-use Rattle.ept_check.specs.Tables.{is_among}
+use Rattle.muen_num.specs.Numbers.{is_among}
 use Rattle.ept_check.proofs.Leaving.{leaves_here, leaves_not, leaves_on, some_level}
 use Rattle.ept_check.proofs.entering.+leaves.Goals as goal
 

@@ -1,5 +1,6 @@
 use Rattle.std.proofs.Common.{◌++◌, map, ap, ◌∙◌, subst}
 use Rattle.std.specs.List.{flat_map}
+use Rattle.expand_kernel.specs.Expansion.{HaveNames}
 use Rattle.expand_kernel.specs.ByIndex.{brought_at, channel_region, kernel_for_each, own_region}
 use Rattle.expand_kernel.proofs.Numbering.{can_map_granted, joined_by_index}
 use Rattle.expand_kernel.proofs.expanded.regions_by_number.Goals as goal
@@ -20,7 +21,7 @@ returns-clause-regions c =
     (subst IsResolved same c.subjects-subjects.ensures.resolved) c.requires
     (c.in_ok-regions.ensures ∙ ap (map own_region) (c.memory.ensures.value ∙ ap (λ (r : Resolution). r.memory) same))
     (c.in_ok-channels.ensures ∙ ap (map channel_region) (c.channels.ensures ∙ ap (λ (r : Resolution). r.channels) same))
-    (c.in_ok-provided.ensures ∙ ap (λ (r : Resolution). flat_map (brought_at r.components) r.subjects) same)
+    (c.in_ok-provided.ensures.regions ∙ ap (λ (r : Resolution). flat_map (brought_at r.components) r.subjects) same)
     (c.in_ok-kernel.ensures ∙ ap (λ ss. kernel_for_each ss c.args.grants.now) subjects)
     (c.of.ensures ∙ c.in_ok-extend_from_slice-3.ensures.items
     ∙ (λ i. ((c.in_ok-extend_from_slice-2.ensures.items
@@ -28,3 +29,6 @@ returns-clause-regions c =
 
 pub returns-clause-resolved : goal.returns-clause-resolved
 returns-clause-resolved c = subst IsResolved c.resolved-policy.ensures.value c.subjects-subjects.ensures.resolved
+
+pub returns-clause-named : goal.returns-clause-named
+returns-clause-named c = subst (λ (r : Resolution). HaveNames r.subjects) c.resolved-policy.ensures.value c.in_ok-provided.ensures.named

@@ -1,6 +1,6 @@
 use Rattle.std.proofs.Common.{◌≡◌, ◌<◌, ℕ, not}
 use Rattle.std.specs.List.{list_any}
-use Rattle.expand_kernel.specs.Resources.{has_port}
+use Rattle.policy_lawful.specs.PortRanges.{has_port}
 use Rattle.machine_layout.specs.Exits.{port_exits}
 use Rattle.image_checks.proofs.bitmaps.ports_agree.Given as goal
 

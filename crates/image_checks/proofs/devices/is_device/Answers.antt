@@ -1,14 +1,14 @@
-use Rattle.std.proofs.Common.{◌∙◌, ap, arith, get_or, subst}
-use Rattle.image_checks.proofs.DevicesTold.{device_told, made_long}
+use Rattle.std.proofs.Common.{◌∙◌, ap, arith, get_or, subst, List}
+use Rattle.image_checks.proofs.DevicesTold.{device_told}
+use Rattle.image_soundness.proofs.DevicesOf.{devices_long}
 use Rattle.image_checks.proofs.devices.is_device.Goals as goal
 use Rattle.image_pack.specs.declared.parts.DevicePart.{DevicePart}
 use Rattle.policy_lawful.specs.Resolution.{IsResolved, Resolution}
 use Rattle.policy_lawful.specs.source.Device.{Device}
-use Rattle.std.proofs.Common.{List}
 
 pub bounds-made-index : goal.bounds-made-index
 bounds-made-index c =
-    let many = made_long c.args.lawful.now 0 c.args.lawful.now.devices c.args.made.now c.requires.made in
+    let many = devices_long c.args.lawful.now 0 c.args.lawful.now.devices c.args.made.now c.requires.made in
     let low = c.requires.declared in
     omega (arith, many, low)
 

@@ -3,7 +3,8 @@ use Rattle.std.specs.Prelude.{◌==◌, position}
 use Rattle.std.specs.List.{list_any}
 use Rattle.std.proofs.lemmas.Slice.Zip.{AllZip-long}
 use Rattle.event_emit.specs.Tables.{AreTables}
-use Rattle.image_checks.proofs.SubjectsTold.{group_with, subject_told}
+use Rattle.image_checks.proofs.SubjectsTold.{subject_told}
+use Rattle.image_soundness.proofs.GroupsByIndex.{group_with}
 use Rattle.image_checks.proofs.events.is_subject.Goals as goal
 use Rattle.image_checks.specs.Agreement.{SubjectAgrees}
 use Rattle.image_checks.specs.Firsts.{Decides}

@@ -2,12 +2,12 @@ use Rattle.std.proofs.Common.{◌∙◌, ap, sym, subst, arith, length}
 use Rattle.std.specs.List.{sum_by}
 use Rattle.image_emit.proofs.FewKnown.{are_few, cpus_few, regions_few, spans_few}
 use Rattle.image_emit.proofs.ImageMade.{image_of_parts, parts_fit}
-use Rattle.event_emit.specs.Tables.{AreDevices}
+use Rattle.event_emit.specs.Named.{AreNamed}
+use Rattle.image_soundness.specs.TablesOf.{AreDevices}
 use Rattle.image_emit.specs.Gathered.{IsHeld}
 use Rattle.image_emit.specs.Made.{IsEmitted, IsImageOf, choice_of}
-use Rattle.image_emit.specs.Named.{AreNamed}
 use Rattle.image_pack.specs.Parts.{counted}
-use Rattle.plan_emit.specs.PlanOf.{IsPlanOf}
+use Rattle.image_soundness.specs.PlanOf.{IsPlanOf}
 use Rattle.policy_lawful.specs.Resolution.{source_of}
 use Rattle.image_emit.proofs.image.emit.Goals.{After-cpus}
 use Rattle.image_emit.proofs.image.emit.Goals as goal
@@ -41,12 +41,12 @@ cpus-requires c = let few = cpus_few c.args.placed.now c.expanded-expanded.ensur
 made : (c : goal.After-cpus) → IsImageOf c.args.placed.now c.args.things (counted c.cpus.result c.choice_of-tau0.result c.in_ok-spans.spans c.in_ok-subjects.subjects c.in_ok-plan.plan c.in_ok-devices.devices c.in_ok-held.held)
 made c =
     image_of_parts c.args.placed.now c.args.things c.in_ok-spans.spans c.in_ok-held.held c.in_ok-subjects.subjects c.in_ok-plan.plan c.in_ok-devices.devices c.cpus.result c.choice_of-tau0.result
-    c.expanded-expanded.ensures.placed (subst AreNamed c.policy_of-policy.ensures c.are_named.ensures.named) c.requires.filled c.in_ok-spans.ensures.numbered c.in_ok-spans.ensures.spans
+    c.expanded-expanded.ensures.placed (subst (λ p. AreNamed p.lawful) c.expanded-expanded.ensures.value c.in_ok-devices.ensures.named) c.requires.filled c.in_ok-spans.ensures.numbered c.in_ok-spans.ensures.spans
     (subst (λ ss. IsHeld c.args.placed.now c.args.things ss c.in_ok-held.held) c.items.ensures c.in_ok-held.ensures)
     c.in_ok-subjects.ensures
     (subst (λ r. IsPlanOf (source_of r) c.in_ok-plan.plan) (c.lawful.ensures ∙ ap (λ p. p.lawful) c.expanded-expanded.ensures.value) c.in_ok-plan.ensures)
     (subst (λ n. AreDevices c.args.placed.now.expanded.lawful n c.args.placed.now.expanded.lawful.devices c.in_ok-devices.devices) c.first_device.ensures
-    (subst (λ p. AreDevices p.lawful c.first_device.result p.lawful.devices c.in_ok-devices.devices) c.expanded-expanded.ensures.value c.in_ok-devices.ensures))
+    (subst (λ p. AreDevices p.lawful c.first_device.result p.lawful.devices c.in_ok-devices.devices) c.expanded-expanded.ensures.value c.in_ok-devices.ensures.devices))
     c.cpus.ensures
     (c.choice_of-tau0.ensures ∙ ap choice_of c.policy_of-policy.ensures)
 

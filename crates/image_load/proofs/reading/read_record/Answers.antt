@@ -3,10 +3,10 @@ use Rattle.muen_num.specs.Answers.{Answers}
 use Rattle.muen_num.specs.declared.limits.TheConstants.{MOST_DEVICES}
 use Rattle.record_text.specs.declared.fault.RecordFault.TheVariants.{NoMemory}
 use Rattle.image_pack.specs.declared.parts.Image.{Image}
-use Rattle.image_load.specs.Loading.{AreLow}
+use Rattle.image_memory.specs.Memory.{AreLow}
 use Rattle.image_load.specs.RecordDevices.{HasDevices}
 use Rattle.image_load.proofs.Resolved.{read_orderly, same_reading}
-use Rattle.image_load.proofs.Rising.{parts_few, parts_low}
+use Rattle.image_memory.proofs.Rising.{parts_few, parts_low}
 use Rattle.image_load.proofs.reading.read_record.Goals as goal
 
 pub devices_of-requires-clause-low : goal.devices_of-requires-clause-low

@@ -4,7 +4,7 @@ use Rattle.image_checks.specs.OwnPages.{SharesWithNone}
 use Rattle.image_checks.specs.PlanFault.{IsPlanFault}
 use Rattle.image_pack.specs.declared.parts.Image.{Image}
 use Rattle.image_pack.specs.declared.parts.SubjectPart.{SubjectPart}
-use Rattle.image_checks.specs.Sound.{HasArea, HasBitmaps, IsFresh}
+use Rattle.image_soundness.specs.Sound.{HasArea, HasBitmaps, IsFresh}
 use Rattle.image_verify.proofs.Deciding.{all_hold, in_common, in_zip, plan_fails}
 use Rattle.image_verify.specs.Verdict.{common, plan_owner}
 use Rattle.muen_num.specs.Range.{numbers_below}

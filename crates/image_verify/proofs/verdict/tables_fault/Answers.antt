@@ -3,8 +3,9 @@ use Rattle.std.specs.Prelude.{option_map}
 use Rattle.ept_check.specs.Sound.{CanBeChecked}
 use Rattle.ept_check.specs.Faults.{table_fault}
 use Rattle.ept_check.specs.declared.types.SubjectTables.{SubjectTables}
-use Rattle.image_checks.specs.Memory.{memory_of}
+use Rattle.image_memory.specs.Memory.{memory_of}
 use Rattle.image_verify.proofs.Deciding.{fault_within, same_tables}
+use Rattle.image_verify.specs.Filled.{IsFilled}
 use Rattle.image_verify.specs.Verdict.{named, tables_of}
 use Rattle.ept_check.specs.Memory.{Page}
 use Rattle.phys_mem.specs.Found.{frames_kept}
@@ -15,7 +16,13 @@ pub check-requires : goal.check-requires
 check-requires c =
     let i = c.args.image in
     let m : frames_kept c.of-entries.result.mem.now ≡ memory_of i = ap frames_kept c.of-entries.ensures.memory ∙ c.in_ok-memory.ensures in
-    let stand = c.in_ok-tables.ensures.stand c.requires.files c.in_ok-pages.pages.items c.requires.filled c.in_ok-pages.ensures.pages in
+    let filled : IsFilled c.args.expanded.now c.requires.files i = record {
+      expanded = c.in_ok-tables.ensures.expanded;
+      parts = c.requires.parts;
+      contents = c.requires.contents;
+      many = c.requires.many;
+    } in
+    let stand = c.in_ok-tables.ensures.stand c.requires.files c.in_ok-pages.pages.items filled c.in_ok-pages.ensures.pages in
     record {
       given =
           subst (λ (ps : List Page). CanBeChecked ps c.deref.result.now c.deref-2.result.now) (sym m)

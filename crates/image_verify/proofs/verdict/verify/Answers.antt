@@ -12,10 +12,7 @@ tables_fault-requires c =
     let i = c.args.image in
     record {
       files = c.requires.files;
-      filled = record {
-        expanded = c.is_expanded.ensures.is;
-        parts = subst IsParts c.image.view_is c.image.invariant;
-        contents = subst (IsContentsFault (source_of r) c.requires.files i) c.in_default.is (c.in_ok-owner.ensures c.requires.files (c.items.ensures ∙ c.requires.are));
-        many = (are_kept r i (λ o. o ≡ None) (subst (FirstOf r i (λ o. o ≡ None) in_order) c.in_default-2.is c.in_ok-fault.ensures)).0.plan.many;
-      };
+      parts = subst IsParts c.image.view_is c.image.invariant;
+      contents = subst (IsContentsFault (source_of r) c.requires.files i) c.in_default.is (c.in_ok-owner.ensures c.requires.files (c.items.ensures ∙ c.requires.are));
+      many = (are_kept r i (λ o. o ≡ None) (subst (FirstOf r i (λ o. o ≡ None) in_order) c.in_default-2.is c.in_ok-fault.ensures)).0.plan.many;
     }

@@ -37,4 +37,4 @@ returns c =
     all_made c.resolved-policy.result.now c.image-image.result.now c.subjects-subjects.result.now c.grants-grants.result.now c.items-parts.result.now c.loop-k.k
     c.loop-k.tables.items (λ x y z. omega (arith, a, m, n, x, y, z)) c.loop-k.invariant
     ∙ (λ j. map (tables_of_subject (policy j) (image j)) (zip (subjects j) (zip (c.grants-grants.ensures.value j) (parts j)))) in
-    record { tables = tables; stand = stand_for c.args.expanded.now c.args.image.now c.loop-k.tables.items tables }
+    record { tables = tables; stand = stand_for c.args.expanded.now c.args.image.now c.loop-k.tables.items tables; expanded = c.grants-grants.ensures.expanded }

@@ -7,7 +7,7 @@ returns-in_default-clause-same c = absurd (covered_has_bit c.args.grant.now c.ar
 
 pub returns-clause-same : goal.returns-clause-same
 returns-clause-same c =
-    run_cleared c.args.grant.now c.in-Some.first c.args.write _ _ c.requires.covered (sym c.is_allowed.ensures ∙ c.if-not-is_allowed.false) (sym c.in-Some.ensures) c.clear_bits.ensures
+    run_cleared c.args.grant.now c.in-Some.first c.args.write _ _ c.requires.covered (sym c.in-Some.ensures) c.clear_bits.ensures (sym c.is_allowed.ensures ∙ c.if-not-is_allowed.false)
 
 pub returns-clause-other : goal.returns-clause-other
 returns-clause-other c =

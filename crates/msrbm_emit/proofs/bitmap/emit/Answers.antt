@@ -7,4 +7,10 @@ loop-grant-init c =
 
 pub loop-grant-preserved : goal.loop-grant-preserved
 loop-grant-preserved c =
-    grant_more c.args.msrs.now c.loop-grant.grant-index _ c.loop-grant.bitmap c.allow.new.bitmap c.allow-in-loop-grant.new.bitmap c.loop-grant-test.true c.loop-grant.invariant c.allow.ensures.same c.allow.ensures.other c.allow-in-loop-grant.ensures.same c.allow-in-loop-grant.ensures.other
+    grant_more c.args.msrs.now c.loop-grant.grant-index _ c.loop-grant.bitmap c.allow.new.bitmap c.allow-in-loop-grant.new.bitmap c.loop-grant-test.true c.loop-grant.invariant
+    (record {
+      reads = c.allow.ensures.same;
+      writes_stay = c.allow.ensures.other;
+      writes = c.allow-in-loop-grant.ensures.same;
+      reads_stay = c.allow-in-loop-grant.ensures.other;
+    })

@@ -1,6 +1,6 @@
 use Rattle.std.proofs.Common.{◌≡◌, ℕ, Bool, not, take}
 use Rattle.machine_layout.specs.Exits.{msr_exits}
-use Rattle.msrbm_emit.specs.Msrs.{is_granted}
+use Rattle.policy_types.specs.MsrGrants.{is_granted}
 use Rattle.msrbm_emit.proofs.bitmap.emit.Given as goal
 
 -- what exits is all but what the grants so far allow

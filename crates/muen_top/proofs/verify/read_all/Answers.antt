@@ -15,7 +15,7 @@ returns-in_err-found-clause-err g c =
     let left = err_from_is_err_and c.from_residual-in_err-found.result c.from_residual-in_err-found.ensures.1 in
     let image = c.in_ok-read.ensures in
     rw (left.1, left.2)
-    (not_lawful c.args.image.now _ _ _ _ c.in_ok-read.read.bytes image.ok c.read_image.ensures.held c.in_ok-read.read.parts image.parts.1 c.args.policy.now _ c.in_err-found.field-0.0 (rw c.items.ensures at c.in_err-found.ensures.err))
+    (not_lawful (record { saw = image.ok; same = c.read_image.ensures.held; is = image.parts.1 }) c.in_err-found.field-0.0 (rw c.items.ensures at c.in_err-found.ensures.err))
 
 -- its contents aren't
 pub returns-in_err-things-clause-err : goal.returns-in_err-things-clause-err
@@ -24,13 +24,12 @@ returns-in_err-things-clause-err g c =
     let image = c.in_ok-read.ensures in
     let lacks = rw (c.items-2.ensures) at c.in_err-things.ensures.err in
     rw (left.1, left.2)
-    (contents_lack c.args.image.now _ _ _ _ c.in_ok-read.read.bytes image.ok c.read_image.ensures.held c.in_ok-read.read.parts image.parts.1 c.args.policy.now _
-    c.in_ok-found.found.document c.in_ok-found.found.policy (rw c.items.ensures at c.in_ok-found.ensures.ok) _ (c.read_policy.ensures.held ∙ c.read_image.ensures.held) _ lacks.build_error c.in_err-things.field-0.0 lacks.lacks lacks.made)
+    (contents_lack _ (record { saw = image.ok; same = c.read_image.ensures.held; is = image.parts.1 }) (rw c.items.ensures at c.in_ok-found.ensures.ok)
+    (c.read_policy.ensures.held ∙ c.read_image.ensures.held) lacks.build_error c.in_err-things.field-0.0 lacks.lacks lacks.made)
 
 -- all is read
 pub returns-clause-ok : goal.returns-clause-ok
 returns-clause-ok g c =
     let image = c.in_ok-read.ensures in
-    contents_have c.args.image.now _ _ _ _ c.in_ok-read.read.bytes image.ok c.read_image.ensures.held c.in_ok-read.read.parts image.parts.1 c.args.policy.now _
-    c.in_ok-found.found.document c.in_ok-found.found.policy (rw c.items.ensures at c.in_ok-found.ensures.ok) _ (c.read_policy.ensures.held ∙ c.read_image.ensures.held) _ c.in_ok-things.things
-    (rw (c.items-2.ensures) at c.in_ok-things.ensures.ok) image.parts.0
+    contents_have _ (record { saw = image.ok; same = c.read_image.ensures.held; is = image.parts.1 }) (rw c.items.ensures at c.in_ok-found.ensures.ok)
+    (c.read_policy.ensures.held ∙ c.read_image.ensures.held) c.in_ok-things.things (rw (c.items-2.ensures) at c.in_ok-things.ensures.ok) image.parts.0

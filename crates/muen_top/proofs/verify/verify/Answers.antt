@@ -1,7 +1,7 @@
 use Rattle.std.proofs.Common.{refl}
 use Rattle.muen_top.specs.Commands.{verify}
 use Rattle.muen_top.proofs.Ending.{ended}
-use Rattle.muen_top.proofs.Verifying.{are_of_files, comes_of}
+use Rattle.muen_top.proofs.Judging.{are_of_files, comes_of}
 use Rattle.muen_top.proofs.verify.verify.Goals as goal
 
 pub judge-requires : goal.judge-requires

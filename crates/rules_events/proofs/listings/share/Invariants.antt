@@ -1,5 +1,5 @@
 use Rattle.std.proofs.Common.{◌≡◌, false, take}
-use Rattle.rules_events.specs.Listings.{share}
+use Rattle.muen_num.specs.Numbers.{share}
 use Rattle.rules_events.proofs.listings.share.Given as goal
 
 abbrev pub invariant-loop-index : goal.invariant-loop-index

@@ -1,6 +1,6 @@
 -- What the rests share; one of them gets shorter.
 use Rattle.std.proofs.Common.{◌≡◌, ◌+◌, ◌-◌, drop, length}
-use Rattle.rules_events.specs.Listings.{share}
+use Rattle.muen_num.specs.Numbers.{share}
 use Rattle.rules_events.proofs.listings.share_merged.Given as goal
 
 abbrev pub invariant-loop-i : goal.invariant-loop-i

@@ -1,6 +1,7 @@
 -- What is known while the devices are gone through.
 use Rattle.std.proofs.Common.{◌++◌, drop, length}
-use Rattle.span_emit.specs.Spans.{device_spans, memories_of}
+use Rattle.span_emit.specs.Spans.{device_spans}
+use Rattle.policy_lawful.specs.ByIndex.{memories_of}
 use Rattle.span_emit.proofs.InTurn.{Memories}
 use Rattle.span_emit.proofs.by_number.push_devices.Given as goal
 

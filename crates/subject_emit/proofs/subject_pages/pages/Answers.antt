@@ -4,7 +4,8 @@ use Rattle.expand_kernel.specs.Grants.{AreGrantsOf}
 use Rattle.iobm_emit.specs.Ports.{is_granted_access}
 use Rattle.machine_layout.specs.Exits.{area_bytes}
 use Rattle.msrbm_emit.specs.Area.{area_of, count_of}
-use Rattle.msrbm_emit.specs.Msrs.{is_covered, is_granted}
+use Rattle.msrbm_emit.specs.Msrs.{is_covered}
+use Rattle.policy_lawful.specs.MsrGrants.{is_granted}
 use Rattle.muen_num.proofs.Pairs.{both_at}
 use Rattle.muen_num.specs.declared.limits.TheConstants.{MOST_MSRS, PAGE}
 use Rattle.machine_layout.specs.PageFields.{padded}

@@ -1,0 +1,23 @@
+-- The law: tables that are emitted for the domains of devices fit the images that are built.
+use Rattle.std.specs.Prelude.{◌≡◌, ℕ, List, Some, true}
+use Rattle.dma_emit.specs.Placed.{IsPlaced, Placement}
+use Rattle.dma_emit.specs.Reached.{kind_of, placed_at}
+use Rattle.dma_tables.specs.DmaWalk.{dma_walk}
+use Rattle.dma_tables.specs.declared.file.DmaFile.{DmaFile}
+use Rattle.dma_tables.specs.parts.Image.{Image}
+use Rattle.policy_lawful.specs.Contents.{Held}
+use Rattle.policy_lawful.specs.Dma.{dma_access}
+use Rattle.policy_lawful.specs.Resolution.{source_of}
+use Rattle.proof_build.specs.Built.{HasSpans}
+use Rattle.proof_build.specs.Sound.{IsSound}
+use Rattle.proof_runs.specs.Fit.{Fit}
+
+-- tables that lead each write of a device where a placed policy declares it fit each image that is sound for the policy and has the
+-- policy's regions where they were placed
+abbrev pub EmittedTablesFit : Type 0
+EmittedTablesFit =
+    (x : Placement) (files : Held) (i : Image) (t : DmaFile)
+    → IsPlaced x → IsSound (source_of x.expanded.lawful) files i → HasSpans (source_of x.expanded.lawful) i
+    → ((device : List ℕ) (addr : ℕ)
+    → dma_walk t device addr true ≡ placed_at x (dma_access (source_of x.expanded.lawful) device addr (kind_of true)))
+    → Fit (source_of x.expanded.lawful) i (Some t)

@@ -1,0 +1,2 @@
+pub use Rattle.proof_build.specs.Built
+pub mod Laws
