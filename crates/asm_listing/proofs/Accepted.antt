@@ -6,8 +6,8 @@ use Rattle.std.proofs.lemmas.Bool.{and_parts, leb-true, ltb-true}
 use Rattle.muen_num.specs.declared.access.AccessSize.{AccessSize}
 use Rattle.guest_isa.specs.GuestIsa.{IsValid}
 use Rattle.guest_isa.specs.declared.instr.Instr.{Instr}
-use Rattle.asm_text.specs.Layout.{Names}
-use Rattle.asm_text.specs.Meaning.{fits, fits_signed, if_fits, immediate_by, immediate_of, residue, sum_of, distance_by, jump_by}
+use Rattle.asm_text.specs.Layout.{SymbolTable}
+use Rattle.asm_text.specs.Meaning.{fits_in_bits, fits_signed, if_fits, immediate_by, immediate_of, residue, sum_of, distance_by, jump_by}
 use Rattle.asm_text.specs.Mnemonics.{instruction_with, shape_of}
 use Rattle.asm_text.specs.Reading.{size}
 use Rattle.asm_text.specs.declared.fault.Want.{Want}
@@ -26,7 +26,7 @@ fits_by : (z : ℤ) → fits_signed 32 z ≡ true → FitsSigned w32 z
 fits_by (pos n) e = record { sfits = ltb-true n (2 ^ 31) e }
 fits_by (negsuc n) e = let low : n ≤ 2 ^ 31 - 1 = leb-true n (2 ^ 31 - 1) (and_parts _ true e).0 in record { sfits = omega arith }
 
-residue_low : (z : ℤ) → fits 32 z ≡ true → residue 32 z < 2 ^ 32
+residue_low : (z : ℤ) → fits_in_bits 32 z ≡ true → residue 32 z < 2 ^ 32
 residue_low (pos n) e = ltb-true n (2 ^ 32) e
 residue_low (negsuc n) e = omega arith
 
@@ -38,10 +38,10 @@ module _ (left : ℕ) (want : Want) where
       by true e = fits_by z e
       by false e = tt
 
-  either_is : (z : ℤ) → Holds (FitsSigned w32) (if_fits (fits 32 z) left want (cast_signed w32 (residue 32 z)))
-  either_is z = by (fits 32 z) refl
+  either_is : (z : ℤ) → Holds (FitsSigned w32) (if_fits (fits_in_bits 32 z) left want (cast_signed w32 (residue 32 z)))
+  either_is z = by (fits_in_bits 32 z) refl
     where
-      by : (t : Bool) → fits 32 z ≡ t → Holds (FitsSigned w32) (if_fits t left want (cast_signed w32 (residue 32 z)))
+      by : (t : Bool) → fits_in_bits 32 z ≡ t → Holds (FitsSigned w32) (if_fits t left want (cast_signed w32 (residue 32 z)))
       by true e = signed_fits (residue 32 z) (residue_low z e)
       by false e = tt
 
@@ -78,7 +78,7 @@ by_mnemonic Cli here left s = signed_is left Range s.number
 by_mnemonic Setv here left s = signed_is left Range s.number
 by_mnemonic Reti here left s = signed_is left Range s.number
 
-pub immediate_fits : (names : Names) (here : ℕ) (o : Operation) → Holds (FitsSigned w32) (immediate_of names here o)
+pub immediate_fits : (names : SymbolTable) (here : ℕ) (o : Operation) → Holds (FitsSigned w32) (immediate_of names here o)
 unfolding immediate_of
 immediate_fits names here o = after (FitsSigned w32) (sum_of names o.operands.value.terms) _ λ s. by_mnemonic o.mnemonic here o.operands.value.left s
 

@@ -9,7 +9,7 @@ use native.Mathlib.Nat.{zero-add}
 use Rattle.muen_num.specs.declared.limits.TheConstants.{COMPONENT_FILE_MOST}
 use Rattle.guest_isa.specs.GuestIsa.{decode_of, encoding_of}
 use Rattle.guest_isa.specs.declared.instr.Instr.{Instr}
-use Rattle.asm_text.specs.Meaning.{Item, instruction, data_of, zeros, bytes_of_item, bytes_of_items, said}
+use Rattle.asm_text.specs.Meaning.{SourceItem, instruction, data_of, zeros, bytes_of_item, bytes_of_items, source_items}
 use Rattle.asm_listing.specs.Laws.{AreBytes, SourcesSayAgain, instruction_at, instructions_from, instructions_of}
 use Rattle.asm_listing.specs.Source.{chunks_of}
 use Rattle.asm_text.proofs.Accepted.{holds_at}
@@ -22,7 +22,7 @@ use Rattle.guest_isa.specs.Words.{IsByte}
 
 -- ---- the bytes of a source
 
-standing_bytes : (here : ℕ) (items : List Item) → AreStanding here items → (here + length (bytes_of_items items) ≤ COMPONENT_FILE_MOST) × All IsByte (bytes_of_items items)
+standing_bytes : (here : ℕ) (items : List SourceItem) → AreStanding here items → (here + length (bytes_of_items items) ≤ COMPONENT_FILE_MOST) × All IsByte (bytes_of_items items)
 standing_bytes here [] h = (omega (arith, h), All-nil IsByte)
 standing_bytes here (item ∷ items) h =
     let rest = standing_bytes (here + length (bytes_of_item item)) items h.2 in
@@ -31,16 +31,16 @@ standing_bytes here (item ∷ items) h =
 
 -- ---- what holds of each instruction, with what is before and behind it
 
-abbrev HoldsEach : (ℕ × Instr → Type 0) → ℕ → List Item → Type 0
+abbrev HoldsEach : (ℕ × Instr → Type 0) → ℕ → List SourceItem → Type 0
 HoldsEach P here items =
     (before : List ℕ) (i : Instr) (behind : List ℕ) → bytes_of_items items ≡ before ++ (encoding_of i ++ behind) → (here + length before) % 8 ≡ 0 → IsSound i
     → P (here + length before, i)
 
-abbrev HoldsFirst : (ℕ × Instr → Type 0) → ℕ → Item → List ℕ → Type 0
+abbrev HoldsFirst : (ℕ × Instr → Type 0) → ℕ → SourceItem → List ℕ → Type 0
 HoldsFirst P here item rest =
     (i : Instr) (behind : List ℕ) → bytes_of_item item ++ rest ≡ encoding_of i ++ behind → here % 8 ≡ 0 → IsSound i → P (here, i)
 
-each_instruction : (P : ℕ × Instr → Type 0) (here : ℕ) (items : List Item) → AreStanding here items → HoldsEach P here items → All P (instructions_from here items)
+each_instruction : (P : ℕ × Instr → Type 0) (here : ℕ) (items : List SourceItem) → AreStanding here items → HoldsEach P here items → All P (instructions_from here items)
 unfolding instructions_from
 each_instruction P here [] h each = All-nil P
 each_instruction P here (item ∷ items) h each =
@@ -53,7 +53,7 @@ each_instruction P here (item ∷ items) h each =
         let same : here + 0 ≡ here = omega arith in
         subst (λ n. P (n, i)) same (each [] i behind e (ap (λ n. n % 8) same ∙ aligned) sound)
 
-    first : (x : Item) → IsSeat here x → HoldsFirst P here x (bytes_of_items items) → All P (instruction_at here x)
+    first : (x : SourceItem) → IsSeat here x → HoldsFirst P here x (bytes_of_items items) → All P (instruction_at here x)
     first (instruction i) s f = All-cons P (here, i) [] (f i (bytes_of_items items) refl s.0 s.1) (All-nil P)
     first (data_of size ns) s f = All-nil P
     first (zeros n) s f = All-nil P
@@ -91,7 +91,7 @@ cut rest = chunks_by (Parts rest) none fewer full
 
 -- ---- instructions among items
 
-from_append : (here : ℕ) (xs ys : List Item) → instructions_from here (xs ++ ys) ≡ instructions_from here xs ++ instructions_from (here + length (bytes_of_items xs)) ys
+from_append : (here : ℕ) (xs ys : List SourceItem) → instructions_from here (xs ++ ys) ≡ instructions_from here xs ++ instructions_from (here + length (bytes_of_items xs)) ys
 unfolding instructions_from
 from_append here [] ys = ap (λ n. instructions_from n ys) (nothing here)
   where
@@ -103,7 +103,7 @@ from_append here (x ∷ xs) ys =
     ap (λ (is : List (ℕ × Instr)). instruction_at here x ++ is) (from_append (here + length front) xs ys ∙ ap (λ n. instructions_from (here + length front) xs ++ instructions_from n ys) long)
     ∙ sym (append_assoc (instruction_at here x) (instructions_from (here + length front) xs) (instructions_from (here + length (front ++ bytes_of_items xs)) ys))
 
-first_of : (here : ℕ) (i : Instr) (items : List Item) → Contains (instructions_from here (instruction i ∷ items)) (here, i)
+first_of : (here : ℕ) (i : Instr) (items : List SourceItem) → Contains (instructions_from here (instruction i ∷ items)) (here, i)
 unfolding instructions_from
 first_of here i items = Contains-append_left ((here, i) ∷ []) (instructions_from (here + length (encoding_of i)) items) (here, i) (0, omega arith, refl)
 
@@ -125,7 +125,7 @@ module _ (bytes : List ℕ) (low : All IsByte bytes) where
       let chunks : chunks_of bytes ≡ chunks_of before ++ (code ∷ chunks_of behind) =
       ap chunks_of e ∙ cut (code ++ behind) before aligned ∙ ap (λ (cs : List (List ℕ)). chunks_of before ++ cs) (first_chunk code behind (encoding_long i)) in
       let items : map chunk_item (chunks_of bytes) ≡ fronts ++ (instruction i ∷ backs) =
-      ap (map chunk_item) chunks ∙ map-append chunk_item (chunks_of before) (code ∷ chunks_of behind) ∙ ap (λ (x : Item). fronts ++ (x ∷ backs)) (encoding_item i sound) in
+      ap (map chunk_item) chunks ∙ map-append chunk_item (chunks_of before) (code ∷ chunks_of behind) ∙ ap (λ (x : SourceItem). fronts ++ (x ∷ backs)) (encoding_item i sound) in
       let long : 0 + length (bytes_of_items fronts) ≡ length before =
       ap (λ (bs : List ℕ). 0 + length bs) (bytes_back before (front_low before (code ++ behind) (subst (All IsByte) e low))) ∙ zero-add (length before) in
       let there : Contains (instructions_from 0 (fronts ++ (instruction i ∷ backs))) (length before, i) =
@@ -137,7 +137,7 @@ module _ (bytes : List ℕ) (low : All IsByte bytes) where
 
 pub sources_say_again : SourcesSayAgain
 sources_say_again text items e =
-    let standing = holds_at (AreStanding 0) (said text) items (said_standing text) e in
+    let standing = holds_at (AreStanding 0) (source_items text) items (said_standing text) e in
     let bytes = bytes_of_items items in
     let parts = standing_bytes 0 items standing in
     let are : AreBytes bytes = record { many = omega (arith, parts.0); each = parts.1 } in

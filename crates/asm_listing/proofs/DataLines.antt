@@ -6,10 +6,10 @@ use Rattle.std.proofs.lemmas.Bool.{lt-ltb}
 use Rattle.std.proofs.lemmas.List.Elements.{All-head, All-tail}
 use Rattle.muen_num.specs.declared.access.AccessSize.TheVariants.{One}
 use Rattle.text_words.specs.Steps.{◌>>=◌}
-use Rattle.asm_text.specs.Layout.{Names}
-use Rattle.asm_text.specs.Meaning.{bits_of, fits, if_fits, number_of, numbers_of, residue}
-use Rattle.asm_text.specs.Reading.{count_of, data_line, keyword, line_of, values, with_others, worded}
-use Rattle.asm_text.specs.Tokens.{Tokens, end_with, token, goes_on, tokens_of}
+use Rattle.asm_text.specs.Layout.{SymbolTable}
+use Rattle.asm_text.specs.Meaning.{size_bits, fits_in_bits, if_fits, number_of, numbers_of, residue}
+use Rattle.asm_text.specs.Reading.{token_count, data_line, keyword, source_line_of, values, with_others, worded}
+use Rattle.asm_text.specs.Tokens.{Tokens, end_with, token, word_goes_on, tokens_of}
 use Rattle.asm_text.specs.declared.fault.LineError.{LineError}
 use Rattle.asm_text.specs.declared.fault.Want.TheVariants.{Range}
 use Rattle.asm_text.specs.declared.meaning.Sum.{Sum}
@@ -25,9 +25,9 @@ others_text bs = flat_map (λ b. codes ", " ++ byte_text b) bs
 
 -- ---- one byte
 
-byte_number : (names : Names) (left b : ℕ) → b < 256 → number_of names One (one_value left (number_term left false b)) ≡ Ok b
+byte_number : (names : SymbolTable) (left b : ℕ) → b < 256 → number_of names One (one_value left (number_term left false b)) ≡ Ok b
 byte_number names left b h =
-    ap (λ (r : Result Sum LineError). r >>= λ s. if_fits (fits (bits_of One) s.number) left Range (residue (bits_of One) s.number)) (plus_sum left b names)
+    ap (λ (r : Result Sum LineError). r >>= λ s. if_fits (fits_in_bits (size_bits One) s.number) left Range (residue (size_bits One) s.number)) (plus_sum left b names)
     ∙ ap (λ t. if_fits t left Range b) (lt-ltb b 256 h)
 
 -- ---- bytes with commas between them
@@ -36,19 +36,19 @@ record ValuesRead (n : ℕ) (ts : Tokens) (bytes : List ℕ) : Type 0 where
   read : List Value
   is : values n ts ≡ Ok read
   many : length read ≡ length bytes
-  numbers : (names : Names) → numbers_of names One read ≡ Ok bytes
+  numbers : (names : SymbolTable) → numbers_of names One read ≡ Ok bytes
 
 abbrev after_value : ℕ → Value × Tokens → Result (List Value) LineError
 after_value n x = with_others x.0 x.1 (values n)
 
-one_number : (names : Names) (left b : ℕ) (others : List Value) (bs : List ℕ) → b < 256 → numbers_of names One others ≡ Ok bs
+one_number : (names : SymbolTable) (left b : ℕ) (others : List Value) (bs : List ℕ) → b < 256 → numbers_of names One others ≡ Ok bs
     → numbers_of names One (one_value left (number_term left false b) ∷ others) ≡ Ok (b ∷ bs)
 unfolding numbers_of
 one_number names left b others bs h e =
     ap (λ (r : Result ℕ LineError). r >>= λ n. numbers_of names One others >>= λ ns. Ok (n ∷ ns)) (byte_number names left b h)
     ∙ ap (λ (r : Result (List ℕ) LineError). r >>= λ ns. Ok (b ∷ ns)) e
 
-others_part : (bs : List ℕ) → goes_on (others_text bs) ≡ false
+others_part : (bs : List ℕ) → word_goes_on (others_text bs) ≡ false
 others_part [] = refl
 others_part (b ∷ bs) = refl
 
@@ -94,20 +94,20 @@ values_read (suc n) b (c ∷ cs) l h all =
 pub record DataRead (chunk : List ℕ) : Type 0 where
   pub left : ℕ
   pub read : List Value
-  pub line : line_of (tokens_of (data_text chunk)) ≡ Ok (as_line (Data left One read))
+  pub line : source_line_of (tokens_of (data_text chunk)) ≡ Ok (as_line (Data left One read))
   pub many : length read ≡ length chunk
-  pub numbers : (names : Names) → numbers_of names One read ≡ Ok chunk
+  pub numbers : (names : SymbolTable) → numbers_of names One read ≡ Ok chunk
 
-many_tokens : (bs : List ℕ) → All (λ b. b < 256) bs → length bs ≤ count_of (tokens_of (others_text bs))
+many_tokens : (bs : List ℕ) → All (λ b. b < 256) bs → length bs ≤ token_count (tokens_of (others_text bs))
 unfolding tokens_of
 many_tokens [] all = omega arith
 many_tokens (b ∷ bs) all =
     let low : b < 256 = All-head (λ b. b < 256) b bs all in
-    let e = ap count_of (word_parted (byte_text b) (others_text bs) (byte_word b low) (others_part bs)) in
+    let e = ap token_count (word_parted (byte_text b) (others_text bs) (byte_word b low) (others_part bs)) in
     let rest = many_tokens bs (All-tail (λ b. b < 256) b bs all) in
     omega (arith, e, rest)
 
-data_worded : (left : ℕ) (more : Tokens) (vs : List Value) → values (count_of more) more ≡ Ok vs → worded left (codes ".byte") more ≡ Ok (Data left One vs)
+data_worded : (left : ℕ) (more : Tokens) (vs : List Value) → values (token_count more) more ≡ Ok vs → worded left (codes ".byte") more ≡ Ok (Data left One vs)
 unfolding data_line
 data_worded left more vs e = ap (λ (r : Result (List Value) LineError). r >>= λ vs. Ok (Data left One vs)) e
 
@@ -121,13 +121,13 @@ data_read (b ∷ bs) some all =
     let more = token (length rest) (byte_text b) (tokens_of (others_text bs)) in
     let parted : tokens_of rest ≡ more = word_parted (byte_text b) (others_text bs) (byte_word b low) (others_part bs) in
     let last = All-tail (λ b. b < 256) b bs all in
-    let enough : length bs < count_of more = omega (arith, many_tokens bs last) in
-    let v = values_read (count_of more) b bs enough low last in
+    let enough : length bs < token_count more = omega (arith, many_tokens bs last) in
+    let v = values_read (token_count more) b bs enough low last in
     record {
       left = left;
       read = v.read;
       line =
-          ap (λ ts. line_of (token left (codes ".byte") ts)) parted
+          ap (λ ts. source_line_of (token left (codes ".byte") ts)) parted
           ∙ line_by left (codes ".byte") more (Data left One v.read) (unmarked_word (length rest) (byte_text b) (tokens_of (others_text bs)) (byte_word b low)) (data_worded left more v.read v.is);
       many = v.many;
       numbers = v.numbers;

@@ -13,11 +13,11 @@ use Rattle.guest_isa.specs.GuestIsa.{IsValid}
 use Rattle.guest_isa.specs.declared.instr.Instr.{Instr}
 use Rattle.guest_isa.specs.declared.instr.Instr.TheVariants.{Nop as INop, Li as ILi, Lih as ILih, Mov as IMov, Add as IAdd, Sub as ISub, And as IAnd, Or as IOr, Xor as IXor, Shl as IShl, Shr as IShr, Load as ILoad, Store as IStore, Jmp as IJmp, Jz as IJz, Jnz as IJnz, Jb as IJb, In as IIn, Out as IOut, Rdmsr as IRdmsr, Wrmsr as IWrmsr, Rdtsc as IRdtsc, Vmcall as IVmcall, Hlt as IHlt, Sti as ISti, Cli as ICli, Setv as ISetv, Reti as IReti}
 use Rattle.text_words.specs.Steps.{◌>>=◌, ◌>>◌}
-use Rattle.asm_text.specs.Layout.{Names}
-use Rattle.asm_text.specs.Meaning.{instruction as instruction_item, fits, fits_signed, if_fits, immediate_by, immediate_of, instruction_of, item_of, residue}
+use Rattle.asm_text.specs.Layout.{SymbolTable}
+use Rattle.asm_text.specs.Meaning.{instruction as instruction_item, fits_in_bits, fits_signed, if_fits, immediate_by, immediate_of, instruction_of, assembled_item_of, residue}
 use Rattle.asm_text.specs.Mnemonics.{instruction_with, mnemonic_text, shape_of}
-use Rattle.asm_text.specs.Reading.{at_end, definition, directive, instruction, label, line_of, named, offset_line, operands, operands_of, statement, worded}
-use Rattle.asm_text.specs.Tokens.{Tokens, end_with, token, goes_on, is_word_byte, tokens_of}
+use Rattle.asm_text.specs.Reading.{at_end, definition, directive, instruction, label, source_line_of, named, offset_line, operands, operands_of, statement, worded}
+use Rattle.asm_text.specs.Tokens.{Tokens, end_with, token, word_goes_on, is_word_byte, tokens_of}
 use Rattle.asm_text.specs.Words.{data_size_of, mnemonic_of}
 use Rattle.asm_text.specs.declared.fault.LineError.{LineError}
 use Rattle.asm_text.specs.declared.fault.Want.TheVariants.{Near, Range}
@@ -96,8 +96,8 @@ stated_by_word left word (token at mark more) h =
 abbrev pub as_line : Statement → SourceLine
 as_line s = record { label = None; statement = s }
 
-pub line_by : (left : ℕ) (word : List ℕ) (more : Tokens) (s : Statement) → IsUnmarked more → worded left word more ≡ Ok s → line_of (token left word more) ≡ Ok (as_line s)
-unfolding line_of
+pub line_by : (left : ℕ) (word : List ℕ) (more : Tokens) (s : Statement) → IsUnmarked more → worded left word more ≡ Ok s → source_line_of (token left word more) ≡ Ok (as_line s)
+unfolding source_line_of
 line_by left word more s h e =
     ap (λ (r : Result (Option Label × Tokens) LineError). r >>= λ l. statement l.1 >>= λ s. Ok (record { label = l.0; statement = s })) (unlabelled left word more h)
     ∙ ap (λ (r : Result Statement LineError). r >>= λ s. Ok (as_line s)) (stated_by_word left word more h ∙ e)
@@ -120,7 +120,7 @@ fits_32 : (z : ℤ) → FitsSigned w32 z → fits_signed 32 z ≡ true
 fits_32 (pos n) h = lt-ltb n (2 ^ 31) (omega (arith, h.sfits))
 fits_32 (negsuc n) h = ap (λ b. b && true) (le-leb n (2 ^ 31 - 1) (omega (arith, h.sfits)))
 
-fits_either : (z : ℤ) → FitsSigned w32 z → fits 32 z ≡ true
+fits_either : (z : ℤ) → FitsSigned w32 z → fits_in_bits 32 z ≡ true
 fits_either (pos n) h = lt-ltb n (2 ^ 32) (omega (arith, h.sfits))
 fits_either (negsuc n) h = ap (λ b. b && true) (le-leb n (2 ^ 31 - 1) (omega (arith, h.sfits)))
 
@@ -169,25 +169,25 @@ immediate_is Reti here left z h = λ i. if_fits (fits_32 z h i) left Range z
 -- the line says the instruction, wherever it stands and whatever names stand for
 pub record InstructionRead (i : Instr) : Type 0 where
   pub operation : Operation
-  pub line : line_of (tokens_of (instruction_text i)) ≡ Ok (as_line (Instruction operation))
-  pub item : (names : Names) (here : ℕ) → item_of names here (Instruction operation) ≡ Ok (instruction_item i)
+  pub line : source_line_of (tokens_of (instruction_text i)) ≡ Ok (as_line (Instruction operation))
+  pub item : (names : SymbolTable) (here : ℕ) → assembled_item_of names here (Instruction operation) ≡ Ok (instruction_item i)
 
 read_by : (i : Instr) (m : Mnemonic) (text : List ℕ) (rd rs : ℕ) (size : AccessSize) (imm : ℤ)
-    → instruction_text i ≡ mnemonic_text m ++ text → goes_on text ≡ false → OperandsRead (shape_of m) (tokens_of text) rd rs size imm
+    → instruction_text i ≡ mnemonic_text m ++ text → word_goes_on text ≡ false → OperandsRead (shape_of m) (tokens_of text) rd rs size imm
     → FitsSigned w32 imm → instruction_with m rd rs size imm ≡ i → InstructionRead i
 unfolding immediate_of
-read_by i m text rd rs size imm is ends o fits back =
+read_by i m text rd rs size imm is ends o fits_in_bits back =
     let left = length (mnemonic_text m ++ text) in
     let with = operands rd rs size o.read in
     record {
       operation = operation left m with;
       line =
-          ap (λ t. line_of (tokens_of t)) is
-          ∙ ap line_of (word_parted (mnemonic_text m) text (is_mnemonic m).word ends)
+          ap (λ t. source_line_of (tokens_of t)) is
+          ∙ ap source_line_of (word_parted (mnemonic_text m) text (is_mnemonic m).word ends)
           ∙ line_by left (mnemonic_text m) (tokens_of text) (Instruction (operation left m with)) o.unmarked (instruction_worded left m (tokens_of text) with o.is);
       item = λ names here.
           ap (λ (r : Result Sum LineError). r >>= immediate_by m here o.read.left >>= λ z. Ok (instruction_item (instruction_of (operation left m with) z))) (o.sum names)
-          ∙ ap (λ (r : Result ℤ LineError). r >>= λ z. Ok (instruction_item (instruction_of (operation left m with) z))) (immediate_is m here o.read.left imm fits)
+          ∙ ap (λ (r : Result ℤ LineError). r >>= λ z. Ok (instruction_item (instruction_of (operation left m with) z))) (immediate_is m here o.read.left imm fits_in_bits)
           ∙ ap (λ (x : Instr). Ok (instruction_item x)) back;
     }
 
@@ -233,59 +233,59 @@ jump_below_grouped m rd rs imm = grouped_6 (codes " ") (register_text rd) (codes
 
 pub instruction_read : (i : Instr) → IsValid i → FitsSigned w32 (immediate i) → InstructionRead i
 unfolding instruction_text
-instruction_read INop v fits =
-    read_by INop Nop ([]) 0 0 One (pos 0) refl refl alone_read fits refl
-instruction_read (ILi rd imm) v fits =
-    read_by (ILi rd imm) Li (codes " " ⧺ register_text rd ⧺ codes ", " ⧺ signed_decimal imm) rd 0 One imm (ap (λ t. mnemonic_text Li ++ t) (immediate_grouped Li rd imm)) refl (immediate_read rd imm v fits) fits refl
-instruction_read (ILih rd imm) v fits =
-    read_by (ILih rd imm) Lih (codes " " ⧺ register_text rd ⧺ codes ", " ⧺ signed_decimal imm) rd 0 One imm (ap (λ t. mnemonic_text Lih ++ t) (immediate_grouped Lih rd imm)) refl (immediate_read rd imm v fits) fits refl
-instruction_read (IMov rd rs) v fits =
-    read_by (IMov rd rs) Mov (codes " " ⧺ register_text rd ⧺ codes ", " ⧺ register_text rs) rd rs One (pos 0) (ap (λ t. mnemonic_text Mov ++ t) (pair_grouped Mov rd rs)) refl (pair_read rd rs v.0 v.1) fits refl
-instruction_read (IAdd rd rs) v fits =
-    read_by (IAdd rd rs) Add (codes " " ⧺ register_text rd ⧺ codes ", " ⧺ register_text rs) rd rs One (pos 0) (ap (λ t. mnemonic_text Add ++ t) (pair_grouped Add rd rs)) refl (pair_read rd rs v.0 v.1) fits refl
-instruction_read (ISub rd rs) v fits =
-    read_by (ISub rd rs) Sub (codes " " ⧺ register_text rd ⧺ codes ", " ⧺ register_text rs) rd rs One (pos 0) (ap (λ t. mnemonic_text Sub ++ t) (pair_grouped Sub rd rs)) refl (pair_read rd rs v.0 v.1) fits refl
-instruction_read (IAnd rd rs) v fits =
-    read_by (IAnd rd rs) And (codes " " ⧺ register_text rd ⧺ codes ", " ⧺ register_text rs) rd rs One (pos 0) (ap (λ t. mnemonic_text And ++ t) (pair_grouped And rd rs)) refl (pair_read rd rs v.0 v.1) fits refl
-instruction_read (IOr rd rs) v fits =
-    read_by (IOr rd rs) Or (codes " " ⧺ register_text rd ⧺ codes ", " ⧺ register_text rs) rd rs One (pos 0) (ap (λ t. mnemonic_text Or ++ t) (pair_grouped Or rd rs)) refl (pair_read rd rs v.0 v.1) fits refl
-instruction_read (IXor rd rs) v fits =
-    read_by (IXor rd rs) Xor (codes " " ⧺ register_text rd ⧺ codes ", " ⧺ register_text rs) rd rs One (pos 0) (ap (λ t. mnemonic_text Xor ++ t) (pair_grouped Xor rd rs)) refl (pair_read rd rs v.0 v.1) fits refl
-instruction_read (IShl rd rs) v fits =
-    read_by (IShl rd rs) Shl (codes " " ⧺ register_text rd ⧺ codes ", " ⧺ register_text rs) rd rs One (pos 0) (ap (λ t. mnemonic_text Shl ++ t) (pair_grouped Shl rd rs)) refl (pair_read rd rs v.0 v.1) fits refl
-instruction_read (IShr rd rs) v fits =
-    read_by (IShr rd rs) Shr (codes " " ⧺ register_text rd ⧺ codes ", " ⧺ register_text rs) rd rs One (pos 0) (ap (λ t. mnemonic_text Shr ++ t) (pair_grouped Shr rd rs)) refl (pair_read rd rs v.0 v.1) fits refl
-instruction_read (ILoad rd rs size imm) v fits =
-    read_by (ILoad rd rs size imm) Load (codes " " ⧺ register_text rd ⧺ codes ", " ⧺ size_text size ⧺ codes " at " ⧺ register_text rs ⧺ displacement_text imm) rd rs size imm (ap (λ t. mnemonic_text Load ++ t) (memory_grouped Load rd rs size imm)) refl (memory_read rd rs size imm v.0 v.1 fits) fits refl
-instruction_read (IStore rd rs size imm) v fits =
-    read_by (IStore rd rs size imm) Store (codes " " ⧺ register_text rd ⧺ codes ", " ⧺ size_text size ⧺ codes " at " ⧺ register_text rs ⧺ displacement_text imm) rd rs size imm (ap (λ t. mnemonic_text Store ++ t) (memory_grouped Store rd rs size imm)) refl (memory_read rd rs size imm v.0 v.1 fits) fits refl
-instruction_read (IJmp imm) v fits =
-    read_by (IJmp imm) Jmp (codes " " ⧺ signed_decimal imm) 0 0 One imm refl refl (jump_read imm fits) fits refl
-instruction_read (IJz rd imm) v fits =
-    read_by (IJz rd imm) Jz (codes " " ⧺ register_text rd ⧺ codes ", " ⧺ signed_decimal imm) rd 0 One imm (ap (λ t. mnemonic_text Jz ++ t) (jump_if_grouped Jz rd imm)) refl (jump_if_read rd imm v fits) fits refl
-instruction_read (IJnz rd imm) v fits =
-    read_by (IJnz rd imm) Jnz (codes " " ⧺ register_text rd ⧺ codes ", " ⧺ signed_decimal imm) rd 0 One imm (ap (λ t. mnemonic_text Jnz ++ t) (jump_if_grouped Jnz rd imm)) refl (jump_if_read rd imm v fits) fits refl
-instruction_read (IJb rd rs imm) v fits =
-    read_by (IJb rd rs imm) Jb (codes " " ⧺ register_text rd ⧺ codes ", " ⧺ register_text rs ⧺ codes ", " ⧺ signed_decimal imm) rd rs One imm (ap (λ t. mnemonic_text Jb ++ t) (jump_below_grouped Jb rd rs imm)) refl (jump_below_read rd rs imm v.0 v.1 fits) fits refl
-instruction_read (IIn rd rs size imm) v fits =
-    read_by (IIn rd rs size imm) In (codes " " ⧺ register_text rd ⧺ codes ", " ⧺ size_text size ⧺ codes " at port " ⧺ register_text rs ⧺ displacement_text imm) rd rs size imm (ap (λ t. mnemonic_text In ++ t) (port_read_grouped In rd rs size imm)) refl (port_read_read rd rs size imm v.0.0 v.0.1 v.1 fits) fits refl
-instruction_read (IOut rd rs size imm) v fits =
-    read_by (IOut rd rs size imm) Out (codes " " ⧺ register_text rd ⧺ codes ", " ⧺ size_text size ⧺ codes " to port " ⧺ register_text rs ⧺ displacement_text imm) rd rs size imm (ap (λ t. mnemonic_text Out ++ t) (port_write_grouped Out rd rs size imm)) refl (port_write_read rd rs size imm v.0.0 v.0.1 v.1 fits) fits refl
-instruction_read (IRdmsr rd rs) v fits =
-    read_by (IRdmsr rd rs) Rdmsr (codes " " ⧺ register_text rd ⧺ codes ", " ⧺ register_text rs) rd rs One (pos 0) (ap (λ t. mnemonic_text Rdmsr ++ t) (pair_grouped Rdmsr rd rs)) refl (pair_read rd rs v.0 v.1) fits refl
-instruction_read (IWrmsr rd rs) v fits =
-    read_by (IWrmsr rd rs) Wrmsr (codes " " ⧺ register_text rd ⧺ codes ", " ⧺ register_text rs) rd rs One (pos 0) (ap (λ t. mnemonic_text Wrmsr ++ t) (pair_grouped Wrmsr rd rs)) refl (pair_read rd rs v.0 v.1) fits refl
-instruction_read (IRdtsc rd) v fits =
-    read_by (IRdtsc rd) Rdtsc (codes " " ⧺ register_text rd) rd 0 One (pos 0) refl refl (destination_read rd v) fits refl
-instruction_read (IVmcall rs) v fits =
-    read_by (IVmcall rs) Vmcall (codes " " ⧺ register_text rs) 0 rs One (pos 0) refl refl (source_read rs v) fits refl
-instruction_read IHlt v fits =
-    read_by IHlt Hlt ([]) 0 0 One (pos 0) refl refl alone_read fits refl
-instruction_read ISti v fits =
-    read_by ISti Sti ([]) 0 0 One (pos 0) refl refl alone_read fits refl
-instruction_read ICli v fits =
-    read_by ICli Cli ([]) 0 0 One (pos 0) refl refl alone_read fits refl
-instruction_read (ISetv rs) v fits =
-    read_by (ISetv rs) Setv (codes " " ⧺ register_text rs) 0 rs One (pos 0) refl refl (source_read rs v) fits refl
-instruction_read IReti v fits =
-    read_by IReti Reti ([]) 0 0 One (pos 0) refl refl alone_read fits refl
+instruction_read INop v fits_in_bits =
+    read_by INop Nop ([]) 0 0 One (pos 0) refl refl alone_read fits_in_bits refl
+instruction_read (ILi rd imm) v fits_in_bits =
+    read_by (ILi rd imm) Li (codes " " ⧺ register_text rd ⧺ codes ", " ⧺ signed_decimal imm) rd 0 One imm (ap (λ t. mnemonic_text Li ++ t) (immediate_grouped Li rd imm)) refl (immediate_read rd imm v fits_in_bits) fits_in_bits refl
+instruction_read (ILih rd imm) v fits_in_bits =
+    read_by (ILih rd imm) Lih (codes " " ⧺ register_text rd ⧺ codes ", " ⧺ signed_decimal imm) rd 0 One imm (ap (λ t. mnemonic_text Lih ++ t) (immediate_grouped Lih rd imm)) refl (immediate_read rd imm v fits_in_bits) fits_in_bits refl
+instruction_read (IMov rd rs) v fits_in_bits =
+    read_by (IMov rd rs) Mov (codes " " ⧺ register_text rd ⧺ codes ", " ⧺ register_text rs) rd rs One (pos 0) (ap (λ t. mnemonic_text Mov ++ t) (pair_grouped Mov rd rs)) refl (pair_read rd rs v.0 v.1) fits_in_bits refl
+instruction_read (IAdd rd rs) v fits_in_bits =
+    read_by (IAdd rd rs) Add (codes " " ⧺ register_text rd ⧺ codes ", " ⧺ register_text rs) rd rs One (pos 0) (ap (λ t. mnemonic_text Add ++ t) (pair_grouped Add rd rs)) refl (pair_read rd rs v.0 v.1) fits_in_bits refl
+instruction_read (ISub rd rs) v fits_in_bits =
+    read_by (ISub rd rs) Sub (codes " " ⧺ register_text rd ⧺ codes ", " ⧺ register_text rs) rd rs One (pos 0) (ap (λ t. mnemonic_text Sub ++ t) (pair_grouped Sub rd rs)) refl (pair_read rd rs v.0 v.1) fits_in_bits refl
+instruction_read (IAnd rd rs) v fits_in_bits =
+    read_by (IAnd rd rs) And (codes " " ⧺ register_text rd ⧺ codes ", " ⧺ register_text rs) rd rs One (pos 0) (ap (λ t. mnemonic_text And ++ t) (pair_grouped And rd rs)) refl (pair_read rd rs v.0 v.1) fits_in_bits refl
+instruction_read (IOr rd rs) v fits_in_bits =
+    read_by (IOr rd rs) Or (codes " " ⧺ register_text rd ⧺ codes ", " ⧺ register_text rs) rd rs One (pos 0) (ap (λ t. mnemonic_text Or ++ t) (pair_grouped Or rd rs)) refl (pair_read rd rs v.0 v.1) fits_in_bits refl
+instruction_read (IXor rd rs) v fits_in_bits =
+    read_by (IXor rd rs) Xor (codes " " ⧺ register_text rd ⧺ codes ", " ⧺ register_text rs) rd rs One (pos 0) (ap (λ t. mnemonic_text Xor ++ t) (pair_grouped Xor rd rs)) refl (pair_read rd rs v.0 v.1) fits_in_bits refl
+instruction_read (IShl rd rs) v fits_in_bits =
+    read_by (IShl rd rs) Shl (codes " " ⧺ register_text rd ⧺ codes ", " ⧺ register_text rs) rd rs One (pos 0) (ap (λ t. mnemonic_text Shl ++ t) (pair_grouped Shl rd rs)) refl (pair_read rd rs v.0 v.1) fits_in_bits refl
+instruction_read (IShr rd rs) v fits_in_bits =
+    read_by (IShr rd rs) Shr (codes " " ⧺ register_text rd ⧺ codes ", " ⧺ register_text rs) rd rs One (pos 0) (ap (λ t. mnemonic_text Shr ++ t) (pair_grouped Shr rd rs)) refl (pair_read rd rs v.0 v.1) fits_in_bits refl
+instruction_read (ILoad rd rs size imm) v fits_in_bits =
+    read_by (ILoad rd rs size imm) Load (codes " " ⧺ register_text rd ⧺ codes ", " ⧺ size_text size ⧺ codes " at " ⧺ register_text rs ⧺ displacement_text imm) rd rs size imm (ap (λ t. mnemonic_text Load ++ t) (memory_grouped Load rd rs size imm)) refl (memory_read rd rs size imm v.0 v.1 fits_in_bits) fits_in_bits refl
+instruction_read (IStore rd rs size imm) v fits_in_bits =
+    read_by (IStore rd rs size imm) Store (codes " " ⧺ register_text rd ⧺ codes ", " ⧺ size_text size ⧺ codes " at " ⧺ register_text rs ⧺ displacement_text imm) rd rs size imm (ap (λ t. mnemonic_text Store ++ t) (memory_grouped Store rd rs size imm)) refl (memory_read rd rs size imm v.0 v.1 fits_in_bits) fits_in_bits refl
+instruction_read (IJmp imm) v fits_in_bits =
+    read_by (IJmp imm) Jmp (codes " " ⧺ signed_decimal imm) 0 0 One imm refl refl (jump_read imm fits_in_bits) fits_in_bits refl
+instruction_read (IJz rd imm) v fits_in_bits =
+    read_by (IJz rd imm) Jz (codes " " ⧺ register_text rd ⧺ codes ", " ⧺ signed_decimal imm) rd 0 One imm (ap (λ t. mnemonic_text Jz ++ t) (jump_if_grouped Jz rd imm)) refl (jump_if_read rd imm v fits_in_bits) fits_in_bits refl
+instruction_read (IJnz rd imm) v fits_in_bits =
+    read_by (IJnz rd imm) Jnz (codes " " ⧺ register_text rd ⧺ codes ", " ⧺ signed_decimal imm) rd 0 One imm (ap (λ t. mnemonic_text Jnz ++ t) (jump_if_grouped Jnz rd imm)) refl (jump_if_read rd imm v fits_in_bits) fits_in_bits refl
+instruction_read (IJb rd rs imm) v fits_in_bits =
+    read_by (IJb rd rs imm) Jb (codes " " ⧺ register_text rd ⧺ codes ", " ⧺ register_text rs ⧺ codes ", " ⧺ signed_decimal imm) rd rs One imm (ap (λ t. mnemonic_text Jb ++ t) (jump_below_grouped Jb rd rs imm)) refl (jump_below_read rd rs imm v.0 v.1 fits_in_bits) fits_in_bits refl
+instruction_read (IIn rd rs size imm) v fits_in_bits =
+    read_by (IIn rd rs size imm) In (codes " " ⧺ register_text rd ⧺ codes ", " ⧺ size_text size ⧺ codes " at port " ⧺ register_text rs ⧺ displacement_text imm) rd rs size imm (ap (λ t. mnemonic_text In ++ t) (port_read_grouped In rd rs size imm)) refl (port_read_read rd rs size imm v.0.0 v.0.1 v.1 fits_in_bits) fits_in_bits refl
+instruction_read (IOut rd rs size imm) v fits_in_bits =
+    read_by (IOut rd rs size imm) Out (codes " " ⧺ register_text rd ⧺ codes ", " ⧺ size_text size ⧺ codes " to port " ⧺ register_text rs ⧺ displacement_text imm) rd rs size imm (ap (λ t. mnemonic_text Out ++ t) (port_write_grouped Out rd rs size imm)) refl (port_write_read rd rs size imm v.0.0 v.0.1 v.1 fits_in_bits) fits_in_bits refl
+instruction_read (IRdmsr rd rs) v fits_in_bits =
+    read_by (IRdmsr rd rs) Rdmsr (codes " " ⧺ register_text rd ⧺ codes ", " ⧺ register_text rs) rd rs One (pos 0) (ap (λ t. mnemonic_text Rdmsr ++ t) (pair_grouped Rdmsr rd rs)) refl (pair_read rd rs v.0 v.1) fits_in_bits refl
+instruction_read (IWrmsr rd rs) v fits_in_bits =
+    read_by (IWrmsr rd rs) Wrmsr (codes " " ⧺ register_text rd ⧺ codes ", " ⧺ register_text rs) rd rs One (pos 0) (ap (λ t. mnemonic_text Wrmsr ++ t) (pair_grouped Wrmsr rd rs)) refl (pair_read rd rs v.0 v.1) fits_in_bits refl
+instruction_read (IRdtsc rd) v fits_in_bits =
+    read_by (IRdtsc rd) Rdtsc (codes " " ⧺ register_text rd) rd 0 One (pos 0) refl refl (destination_read rd v) fits_in_bits refl
+instruction_read (IVmcall rs) v fits_in_bits =
+    read_by (IVmcall rs) Vmcall (codes " " ⧺ register_text rs) 0 rs One (pos 0) refl refl (source_read rs v) fits_in_bits refl
+instruction_read IHlt v fits_in_bits =
+    read_by IHlt Hlt ([]) 0 0 One (pos 0) refl refl alone_read fits_in_bits refl
+instruction_read ISti v fits_in_bits =
+    read_by ISti Sti ([]) 0 0 One (pos 0) refl refl alone_read fits_in_bits refl
+instruction_read ICli v fits_in_bits =
+    read_by ICli Cli ([]) 0 0 One (pos 0) refl refl alone_read fits_in_bits refl
+instruction_read (ISetv rs) v fits_in_bits =
+    read_by (ISetv rs) Setv (codes " " ⧺ register_text rs) 0 rs One (pos 0) refl refl (source_read rs v) fits_in_bits refl
+instruction_read IReti v fits_in_bits =
+    read_by IReti Reti ([]) 0 0 One (pos 0) refl refl alone_read fits_in_bits refl

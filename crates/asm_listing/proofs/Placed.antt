@@ -14,8 +14,8 @@ use Rattle.guest_isa.specs.declared.instr.Instr.{Instr}
 use Rattle.guest_isa.specs.declared.instr.Instr.TheVariants.{Nop, Li, Lih, Mov, Add, Sub, And, Or, Xor, Shl, Shr, Load, Store, Jmp, Jz, Jnz, Jb, In, Out, Rdmsr, Wrmsr, Rdtsc, Vmcall, Hlt, Sti, Cli, Setv, Reti}
 use Rattle.text_words.specs.Parts.{lines_of}
 use Rattle.asm_text.specs.Appended.{behind}
-use Rattle.asm_text.specs.Layout.{Names, at_start, in_line, layout_from}
-use Rattle.asm_text.specs.Meaning.{Item, instruction, data_of, zeros, bytes_of_item, immediate_of, instruction_of, item_of, items_of, little_endian, numbers_of, said}
+use Rattle.asm_text.specs.Layout.{SymbolTable, at_start, in_source_line, layout_from}
+use Rattle.asm_text.specs.Meaning.{SourceItem, instruction, data_of, zeros, bytes_of_item, immediate_of, instruction_of, assembled_item_of, items_of, little_endian, numbers_of, source_items}
 use Rattle.asm_text.specs.declared.statement.Placed.{Placed}
 use Rattle.asm_text.specs.declared.statement.Statement.{Statement}
 use Rattle.asm_text.specs.declared.statement.Statement.TheVariants.{Nothing, Definition, Offset, Data, Instruction}
@@ -27,13 +27,13 @@ use Rattle.guest_isa.specs.Words.{IsByte}
 -- ---- items
 
 -- an item that begins here
-abbrev pub IsSeat : ℕ → Item → Type 0
+abbrev pub IsSeat : ℕ → SourceItem → Type 0
 IsSeat here (instruction i) = (here % 8 ≡ 0) × IsSound i
 IsSeat here (data_of size ns) = Unit {0}
 IsSeat here (zeros n) = Unit {0}
 
 -- items one behind another, the first of which begins here
-abbrev pub AreStanding : ℕ → List Item → Type 0
+abbrev pub AreStanding : ℕ → List SourceItem → Type 0
 AreStanding here [] = here ≤ COMPONENT_FILE_MOST
 AreStanding here (item ∷ items) = IsSeat here item × All IsByte (bytes_of_item item) × AreStanding (here + length (bytes_of_item item)) items
 
@@ -101,10 +101,10 @@ encoding_low Reti v = fields_low 27 0 0 0 (pos 0) (omega arith) zero_low zero_lo
 -- ---- what statements come to
 
 -- an item that begins here and ends there
-abbrev IsPlaced : ℕ → ℕ → Item → Type 0
+abbrev IsPlaced : ℕ → ℕ → SourceItem → Type 0
 IsPlaced here to item = IsSeat here item × All IsByte (bytes_of_item item) × (here + length (bytes_of_item item) ≡ to)
 
-item_placed : (names : Names) (here : ℕ) (statement : Statement) → IsPassed here statement → Holds (IsPlaced here (behind here statement)) (item_of names here statement)
+item_placed : (names : SymbolTable) (here : ℕ) (statement : Statement) → IsPassed here statement → Holds (IsPlaced here (behind here statement)) (assembled_item_of names here statement)
 item_placed names here Nothing h = (tt, All-nil IsByte, omega arith)
 item_placed names here (Definition left name number) h = (tt, All-nil IsByte, omega arith)
 item_placed names here (Offset left offset) h =
@@ -119,21 +119,21 @@ item_placed names here (Instruction o) h =
     let sound = sound_with o.mnemonic o.operands.rd o.operands.rs o.operands.size z h.1.rd h.1.rs h.1.size fits in
     ((h.0, sound), encoding_low (instruction_of o z) sound.valid, ap (λ n. here + n) (encoding_long (instruction_of o z)))
 
-pub items_standing : (names : Names) (lines : List Placed) (here : ℕ) → AreSeated here lines → Holds (AreStanding here) (items_of names lines)
+pub items_standing : (names : SymbolTable) (lines : List Placed) (here : ℕ) → AreSeated here lines → Holds (AreStanding here) (items_of names lines)
 unfolding items_of
 items_standing names [] here h = h
 items_standing names (line ∷ lines) here h =
     let to = behind here line.statement in
-    let item = item_of names line.here line.statement in
-    let placed : Holds (IsPlaced here to) item = subst (λ n. Holds (IsPlaced here to) (item_of names n line.statement)) (sym h.0) (item_placed names here line.statement h.1) in
-    holds_then (IsPlaced here to) (AreStanding here) (in_line line.number line.end item) _ (in_line_holds (IsPlaced here to) line.number line.end item placed) λ x p.
+    let item = assembled_item_of names line.here line.statement in
+    let placed : Holds (IsPlaced here to) item = subst (λ n. Holds (IsPlaced here to) (assembled_item_of names n line.statement)) (sym h.0) (item_placed names here line.statement h.1) in
+    holds_then (IsPlaced here to) (AreStanding here) (in_source_line line.number line.end item) _ (in_line_holds (IsPlaced here to) line.number line.end item placed) λ x p.
     holds_then (AreStanding to) (AreStanding here) (items_of names lines) _ (items_standing names lines to h.2) λ xs rest.
     (p.0, p.1, subst (λ n. AreStanding n xs) (sym p.2) rest)
 
 -- ---- a source
 
-pub said_standing : (text : List ℕ) → Holds (AreStanding 0) (said text)
-unfolding said
+pub said_standing : (text : List ℕ) → Holds (AreStanding 0) (source_items text)
+unfolding source_items
 said_standing text =
     let room : 0 ≤ COMPONENT_FILE_MOST = omega arith in
     holds_then (AreSeatedIn 0) (AreStanding 0) (layout_from at_start 1 (lines_of text)) _ (layout_seated (lines_of text) at_start 1 room) λ layout seated.

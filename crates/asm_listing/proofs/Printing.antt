@@ -5,7 +5,7 @@ use Rattle.std.specs.List.{enumerate_from, flat_map}
 use Rattle.std.proofs.lemmas.Bool.{cases_lt, false≢true, true≢false}
 use Rattle.muen_outside.specs.Buffered.{Given, Lost, OutState}
 use Rattle.muen_outside.proofs.Buffered.{given_none, given_then, lost_after, lost_first}
-use Rattle.asm_listing.specs.Listing.{line_at, listing_line, listing_of}
+use Rattle.asm_listing.specs.Listing.{listing_line_at, listing_line, listing_of}
 use Rattle.asm_listing.specs.Source.{chunk_text, chunks_of, source_of}
 use Rattle.asm_listing.proofs.Chunks.{first_chunk, no_chunk, one_chunk}
 
@@ -92,7 +92,7 @@ source_end (b ∷ rest) h = absurd (omega arith)
 
 -- from the chunk of this number on
 pub listing_from : ℕ → ℕ → List ℕ → List ℕ
-listing_from base number rest = flat_map (line_at base) (enumerate_from number (chunks_of rest))
+listing_from base number rest = flat_map (listing_line_at base) (enumerate_from number (chunks_of rest))
 
 -- the line at this address is the next
 pub record IsListing (base address : ℕ) (bytes rest : List ℕ) (s t : OutState) : Type 0 where
@@ -107,7 +107,7 @@ listing_none base bytes s h = record { number = 0; at = omega arith; printing = 
 listing_next : (base number : ℕ) (rest : List ℕ) (n : ℕ) → 0 < length rest → n ≡ min (length rest) 8
     → listing_from base number rest ≡ listing_line ((base + 8 * number) % 2 ^ 64) (take n rest) ++ listing_from base (number + 1) (drop n rest)
 unfolding listing_from
-listing_next base number rest n some e = ap (λ cs. flat_map (line_at base) (enumerate_from number cs)) (next_chunk rest n some e)
+listing_next base number rest n some e = ap (λ cs. flat_map (listing_line_at base) (enumerate_from number cs)) (next_chunk rest n some e)
 
 pub listing_more : (base address : ℕ) (bytes rest : List ℕ) (n next : ℕ) (s t u : OutState) → 0 < length rest → n ≡ min (length rest) 8 → next ≡ (address + 8) % 2 ^ 64
     → IsListing base address bytes rest s t → Given (listing_line address (take n rest)) t u → IsListing base next bytes (drop n rest) s u
@@ -125,7 +125,7 @@ listing_more base address bytes rest n next s t u some e following p q =
 pub listing_all : (base address : ℕ) (bytes rest : List ℕ) (s t : OutState) → length rest ≡ 0 → IsListing base address bytes rest s t → Given (listing_of base bytes) s t
 unfolding listing_from
 listing_all base address bytes [] s t h p =
-    printing_all (listing_of base bytes) (listing_from base p.number []) s t (ap (λ cs. flat_map (line_at base) (enumerate_from p.number cs)) no_chunk) p.printing
+    printing_all (listing_of base bytes) (listing_from base p.number []) s t (ap (λ cs. flat_map (listing_line_at base) (enumerate_from p.number cs)) no_chunk) p.printing
 listing_all base address bytes (b ∷ rest) s t h p = absurd (omega arith)
 
 pub listing_lost : (base address : ℕ) (bytes rest : List ℕ) (n : ℕ) (s t u : OutState) → 0 < length rest → n ≡ min (length rest) 8

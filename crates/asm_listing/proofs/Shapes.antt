@@ -7,9 +7,9 @@ use Rattle.muen_num.specs.declared.access.AccessSize.{AccessSize}
 use Rattle.muen_num.specs.declared.access.AccessSize.TheVariants.{One, Two, Four, Eight}
 use Rattle.guest_isa.specs.GuestIsa.{IsSmall}
 use Rattle.text_words.specs.Steps.{◌>>=◌, ◌>>◌}
-use Rattle.asm_text.specs.Layout.{Names}
+use Rattle.asm_text.specs.Layout.{SymbolTable}
 use Rattle.asm_text.specs.Meaning.{sum_of}
-use Rattle.asm_text.specs.Reading.{below_jump, comma, immediate, keyword, left_of, memory, no_value, operands, operands_of, pair, place, port, register, size, small, value}
+use Rattle.asm_text.specs.Reading.{below_jump, comma, immediate, keyword, line_bytes_left, memory, no_value, operands, operands_of, pair, place, port, register_token, size, small, value}
 use Rattle.asm_text.specs.Tokens.{Tokens, end_with, token, tokens_of}
 use Rattle.asm_text.specs.declared.fault.LineError.{LineError}
 use Rattle.asm_text.specs.declared.fault.Want.{Want}
@@ -26,7 +26,7 @@ use Rattle.asm_listing.proofs.Words.{◌⧺◌, last_word, register_word}
 pub record OperandsRead (shape : Shape) (ts : Tokens) (rd rs : ℕ) (access : AccessSize) (imm : ℤ) : Type 0 where
   pub read : Value
   pub is : operands_of shape ts ≡ Ok (operands rd rs access read, end_with 0)
-  pub sum : (names : Names) → sum_of names read.terms ≡ Ok (record { number = imm; labels = pos 0 })
+  pub sum : (names : SymbolTable) → sum_of names read.terms ≡ Ok (record { number = imm; labels = pos 0 })
   pub unmarked : IsUnmarked ts
 
 -- ---- tokens
@@ -60,7 +60,7 @@ size_left access rest = length (size_text access ⧺ rest)
 
 module _ {B : Type 0} (f : ℕ × Tokens → Result B LineError) (y : Result B LineError) where
   behind_comma : (left at r : ℕ) (more : Tokens) → r < 16 → f (r, more) ≡ y
-      → (register (token left (register_text r) (token at (codes ",") more)) >>= λ x. comma x.1 >>= λ ts. f (x.0, ts)) ≡ y
+      → (register_token (token left (register_text r) (token at (codes ",") more)) >>= λ x. comma x.1 >>= λ ts. f (x.0, ts)) ≡ y
   unfolding keyword
   behind_comma left at r more h e =
       ap (λ (x : Result (ℕ × Tokens) LineError). x >>= λ x. comma x.1 >>= λ ts. f (x.0, ts)) (register_read left r (token at (codes ",") more) h) ∙ e
@@ -104,7 +104,7 @@ unfolding operands_of
 jump_if_read rd imm h fits = immediate_at JumpIf (λ ts. refl) rd imm h fits
 
 abbrev with_source : ℕ × Tokens → Result (ℕ × ℕ × Tokens) LineError
-with_source x = register x.1 >>= λ y. Ok (x.0, y.0, y.1)
+with_source x = register_token x.1 >>= λ y. Ok (x.0, y.0, y.1)
 
 pair_is : (left at behind rd rs : ℕ) (more : Tokens) → rd < 16 → rs < 16
     → pair (token left (register_text rd) (token at (codes ",") (token behind (register_text rs) more))) ≡ Ok (rd, rs, more)
@@ -260,7 +260,7 @@ abbrev at_port : ℕ → AccessSize → Tokens → Result (Operands × Tokens) L
 at_port rd access ts = keyword (codes "port") PortWant ts >>= with_place rd access
 
 abbrev with_port : List ℕ → Want → ℕ × Tokens → Result (Operands × Tokens) LineError
-with_port text want x = size x.1 >>= λ n. small (left_of x.1) n.0 >> (keyword text want n.1 >>= at_port x.0 n.0)
+with_port text want x = size x.1 >>= λ n. small (line_bytes_left x.1) n.0 >> (keyword text want n.1 >>= at_port x.0 n.0)
 
 module _ (word : List ℕ) (want : Want) (left at rd rs : ℕ) (access : AccessSize) (text : List ℕ) (read : Value) (h : rd < 16) (few : IsSmall access) (e : place (tokens_of text) ≡ Ok (rs, read, end_with 0)) where
   port_is : (rest : List ℕ) → (keyword word want (tokens_of rest) >>= at_port rd access) ≡ at_port rd access (tokens_of (codes "port " ⧺ text))
@@ -269,8 +269,8 @@ module _ (word : List ℕ) (want : Want) (left at rd rs : ℕ) (access : AccessS
   port_is rest k =
       let behind = tokens_of (size_text access ⧺ 32 ∷ rest) in
       behind_comma (with_port word want) (Ok (operands rd rs access read, end_with 0)) left at rd behind h
-      (size_read (λ n. small (left_of behind) n.0 >> (keyword word want n.1 >>= at_port rd n.0)) access rest
-      ∙ small_passed (left_of behind) access (keyword word want (tokens_of rest) >>= at_port rd access) few
+      (size_read (λ n. small (line_bytes_left behind) n.0 >> (keyword word want n.1 >>= at_port rd n.0)) access rest
+      ∙ small_passed (line_bytes_left behind) access (keyword word want (tokens_of rest) >>= at_port rd access) few
       ∙ k
       ∙ port_read (with_place rd access) text
       ∙ place_last rd rs access (tokens_of text) read e)

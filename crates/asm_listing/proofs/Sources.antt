@@ -13,9 +13,9 @@ use Rattle.guest_isa.specs.declared.instr.Instr.{Instr}
 use Rattle.text_words.specs.Parts.{lines_of, parts_of, without_empty_end}
 use Rattle.text_words.specs.Steps.{◌>>=◌}
 use Rattle.text_words.proofs.Cuts.{more_parts}
-use Rattle.asm_text.specs.Layout.{Layout, Names, Standing, after_line, in_line, layout_from, line_at, moved, stated, with_line}
-use Rattle.asm_text.specs.Meaning.{Item, instruction, data_of, bytes_of_item, bytes_of_items, item_of, items_of, little_endian, said}
-use Rattle.asm_text.specs.Reading.{line_of, wanted}
+use Rattle.asm_text.specs.Layout.{Layout, SymbolTable, LayoutState, after_line, in_source_line, layout_from, source_line_at, continued_at, stated, with_line}
+use Rattle.asm_text.specs.Meaning.{SourceItem, instruction, data_of, bytes_of_item, bytes_of_items, assembled_item_of, items_of, little_endian, source_items}
+use Rattle.asm_text.specs.Reading.{source_line_of, wanted}
 use Rattle.asm_text.specs.Tokens.{tokens_of}
 use Rattle.asm_text.specs.declared.fault.LineError.{LineError}
 use Rattle.asm_text.specs.declared.fault.SourceFault.{SourceFault}
@@ -35,26 +35,26 @@ use Rattle.guest_isa.specs.Words.{IsByte}
 
 -- ---- what the line of a chunk says
 
-abbrev pub item_by : List ℕ → Option Instr → Item
+abbrev pub item_by : List ℕ → Option Instr → SourceItem
 item_by chunk (Some i) = instruction i
 item_by chunk None = data_of One chunk
 
-abbrev pub chunk_item : List ℕ → Item
+abbrev pub chunk_item : List ℕ → SourceItem
 chunk_item chunk = item_by chunk (instruction_in chunk)
 
-abbrev standing : ℕ → Names → Standing
+abbrev standing : ℕ → SymbolTable → LayoutState
 standing here names = record { here = here; names = names }
 
 -- the line of a chunk that spells this instruction, or none
 record IsRead (chunk : List ℕ) (o : Option Instr) : Type 0 where
   statement : Statement
-  line : line_of (tokens_of (text_by chunk o)) ≡ Ok (as_line statement)
-  moves : (here : ℕ) (names : Names) → here % 8 ≡ 0 → here + length chunk ≤ COMPONENT_FILE_MOST → stated statement (standing here names) ≡ Ok (standing (here + length chunk) names)
-  item : (names : Names) (here : ℕ) → item_of names here statement ≡ Ok (item_by chunk o)
+  line : source_line_of (tokens_of (text_by chunk o)) ≡ Ok (as_line statement)
+  moves : (here : ℕ) (names : SymbolTable) → here % 8 ≡ 0 → here + length chunk ≤ COMPONENT_FILE_MOST → stated statement (standing here names) ≡ Ok (standing (here + length chunk) names)
+  item : (names : SymbolTable) (here : ℕ) → assembled_item_of names here statement ≡ Ok (item_by chunk o)
   seen : Seen (text_by chunk o)
   bytes : bytes_of_item (item_by chunk o) ≡ chunk
 
-moves_on : (left to here : ℕ) (names : Names) → to ≤ COMPONENT_FILE_MOST → moved left to (standing here names) ≡ Ok (standing to names)
+moves_on : (left to here : ℕ) (names : SymbolTable) → to ≤ COMPONENT_FILE_MOST → continued_at left to (standing here names) ≡ Ok (standing to names)
 moves_on left to here names h = ap (λ b. if b then wanted left Room else Ok (standing to names)) (le-ltb COMPONENT_FILE_MOST to h)
 
 data_bytes : (bs : List ℕ) → All IsByte bs → flat_map (little_endian One) bs ≡ bs
@@ -73,7 +73,7 @@ module _ (chunk : List ℕ) (some : 0 < length chunk) (all : All IsByte chunk) w
         line = d.line;
         moves = λ here names aligned room.
             let same : here + length d.read * 1 ≡ here + length chunk = omega (arith, d.many) in
-            ap (λ to. moved d.left to (standing here names)) same ∙ moves_on d.left (here + length chunk) here names room;
+            ap (λ to. continued_at d.left to (standing here names)) same ∙ moves_on d.left (here + length chunk) here names room;
         item = λ names here. ap (λ (r : Result (List ℕ) LineError). r >>= λ ns. Ok (data_of One ns)) (d.numbers names);
         seen = data_seen chunk all;
         bytes = data_bytes chunk all;
@@ -88,8 +88,8 @@ module _ (chunk : List ℕ) (some : 0 < length chunk) (all : All IsByte chunk) w
         line = r.line;
         moves = λ here names aligned room.
             let same : here + 8 ≡ here + length chunk = omega arith in
-            ap (λ b. if b then moved r.operation.left (here + 8) (standing here names) else wanted r.operation.left Aligned) (eq-eqb (here % 8) 0 aligned)
-            ∙ ap (λ to. moved r.operation.left to (standing here names)) same
+            ap (λ b. if b then continued_at r.operation.left (here + 8) (standing here names) else wanted r.operation.left Aligned) (eq-eqb (here % 8) 0 aligned)
+            ∙ ap (λ to. continued_at r.operation.left to (standing here names)) same
             ∙ moves_on r.operation.left (here + length chunk) here names room;
         item = r.item;
         seen = instruction_seen i h.valid h.fits;
@@ -160,22 +160,22 @@ lines_printed = chunks_by (λ bytes. All IsByte bytes → lines_of (flat_map lin
 record AreLaid (here n : ℕ) (chunks : List (List ℕ)) : Type 0 where
   layout : Layout
   laid : layout_from (standing here []) n (map chunk_text chunks) ≡ Ok layout
-  items : (names : Names) → items_of names layout.lines ≡ Ok (map chunk_item chunks)
+  items : (names : SymbolTable) → items_of names layout.lines ≡ Ok (map chunk_item chunks)
 
 none_laid : (here n : ℕ) → AreLaid here n []
 unfolding layout_from items_of
 none_laid here n = record { layout = record { lines = []; names = [] }; laid = refl; items = λ names. refl }
 
-abbrev placed_with : ℕ → ℕ → ℕ → Statement → Standing → Result (Placed × Standing) SourceFault
+abbrev placed_with : ℕ → ℕ → ℕ → Statement → LayoutState → Result (Placed × LayoutState) SourceFault
 placed_with n end here statement next = Ok (record { number = n; end = end; here = here; statement = statement }, next)
 
 line_laid : (here n : ℕ) (chunk : List ℕ) (r : IsRead chunk (instruction_in chunk)) → here % 8 ≡ 0 → here + length chunk ≤ COMPONENT_FILE_MOST
-    → line_at (standing here []) n (chunk_text chunk) ≡ Ok (record { number = n; end = length (chunk_text chunk) + 1; here = here; statement = r.statement }, standing (here + length chunk) [])
-unfolding line_at
+    → source_line_at (standing here []) n (chunk_text chunk) ≡ Ok (record { number = n; end = length (chunk_text chunk) + 1; here = here; statement = r.statement }, standing (here + length chunk) [])
+unfolding source_line_at
 line_laid here n chunk r aligned room =
     let end = length (chunk_text chunk) + 1 in
-    ap (λ (line : Result SourceLine LineError). in_line n end line >>= λ line. in_line n end (after_line line (standing here [])) >>= λ next. placed_with n end here line.statement next) r.line
-    ∙ ap (λ (next : Result Standing LineError). in_line n end next >>= λ next. placed_with n end here r.statement next) (r.moves here [] aligned room)
+    ap (λ (line : Result SourceLine LineError). in_source_line n end line >>= λ line. in_source_line n end (after_line line (standing here [])) >>= λ next. placed_with n end here line.statement next) r.line
+    ∙ ap (λ (next : Result LayoutState LineError). in_source_line n end next >>= λ next. placed_with n end here r.statement next) (r.moves here [] aligned room)
 
 more_laid : (here n : ℕ) (chunk : List ℕ) (chunks : List (List ℕ)) → IsRead chunk (instruction_in chunk) → here % 8 ≡ 0 → here + length chunk ≤ COMPONENT_FILE_MOST
     → AreLaid (here + length chunk) (n + 1) chunks → AreLaid here n (chunk ∷ chunks)
@@ -186,11 +186,11 @@ more_laid here n chunk chunks r aligned room rest =
     record {
       layout = with_line placed rest.layout;
       laid =
-          ap (λ (line : Result (Placed × Standing) SourceFault). line >>= λ x. layout_from x.1 (n + 1) (map chunk_text chunks) >>= λ more. Ok (with_line x.0 more)) (line_laid here n chunk r aligned room)
+          ap (λ (line : Result (Placed × LayoutState) SourceFault). line >>= λ x. layout_from x.1 (n + 1) (map chunk_text chunks) >>= λ more. Ok (with_line x.0 more)) (line_laid here n chunk r aligned room)
           ∙ ap (λ (more : Result Layout SourceFault). more >>= λ more. Ok (with_line placed more)) rest.laid;
       items = λ names.
-          ap (λ (item : Result Item LineError). in_line n end item >>= λ item. items_of names rest.layout.lines >>= λ items. Ok (item ∷ items)) (r.item names here)
-          ∙ ap (λ (items : Result (List Item) SourceFault). items >>= λ items. Ok (chunk_item chunk ∷ items)) (rest.items names);
+          ap (λ (item : Result SourceItem LineError). in_source_line n end item >>= λ item. items_of names rest.layout.lines >>= λ items. Ok (item ∷ items)) (r.item names here)
+          ∙ ap (λ (items : Result (List SourceItem) SourceFault). items >>= λ items. Ok (chunk_item chunk ∷ items)) (rest.items names);
     }
 
 abbrev WillBeLaid : List ℕ → Type 0
@@ -218,8 +218,8 @@ all_laid = chunks_by WillBeLaid none fewer full
 
 -- ---- the source
 
-pub source_says : (bytes : List ℕ) → AreBytes bytes → said (source_of bytes) ≡ Ok (map chunk_item (chunks_of bytes))
-unfolding said source_of
+pub source_says : (bytes : List ℕ) → AreBytes bytes → source_items (source_of bytes) ≡ Ok (map chunk_item (chunks_of bytes))
+unfolding source_items source_of
 source_says bytes h =
     let room : 0 + length bytes ≤ COMPONENT_FILE_MOST = omega (arith, h.many) in
     let laid = all_laid bytes 0 1 refl room h.each in
@@ -246,5 +246,5 @@ bytes_back = chunks_by (λ bytes. All IsByte bytes → bytes_of_items (map chunk
 
 pub sources_assemble : SourcesAssemble
 sources_assemble bytes h =
-    ap (λ (r : Result (List Item) SourceFault). r >>= λ items. Ok (bytes_of_items items)) (source_says bytes h)
+    ap (λ (r : Result (List SourceItem) SourceFault). r >>= λ items. Ok (bytes_of_items items)) (source_says bytes h)
     ∙ ap (λ (bs : List ℕ). Ok bs) (bytes_back bytes h.each)

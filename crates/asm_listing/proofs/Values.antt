@@ -7,10 +7,10 @@ use Rattle.std.specs.Str.{bytes_eq}
 use Rattle.std.proofs.lemmas.Int.{ints}
 use Rattle.std.proofs.Math.Bool.{and-false}
 use Rattle.text_words.specs.Steps.{◌>>=◌}
-use Rattle.asm_text.specs.Layout.{Names}
+use Rattle.asm_text.specs.Layout.{SymbolTable}
 use Rattle.asm_text.specs.Meaning.{sum_of}
-use Rattle.asm_text.specs.Reading.{atom_of, displacement, found, place, register, sign_of, signed_terms, terms, terms_behind, value, with_signed_term, with_term}
-use Rattle.asm_text.specs.Tokens.{Tokens, end_with, token, begins_comment, goes_on, is_blank, is_mark, tokens_of, with_byte}
+use Rattle.asm_text.specs.Reading.{atom_of, displacement, found, place, register_token, sign_of, signed_terms, terms, terms_behind, value, with_signed_term, with_term}
+use Rattle.asm_text.specs.Tokens.{Tokens, end_with, token, begins_comment, word_goes_on, is_blank, is_mark, tokens_of, with_token_byte}
 use Rattle.asm_text.specs.declared.fault.LineError.{LineError}
 use Rattle.asm_text.specs.declared.fault.Want.TheVariants.{Register}
 use Rattle.asm_text.specs.declared.statement.Atom.TheVariants.{Number as NumberAtom}
@@ -70,7 +70,7 @@ minus_value left at word n more atom last =
 
 -- the sum of this one number
 abbrev pub sum_is : List Term → ℤ → Type 0
-sum_is terms z = (names : Names) → sum_of names terms ≡ Ok (record { number = z; labels = pos 0 })
+sum_is terms z = (names : SymbolTable) → sum_of names terms ≡ Ok (record { number = z; labels = pos 0 })
 
 pub plus_sum : (left n : ℕ) → sum_is (number_term left false n ∷ []) (pos n)
 unfolding sum_of
@@ -88,15 +88,15 @@ minus_sum left n names =
 pub record ValueRead (ts : Tokens) (z : ℤ) : Type 0 where
   pub read : Value
   pub is : value ts ≡ Ok (read, end_with 0)
-  pub sum : (names : Names) → sum_of names read.terms ≡ Ok (record { number = z; labels = pos 0 })
+  pub sum : (names : SymbolTable) → sum_of names read.terms ≡ Ok (record { number = z; labels = pos 0 })
   pub unmarked : IsUnmarked ts
 
 -- `-` is no part of a word
 after_minus : (rest : List ℕ) → tokens_of (45 ∷ rest) ≡ token (length (45 ∷ rest)) (codes "-") (tokens_of rest)
 unfolding tokens_of
 after_minus rest =
-    let e : (goes_on rest && false) ≡ false = and-false (goes_on rest) in
-    λ i. if e i then with_byte (length (45 ∷ rest)) 45 (tokens_of rest) else token (length (45 ∷ rest)) (45 ∷ []) (tokens_of rest)
+    let e : (word_goes_on rest && false) ≡ false = and-false (word_goes_on rest) in
+    λ i. if e i then with_token_byte (length (45 ∷ rest)) 45 (tokens_of rest) else token (length (45 ∷ rest)) (45 ∷ []) (tokens_of rest)
 
 pub small : (z : ℤ) → FitsSigned w32 z → (n : ℕ) → z ≡ pos n → n < 2 ^ 64
 small z h n e = omega (arith, ints, h, e)
@@ -131,7 +131,7 @@ signed_read (negsuc n) h =
 pub record DisplacementRead (ts : Tokens) (z : ℤ) : Type 0 where
   pub read : Value
   pub is : displacement ts ≡ Ok (read, end_with 0)
-  pub sum : (names : Names) → sum_of names read.terms ≡ Ok (record { number = z; labels = pos 0 })
+  pub sum : (names : SymbolTable) → sum_of names read.terms ≡ Ok (record { number = z; labels = pos 0 })
 
 no_displacement : DisplacementRead (end_with 0) (pos 0)
 unfolding displacement signed_terms sum_of
@@ -176,18 +176,18 @@ displacement_read (negsuc n) h =
       sum = minus_sum (length digits) n;
     })
 
-displacement_parts : (z : ℤ) → goes_on (displacement_text z) ≡ false
+displacement_parts : (z : ℤ) → word_goes_on (displacement_text z) ≡ false
 displacement_parts (pos zero) = refl
 displacement_parts (pos (suc n)) = refl
 displacement_parts (negsuc n) = refl
 
 -- ---- registers
 
-pub register_read : (left r : ℕ) (more : Tokens) → r < 16 → register (token left (register_text r) more) ≡ Ok (r, more)
-unfolding register
+pub register_read : (left r : ℕ) (more : Tokens) → r < 16 → register_token (token left (register_text r) more) ≡ Ok (r, more)
+unfolding register_token
 register_read left r more h = ap (found left Register more) (register_reads r h)
 
-pub register_parted : (r : ℕ) (rest : List ℕ) → r < 16 → goes_on rest ≡ false
+pub register_parted : (r : ℕ) (rest : List ℕ) → r < 16 → word_goes_on rest ≡ false
     → tokens_of (register_text r ++ rest) ≡ token (length (register_text r ++ rest)) (register_text r) (tokens_of rest)
 register_parted r rest h ends = word_parted (register_text r) rest (register_word r h) ends
 
@@ -195,7 +195,7 @@ register_parted r rest h ends = word_parted (register_text r) rest (register_wor
 pub record PlaceRead (ts : Tokens) (r : ℕ) (z : ℤ) : Type 0 where
   pub read : Value
   pub is : place ts ≡ Ok (r, read, end_with 0)
-  pub sum : (names : Names) → sum_of names read.terms ≡ Ok (record { number = z; labels = pos 0 })
+  pub sum : (names : SymbolTable) → sum_of names read.terms ≡ Ok (record { number = z; labels = pos 0 })
 
 abbrev with_displacement : ℕ × Tokens → Result (ℕ × Value × Tokens) LineError
 with_displacement x = displacement x.1 >>= λ y. Ok (x.0, y.0, y.1)

@@ -15,8 +15,8 @@ use Rattle.hex.specs.Hex.{encode_lower, encode_with}
 use Rattle.text_words.specs.Groups.{before_mark, behind_mark, groups_of, number_of_groups}
 use Rattle.text_words.specs.declared.number.NumberError.{NumberError}
 use Rattle.asm_text.specs.Reading.{atom_of, sign_of}
-use Rattle.asm_text.specs.Tokens.{end_with, token, begins_comment, goes_on, is_blank, is_mark, is_word_byte, tokens_of, with_byte}
-use Rattle.asm_text.specs.Words.{behind, below, by_mark, number_in, register_of, symbol_of}
+use Rattle.asm_text.specs.Tokens.{end_with, token, begins_comment, word_goes_on, is_blank, is_mark, is_word_byte, tokens_of, with_token_byte}
+use Rattle.asm_text.specs.Words.{behind, if_below, by_mark, number_in, register_of, symbol_of}
 use Rattle.asm_text.specs.declared.statement.Atom.TheVariants.{Number as NumberAtom, Name as NameAtom}
 use Rattle.asm_listing.specs.Source.{byte_text, register_text}
 use Rattle.text_words.proofs.Numerals.{decimal_read, digits_alone, first_digit}
@@ -48,25 +48,25 @@ parted false true comment h = absurd (false≢true h)
 parted false false true h = absurd (false≢true h)
 parted false false false h = (refl, refl, refl)
 
-last_byte : (c : ℕ) (rest : List ℕ) → is_word_byte c ≡ true → goes_on rest ≡ false → tokens_of (c ∷ rest) ≡ token (length (c ∷ rest)) (c ∷ []) (tokens_of rest)
+last_byte : (c : ℕ) (rest : List ℕ) → is_word_byte c ≡ true → word_goes_on rest ≡ false → tokens_of (c ∷ rest) ≡ token (length (c ∷ rest)) (c ∷ []) (tokens_of rest)
 unfolding tokens_of
 last_byte c rest word ends =
     let p = parted (is_blank c) (is_mark c) (begins_comment c) word in
     λ i.
     if p.2 i then end_with (length (c ∷ rest))
     else if p.0 i then tokens_of rest
-    else if ends i && not (p.1 i) then with_byte (length (c ∷ rest)) c (tokens_of rest)
+    else if ends i && not (p.1 i) then with_token_byte (length (c ∷ rest)) c (tokens_of rest)
     else token (length (c ∷ rest)) (c ∷ []) (tokens_of rest)
 
 next_byte : (c d : ℕ) (rest : List ℕ) → is_word_byte c ≡ true → is_word_byte d ≡ true
-    → tokens_of (c ∷ d ∷ rest) ≡ with_byte (length (c ∷ d ∷ rest)) c (tokens_of (d ∷ rest))
+    → tokens_of (c ∷ d ∷ rest) ≡ with_token_byte (length (c ∷ d ∷ rest)) c (tokens_of (d ∷ rest))
 unfolding tokens_of
 next_byte c d rest word goes =
     let p = parted (is_blank c) (is_mark c) (begins_comment c) word in
     λ i.
     if p.2 i then end_with (length (c ∷ d ∷ rest))
     else if p.0 i then tokens_of (d ∷ rest)
-    else if goes i && not (p.1 i) then with_byte (length (c ∷ d ∷ rest)) c (tokens_of (d ∷ rest))
+    else if goes i && not (p.1 i) then with_token_byte (length (c ∷ d ∷ rest)) c (tokens_of (d ∷ rest))
     else token (length (c ∷ d ∷ rest)) (c ∷ []) (tokens_of (d ∷ rest))
 
 -- a word has a byte, and all its bytes are those of words
@@ -74,16 +74,16 @@ pub record IsWord (word : List ℕ) : Type 0 where
   pub some : 0 < length word
   pub bytes : list_all is_word_byte word ≡ true
 
-bytes_parted : (c : ℕ) (cs rest : List ℕ) → list_all is_word_byte (c ∷ cs) ≡ true → goes_on rest ≡ false
+bytes_parted : (c : ℕ) (cs rest : List ℕ) → list_all is_word_byte (c ∷ cs) ≡ true → word_goes_on rest ≡ false
     → tokens_of (c ∷ cs ++ rest) ≡ token (length (c ∷ cs ++ rest)) (c ∷ cs) (tokens_of rest)
 bytes_parted c [] rest h ends = last_byte c rest (and_parts (is_word_byte c) true h).0 ends
 bytes_parted c (d ∷ cs) rest h ends =
     let a = and_parts (is_word_byte c) (list_all is_word_byte (d ∷ cs)) h in
     let b = and_parts (is_word_byte d) (list_all is_word_byte cs) a.1 in
-    next_byte c d (cs ++ rest) a.0 b.0 ∙ ap (with_byte (length (c ∷ d ∷ cs ++ rest)) c) (bytes_parted d cs rest a.1 ends)
+    next_byte c d (cs ++ rest) a.0 b.0 ∙ ap (with_token_byte (length (c ∷ d ∷ cs ++ rest)) c) (bytes_parted d cs rest a.1 ends)
 
 -- a word at the head is the first token, where what follows is none of its bytes
-pub word_parted : (word rest : List ℕ) → IsWord word → goes_on rest ≡ false → tokens_of (word ++ rest) ≡ token (length (word ++ rest)) word (tokens_of rest)
+pub word_parted : (word rest : List ℕ) → IsWord word → word_goes_on rest ≡ false → tokens_of (word ++ rest) ≡ token (length (word ++ rest)) word (tokens_of rest)
 word_parted [] rest h ends = absurd (omega (arith, h.some))
 word_parted (c ∷ cs) rest h ends = bytes_parted c cs rest h.bytes ends
 
@@ -138,7 +138,7 @@ register_word r h =
 
 pub register_reads : (r : ℕ) → r < 16 → register_of (register_text r) ≡ Some r
 register_reads r h =
-    ap (λ (x : Result ℕ NumberError). option_and_then (below 16) (result_ok x)) (decimal_read r (omega arith)) ∙ ap (λ b. if b then Some r else None) (lt-ltb r 16 h)
+    ap (λ (x : Result ℕ NumberError). option_and_then (if_below 16) (result_ok x)) (decimal_read r (omega arith)) ∙ ap (λ b. if b then Some r else None) (lt-ltb r 16 h)
 
 -- ---- bytes in hexadecimal digits
 

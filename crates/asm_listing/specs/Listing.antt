@@ -13,8 +13,8 @@ unfoldable pub listing_line : ℕ → List ℕ → List ℕ
 listing_line address chunk = hex16 address ++ codes "  " ++ digits_text chunk ++ codes "  " ++ chunk_text chunk ++ codes "\n"
 
 -- the line of the chunk with this number, where the first chunk has the address `base`; addresses wrap at 2^64
-abbrev pub line_at : ℕ → ℕ × List ℕ → List ℕ
-line_at base (number, chunk) = listing_line ((base + 8 * number) % 2 ^ 64) chunk
+abbrev pub listing_line_at : ℕ → ℕ × List ℕ → List ℕ
+listing_line_at base (number, chunk) = listing_line ((base + 8 * number) % 2 ^ 64) chunk
 
 unfoldable pub listing_of : ℕ → List ℕ → List ℕ
-listing_of base bytes = flat_map (line_at base) (enumerate_from 0 (chunks_of bytes))
+listing_of base bytes = flat_map (listing_line_at base) (enumerate_from 0 (chunks_of bytes))

@@ -10,9 +10,9 @@ use Rattle.guest_isa.specs.GuestIsa.{IsSmall}
 use Rattle.text_words.specs.Numbers.{decimal}
 use Rattle.text_words.specs.Steps.{◌>>=◌, ◌>>◌}
 use Rattle.asm_text.specs.Mnemonics.{shape_of}
-use Rattle.asm_text.specs.Reading.{at_end, below_jump, comma, data_line, definition, directive, displacement, found, immediate as immediate_operands, instruction, integer, keyword, label, line_of, memory, name_at, number, offset_line, operands_of, pair, place, port, register, size, small, statement, value, values, worded}
+use Rattle.asm_text.specs.Reading.{at_end, below_jump, comma, data_line, definition, directive, displacement, found, immediate as immediate_operands, instruction, integer, keyword, label, source_line_of, memory, name_or_wanted, number, offset_line, operands_of, pair, place, port, register_token, size, small, statement, value, values, worded}
 use Rattle.asm_text.specs.Tokens.{Tokens, end_with, token}
-use Rattle.asm_text.specs.Words.{behind, below, data_size_of, mnemonic_of}
+use Rattle.asm_text.specs.Words.{behind, if_below, data_size_of, mnemonic_of}
 use Rattle.asm_text.specs.declared.fault.LineError.{LineError}
 use Rattle.asm_text.specs.declared.fault.Want.{Want}
 use Rattle.asm_text.specs.declared.fault.Want.TheVariants.{Register, At, To}
@@ -78,7 +78,7 @@ module _ {X : Type 0} where
   abbrev LowFirst : ℕ × X → Type 0
   LowFirst x = x.0 < 16
 
-found_low : (left : ℕ) (more : Tokens) (o : Option ℕ) → Holds LowFirst (found left Register more (option_and_then (below 16) o))
+found_low : (left : ℕ) (more : Tokens) (o : Option ℕ) → Holds LowFirst (found left Register more (option_and_then (if_below 16) o))
 found_low left more None = tt
 found_low left more (Some n) = by (nat_lt n 16) refl
   where
@@ -86,8 +86,8 @@ found_low left more (Some n) = by (nat_lt n 16) refl
     by true e = ltb-true n 16 e
     by false e = tt
 
-register_low : (ts : Tokens) → Holds LowFirst (register ts)
-unfolding register
+register_low : (ts : Tokens) → Holds LowFirst (register_token ts)
+unfolding register_token
 register_low (end_with left) = tt
 register_low (token left word more) = found_low left more (option_and_then (λ digits. result_ok (decimal digits)) (behind (codes "r") word))
 
@@ -97,9 +97,9 @@ LowPair x = (x.0 < 16) × (x.1 < 16)
 pair_low : (ts : Tokens) → Holds LowPair (pair ts)
 unfolding pair
 pair_low ts =
-    holds_then LowFirst LowPair (register ts) _ (register_low ts) λ x h.
+    holds_then LowFirst LowPair (register_token ts) _ (register_low ts) λ x h.
     after LowPair (comma x.1) _ λ ts.
-    holds_then LowFirst LowPair (register ts) _ (register_low ts) λ y k.
+    holds_then LowFirst LowPair (register_token ts) _ (register_low ts) λ y k.
     (h, k)
 
 abbrev LowPlace : ℕ × Value × Tokens → Type 0
@@ -108,7 +108,7 @@ LowPlace x = x.0 < 16
 place_low : (ts : Tokens) → Holds LowPlace (place ts)
 unfolding place
 place_low ts =
-    holds_then LowFirst LowPlace (register ts) _ (register_low ts) λ x h.
+    holds_then LowFirst LowPlace (register_token ts) _ (register_low ts) λ x h.
     after LowPlace (displacement x.1) _ λ y.
     h
 
@@ -122,7 +122,7 @@ fit h k s = record { rd = h; rs = k; size = s }
 immediate_fit : (shape : Shape) → SizeFits shape One → (ts : Tokens) → Holds (FitFirst shape) (immediate_operands ts)
 unfolding immediate_operands
 immediate_fit shape s ts =
-    holds_then LowFirst (FitFirst shape) (register ts) _ (register_low ts) λ x h.
+    holds_then LowFirst (FitFirst shape) (register_token ts) _ (register_low ts) λ x h.
     after (FitFirst shape) (comma x.1) _ λ ts.
     after (FitFirst shape) (value ts) _ λ y.
     fit h zero_low s
@@ -138,7 +138,7 @@ below_fit ts =
 memory_fit : (ts : Tokens) → Holds (FitFirst Memory) (memory ts)
 unfolding memory
 memory_fit ts =
-    holds_then LowFirst (FitFirst Memory) (register ts) _ (register_low ts) λ x h.
+    holds_then LowFirst (FitFirst Memory) (register_token ts) _ (register_low ts) λ x h.
     after (FitFirst Memory) (comma x.1) _ λ ts.
     after (FitFirst Memory) (size ts) _ λ n.
     after (FitFirst Memory) (keyword (codes "at") At n.1) _ λ ts.
@@ -154,7 +154,7 @@ small_is Q left Eight r k = tt
 port_fit : (shape : Shape) → ((n : AccessSize) → IsSmall n → SizeFits shape n) → (text : List ℕ) (want : Want) (ts : Tokens) → Holds (FitFirst shape) (port text want ts)
 unfolding port
 port_fit shape s text want ts =
-    holds_then LowFirst (FitFirst shape) (register ts) _ (register_low ts) λ x h.
+    holds_then LowFirst (FitFirst shape) (register_token ts) _ (register_low ts) λ x h.
     after (FitFirst shape) (comma x.1) _ λ at.
     after (FitFirst shape) (size at) _ λ n.
     small_is (FitFirst shape) _ n.0 _ λ few.
@@ -171,8 +171,8 @@ operands_fit Pair ts = holds_then LowPair (FitFirst Pair) (pair ts) _ (pair_low 
 operands_fit Memory ts = memory_fit ts
 operands_fit PortRead ts = port_fit PortRead (λ n few. few) (codes "at") At ts
 operands_fit PortWrite ts = port_fit PortWrite (λ n few. few) (codes "to") To ts
-operands_fit Destination ts = holds_then LowFirst (FitFirst Destination) (register ts) _ (register_low ts) λ x h. fit h zero_low tt
-operands_fit Source ts = holds_then LowFirst (FitFirst Source) (register ts) _ (register_low ts) λ x h. fit zero_low h tt
+operands_fit Destination ts = holds_then LowFirst (FitFirst Destination) (register_token ts) _ (register_low ts) λ x h. fit h zero_low tt
+operands_fit Source ts = holds_then LowFirst (FitFirst Source) (register_token ts) _ (register_low ts) λ x h. fit zero_low h tt
 operands_fit Jump ts = after (FitFirst Jump) (value ts) _ λ y. fit zero_low zero_low tt
 operands_fit JumpIf ts = immediate_fit JumpIf tt ts
 operands_fit JumpBelow ts = below_fit ts
@@ -207,7 +207,7 @@ worded_fit left word ts =
 
 definition_fit : (left : ℕ) (word : List ℕ) (ts : Tokens) → Holds IsFit (definition left word ts)
 unfolding definition
-definition_fit left word ts = after IsFit (name_at left word) _ λ name. after IsFit (integer ts) _ λ n. after_test IsFit (at_end n.1) _ tt
+definition_fit left word ts = after IsFit (name_or_wanted left word) _ λ name. after IsFit (integer ts) _ λ n. after_test IsFit (at_end n.1) _ tt
 
 statement_fit : (ts : Tokens) → Holds IsFit (statement ts)
 unfolding statement
@@ -219,8 +219,8 @@ statement_fit (token left word (token at mark more)) =
 abbrev pub IsFitLine : SourceLine → Type 0
 IsFitLine line = IsFit line.statement
 
-pub line_fit : (ts : Tokens) → Holds IsFitLine (line_of ts)
-unfolding line_of
+pub line_fit : (ts : Tokens) → Holds IsFitLine (source_line_of ts)
+unfolding source_line_of
 line_fit ts =
     after IsFitLine (label ts) _ λ l.
     holds_then IsFit IsFitLine (statement l.1) _ (statement_fit l.1) λ s h. h

@@ -4,7 +4,7 @@ use Rattle.std.specs.Prelude.{◌&&◌, if◌then◌else◌}
 use Rattle.std.specs.List.{position_or_len}
 use Rattle.std.proofs.lemmas.Bool.Decides.{nat_tests}
 use Rattle.text_words.proofs.Cuts.{is_none}
-use Rattle.asm_text.specs.Tokens.{Tokens, end_with, token, begins_comment, goes_on, is_blank, is_mark, is_word_byte, tokens_of, with_byte, word_size, IsPastBlanks}
+use Rattle.asm_text.specs.Tokens.{Tokens, end_with, token, begins_comment, word_goes_on, is_blank, is_mark, is_word_byte, tokens_of, with_token_byte, word_size, IsPastBlanks}
 
 -- ---- by what the first byte is
 
@@ -12,10 +12,10 @@ abbrev by : Bool → Bool → Bool → ℕ → List ℕ → Tokens
 by comment blank joined c cs =
     if comment then end_with (length (c ∷ cs))
     else if blank then tokens_of cs
-    else if joined then with_byte (length (c ∷ cs)) c (tokens_of cs)
+    else if joined then with_token_byte (length (c ∷ cs)) c (tokens_of cs)
     else token (length (c ∷ cs)) (c ∷ []) (tokens_of cs)
 
-first : (c : ℕ) (cs : List ℕ) → tokens_of (c ∷ cs) ≡ by (begins_comment c) (is_blank c) (goes_on cs && not (is_mark c)) c cs
+first : (c : ℕ) (cs : List ℕ) → tokens_of (c ∷ cs) ≡ by (begins_comment c) (is_blank c) (word_goes_on cs && not (is_mark c)) c cs
 unfolding tokens_of
 first c cs = refl
 
@@ -46,12 +46,12 @@ no_join false c cs = refl
 
 pub mark_first : (c : ℕ) (cs : List ℕ) → begins_comment c ≡ false → is_blank c ≡ false → is_mark c ≡ true
     → tokens_of (c ∷ cs) ≡ token (length (c ∷ cs)) (c ∷ []) (tokens_of cs)
-mark_first c cs comment blank mark = first c cs ∙ rw (comment, blank, mark) (no_join (goes_on cs) c cs)
+mark_first c cs comment blank mark = first c cs ∙ rw (comment, blank, mark) (no_join (word_goes_on cs) c cs)
 
 -- ---- words
 
 word_by : (b : Bool) (c : ℕ) (cs : List ℕ) → by false false (b && true) c cs
-    ≡ (if b then with_byte (length (c ∷ cs)) c (tokens_of cs) else token (length (c ∷ cs)) (c ∷ []) (tokens_of cs))
+    ≡ (if b then with_token_byte (length (c ∷ cs)) c (tokens_of cs) else token (length (c ∷ cs)) (c ∷ []) (tokens_of cs))
 word_by true c cs = refl
 word_by false c cs = refl
 
@@ -59,17 +59,17 @@ word_is : (c : ℕ) → is_word_byte c ≡ true → (begins_comment c ≡ false)
 word_is c h = (grind (arith, nat_tests, h), grind (arith, nat_tests, h), grind (arith, nat_tests, h))
 
 one_byte : (c : ℕ) (cs : List ℕ) → is_word_byte c ≡ true → tokens_of (c ∷ cs)
-    ≡ (if goes_on cs then with_byte (length (c ∷ cs)) c (tokens_of cs) else token (length (c ∷ cs)) (c ∷ []) (tokens_of cs))
+    ≡ (if word_goes_on cs then with_token_byte (length (c ∷ cs)) c (tokens_of cs) else token (length (c ∷ cs)) (c ∷ []) (tokens_of cs))
 one_byte c cs h =
     let w = word_is c h in
-    first c cs ∙ rw (w.0, w.1, w.2) (word_by (goes_on cs) c cs)
+    first c cs ∙ rw (w.0, w.1, w.2) (word_by (word_goes_on cs) c cs)
 
 pub word_first : (c : ℕ) (cs : List ℕ) → is_word_byte c ≡ true
     → tokens_of (c ∷ cs) ≡ token (length (c ∷ cs)) (c ∷ take (word_size cs) cs) (tokens_of (drop (word_size cs) cs))
 word_first c [] h = one_byte c [] h
 word_first c (d ∷ ds) h =
     elim (is_word_byte d) as (λ b. is_word_byte d ≡ b → tokens_of (c ∷ d ∷ ds) ≡ token (length (c ∷ d ∷ ds)) (c ∷ take (if b then suc (word_size ds) else 0) (d ∷ ds)) (tokens_of (drop (if b then suc (word_size ds) else 0) (d ∷ ds)))) [
-      | true ↦ λ e. one_byte c (d ∷ ds) h ∙ rw e (ap (with_byte (length (c ∷ d ∷ ds)) c) (word_first d ds e))
+      | true ↦ λ e. one_byte c (d ∷ ds) h ∙ rw e (ap (with_token_byte (length (c ∷ d ∷ ds)) c) (word_first d ds e))
       | false ↦ λ e. one_byte c (d ∷ ds) h ∙ rw e refl
     ] refl
 

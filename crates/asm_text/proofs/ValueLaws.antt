@@ -3,7 +3,7 @@ use Rattle.std.proofs.Common.{◌≡◌, ℕ, zero, suc, ◌+◌, ◌≤◌, Boo
 use Rattle.std.specs.Prelude.{◌⊎◌, codes, if◌then◌else◌}
 use Rattle.std.specs.Str.{bytes_eq}
 use Rattle.text_words.specs.Steps.{◌>>=◌, mapped}
-use Rattle.asm_text.specs.Reading.{atom_of, comma, count_of, found, keyword, left_of, sign_of, signed_terms, terms, terms_behind, terms_of, value, values, wanted, with_others, with_signed_term, with_term, without_term}
+use Rattle.asm_text.specs.Reading.{atom_of, comma, token_count, found, keyword, line_bytes_left, sign_of, signed_terms, terms, terms_behind, terms_of, value, values, wanted, with_others, with_signed_term, with_term, without_term}
 use Rattle.asm_text.specs.Shown.{is_over}
 use Rattle.asm_text.specs.Tokens.{Tokens, end_with, token}
 use Rattle.asm_text.specs.declared.fault.LineError.{LineError}
@@ -15,7 +15,7 @@ use Rattle.asm_text.specs.declared.statement.Value.{Value}
 -- ---- what is left has no more tokens
 
 abbrev Within : {X : Type 0} → ℕ → Result (X × Tokens) LineError → Type 0
-Within n r = IfOk r (λ s. count_of s.1 ≤ n)
+Within n r = IfOk r (λ s. token_count s.1 ≤ n)
 
 with_term_within : (n left : ℕ) (minus : Bool) (atom : Option Atom) (r : Result (List Term × Tokens) LineError) → Within n r → Within n (with_term left minus atom r)
 with_term_within n left minus None r h = tt
@@ -26,33 +26,33 @@ weaker : (n m : ℕ) (r : Result (List Term × Tokens) LineError) → n ≤ m �
 weaker n m (Ok s) h w = omega (arith, h, w)
 weaker n m (Err e) h w = tt
 
-last_within : (sign : Option Bool) (here : Tokens) (last : ℕ) → Within (count_of here) (without_term sign here last)
+last_within : (sign : Option Bool) (here : Tokens) (last : ℕ) → Within (token_count here) (without_term sign here last)
 last_within None here last = omega arith
 last_within (Some minus) here last = tt
 
-middle_within : (sign : Option Bool) (here : Tokens) (at : ℕ) (atom : Option Atom) (r : Result (List Term × Tokens) LineError) → Within (count_of here) r
-    → Within (count_of here) (with_signed_term sign here at atom r)
+middle_within : (sign : Option Bool) (here : Tokens) (at : ℕ) (atom : Option Atom) (r : Result (List Term × Tokens) LineError) → Within (token_count here) r
+    → Within (token_count here) (with_signed_term sign here at atom r)
 middle_within None here at atom r h = omega arith
-middle_within (Some minus) here at atom r h = with_term_within (count_of here) at minus atom r h
+middle_within (Some minus) here at atom r h = with_term_within (token_count here) at minus atom r h
 
-signed_within : (ts : Tokens) → Within (count_of ts) (signed_terms ts)
+signed_within : (ts : Tokens) → Within (token_count ts) (signed_terms ts)
 unfolding signed_terms
 signed_within (end_with left) = omega arith
 signed_within (token left word (end_with last)) = last_within (sign_of word) (token left word (end_with last)) last
 signed_within (token left word (token at atom more)) =
     middle_within (sign_of word) (token left word (token at atom more)) at (atom_of atom) (signed_terms more)
-    (weaker (count_of more) (1 + (1 + count_of more)) (signed_terms more) (omega arith) (signed_within more))
+    (weaker (token_count more) (1 + (1 + token_count more)) (signed_terms more) (omega arith) (signed_within more))
 
-terms_of_within : (n : ℕ) (minus : Bool) (ts : Tokens) → count_of ts ≤ n → Within n (terms_of minus ts)
+terms_of_within : (n : ℕ) (minus : Bool) (ts : Tokens) → token_count ts ≤ n → Within n (terms_of minus ts)
 terms_of_within n minus (end_with left) h = tt
 terms_of_within n minus (token left word more) h =
-    with_term_within n left minus (atom_of word) (signed_terms more) (weaker (count_of more) n (signed_terms more) (omega (arith, h)) (signed_within more))
+    with_term_within n left minus (atom_of word) (signed_terms more) (weaker (token_count more) n (signed_terms more) (omega (arith, h)) (signed_within more))
 
-behind_within : (sign : Option Bool) (here more : Tokens) → count_of more ≤ count_of here → Within (count_of here) (terms_behind sign here more)
-behind_within None here more h = terms_of_within (count_of here) false here (omega arith)
-behind_within (Some minus) here more h = terms_of_within (count_of here) minus more h
+behind_within : (sign : Option Bool) (here more : Tokens) → token_count more ≤ token_count here → Within (token_count here) (terms_behind sign here more)
+behind_within None here more h = terms_of_within (token_count here) false here (omega arith)
+behind_within (Some minus) here more h = terms_of_within (token_count here) minus more h
 
-terms_within : (ts : Tokens) → Within (count_of ts) (terms ts)
+terms_within : (ts : Tokens) → Within (token_count ts) (terms ts)
 terms_within (end_with left) = tt
 terms_within (token left word more) = behind_within (sign_of word) (token left word more) more (omega arith)
 
@@ -61,9 +61,9 @@ as_value : (n left : ℕ) (r : Result (List Term × Tokens) LineError) → Withi
 as_value n left (Ok s) h = h
 as_value n left (Err e) h = tt
 
-value_within : (ts : Tokens) → Within (count_of ts) (value ts)
+value_within : (ts : Tokens) → Within (token_count ts) (value ts)
 unfolding value
-value_within ts = as_value (count_of ts) (left_of ts) (terms ts) (terms_within ts)
+value_within ts = as_value (token_count ts) (line_bytes_left ts) (terms ts) (terms_within ts)
 
 -- ---- a number of values that suffices
 
@@ -84,7 +84,7 @@ same_by_comma : (b : Bool) (left : ℕ) (more : Tokens) (v : Value) (f g : Token
 same_by_comma true left more v f g h = ap (λ r. ◌>>=◌ {B = List Value} r (λ vs. Ok (v ∷ vs))) h
 same_by_comma false left more v f g h = refl
 
-same_others : (v : Value) (ts : Tokens) (n : ℕ) (f g : Tokens → Result (List Value) LineError) → count_of ts ≤ suc n → ((more : Tokens) → count_of more ≤ n → f more ≡ g more)
+same_others : (v : Value) (ts : Tokens) (n : ℕ) (f g : Tokens → Result (List Value) LineError) → token_count ts ≤ suc n → ((more : Tokens) → token_count more ≤ n → f more ≡ g more)
     → with_others v ts f ≡ with_others v ts g
 same_others v (end_with left) n f g h same = refl
 same_others v (token left word more) n f g h same =
@@ -94,17 +94,17 @@ same_others v (token left word more) n f g h same =
 abbrev and_others : (Tokens → Result (List Value) LineError) → Result (Value × Tokens) LineError → Result (List Value) LineError
 and_others f r = r >>= λ s. with_others s.0 s.1 f
 
-same_values : (n : ℕ) (f g : Tokens → Result (List Value) LineError) (r : Result (Value × Tokens) LineError) → Within (suc n) r → ((more : Tokens) → count_of more ≤ n → f more ≡ g more)
+same_values : (n : ℕ) (f g : Tokens → Result (List Value) LineError) (r : Result (Value × Tokens) LineError) → Within (suc n) r → ((more : Tokens) → token_count more ≤ n → f more ≡ g more)
     → and_others f r ≡ and_others g r
 same_values n f g (Ok s) h same = same_others s.0 s.1 n f g h same
 same_values n f g (Err e) h same = refl
 
-no_value_there : (ts : Tokens) → count_of ts ≤ 0 → value ts ≡ wanted (left_of ts) TermWant
+no_value_there : (ts : Tokens) → token_count ts ≤ 0 → value ts ≡ wanted (line_bytes_left ts) TermWant
 unfolding value
 no_value_there (end_with left) h = refl
 no_value_there (token left word more) h = absurd (omega (arith, h))
 
-value_fails : (ts : Tokens) (f : Tokens → Result (List Value) LineError) → count_of ts ≤ 0 → and_others f (value ts) ≡ wanted (left_of ts) TermWant
+value_fails : (ts : Tokens) (f : Tokens → Result (List Value) LineError) → token_count ts ≤ 0 → and_others f (value ts) ≡ wanted (line_bytes_left ts) TermWant
 value_fails ts f h = ap (and_others f) (no_value_there ts h)
 
 weaker_value : (n m : ℕ) (r : Result (Value × Tokens) LineError) → n ≤ m → Within n r → Within m r
@@ -112,16 +112,16 @@ weaker_value n m (Ok s) h w = omega (arith, h, w)
 weaker_value n m (Err e) h w = tt
 
 -- as many values as there are tokens are enough
-enough : (n m : ℕ) (ts : Tokens) → count_of ts ≤ n → count_of ts ≤ m → values n ts ≡ values m ts
+enough : (n m : ℕ) (ts : Tokens) → token_count ts ≤ n → token_count ts ≤ m → values n ts ≡ values m ts
 unfolding values
 enough zero zero ts h k = refl
 enough zero (suc m) ts h k = sym (value_fails ts (values m) h)
 enough (suc n) zero ts h k = value_fails ts (values n) k
 enough (suc n) (suc m) ts h k =
-    same_values (min n m) (values n) (values m) (value ts) (weaker_value (count_of ts) (suc (min n m)) (value ts) (omega (arith, h, k)) (value_within ts)) (λ more l. enough n m more (omega (arith, l)) (omega (arith, l)))
+    same_values (min n m) (values n) (values m) (value ts) (weaker_value (token_count ts) (suc (min n m)) (value ts) (omega (arith, h, k)) (value_within ts)) (λ more l. enough n m more (omega (arith, l)) (omega (arith, l)))
 
 abbrev pub all_values : Tokens → Result (List Value) LineError
-all_values ts = values (count_of ts) ts
+all_values ts = values (token_count ts) ts
 
 step_of : (n : ℕ) (ts : Tokens) → values (suc n) ts ≡ and_others (values n) (value ts)
 unfolding values
@@ -129,9 +129,9 @@ step_of n ts = refl
 
 pub values_one_by_one : (ts : Tokens) → all_values ts ≡ and_others all_values (value ts)
 values_one_by_one ts =
-    enough (count_of ts) (suc (count_of ts)) ts (omega arith) (omega arith)
-    ∙ step_of (count_of ts) ts
-    ∙ same_values (count_of ts) (values (count_of ts)) all_values (value ts) (weaker_value (count_of ts) (suc (count_of ts)) (value ts) (omega arith) (value_within ts)) (λ more l. enough (count_of ts) (count_of more) more l (omega arith))
+    enough (token_count ts) (suc (token_count ts)) ts (omega arith) (omega arith)
+    ∙ step_of (token_count ts) ts
+    ∙ same_values (token_count ts) (values (token_count ts)) all_values (value ts) (weaker_value (token_count ts) (suc (token_count ts)) (value ts) (omega arith) (value_within ts)) (λ more l. enough (token_count ts) (token_count more) more l (omega arith))
 
 -- ---- as a loop reads them: with the values before
 

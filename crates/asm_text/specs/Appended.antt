@@ -5,7 +5,7 @@ use Rattle.guest_isa.specs.GuestIsa.{IsValid}
 use Rattle.muen_num.specs.AccessSize.{bytes_of}
 use Rattle.muen_num.specs.declared.access.AccessSize.{AccessSize}
 use Rattle.muen_num.specs.declared.limits.TheConstants.{COMPONENT_FILE_MOST}
-use Rattle.asm_text.specs.Meaning.{Item, bytes_of_item, instruction_of, little_endian}
+use Rattle.asm_text.specs.Meaning.{SourceItem, bytes_of_item, instruction_of, little_endian}
 use Rattle.asm_text.specs.declared.fault.LineError.{LineError}
 use Rattle.asm_text.specs.declared.statement.Operation.{Operation}
 use Rattle.asm_text.specs.declared.statement.Placed.{Placed}
@@ -39,14 +39,14 @@ FollowFrom here (line ∷ lines) =
     (line.here ≡ here) × IsFitAt here line.statement × FollowFrom (behind here line.statement) lines
 
 -- the bytes of an item, behind others
-abbrev pub appended : List ℕ → Result Item LineError → Result (List ℕ) LineError
+abbrev pub appended : List ℕ → Result SourceItem LineError → Result (List ℕ) LineError
 appended bytes (Ok item) = Ok (bytes ++ bytes_of_item item)
 appended bytes (Err e) = Err e
 
 -- .. as far as a call has made them
-abbrev pub with_bytes : {E : Type 0} → Result (Unit {0}) E → List ℕ → Result (List ℕ) E
-with_bytes (Ok u) bytes = Ok bytes
-with_bytes (Err e) bytes = Err e
+abbrev pub bytes_if_ok : {E : Type 0} → Result (Unit {0}) E → List ℕ → Result (List ℕ) E
+bytes_if_ok (Ok u) bytes = Ok bytes
+bytes_if_ok (Err e) bytes = Err e
 
 -- numbers of this size behind others
 abbrev pub of_numbers : List ℕ → AccessSize → Result (List ℕ) LineError → Result (List ℕ) LineError

@@ -9,7 +9,7 @@ use Rattle.guest_isa.specs.GuestIsa.{encoding_of}
 use Rattle.guest_isa.specs.declared.instr.Instr.{Instr}
 use Rattle.text_words.specs.Steps.{◌>>=◌}
 use Rattle.text_words.specs.Parts.{lines_of}
-use Rattle.asm_text.specs.Layout.{Names, meaning_of, layout_from, at_start, in_line}
+use Rattle.asm_text.specs.Layout.{SymbolTable, meaning_of, layout_from, at_start, in_source_line}
 use Rattle.asm_text.specs.Mnemonics.{instruction_with}
 use Rattle.asm_text.specs.Reading.{ok_or_wanted, wanted}
 use Rattle.asm_text.specs.declared.fault.LineError.{LineError}
@@ -44,19 +44,19 @@ abbrev pub sum_of_meaning : Meaning → Sum
 sum_of_meaning (OffsetMeaning offset) = record { number = pos offset; labels = pos 1 }
 sum_of_meaning (Number number) = record { number = integer_of number; labels = pos 0 }
 
-abbrev pub sum_of_atom : Names → Atom → Option Sum
+abbrev pub sum_of_atom : SymbolTable → Atom → Option Sum
 sum_of_atom names (NumberAtom n) = Some (record { number = pos n; labels = pos 0 })
 sum_of_atom names (NameAtom name) = option_map sum_of_meaning (meaning_of names name)
 
-abbrev pub added : Bool → Sum → Sum → Sum
-added minus a b = record { number = signed minus a.number +ℤ b.number; labels = signed minus a.labels +ℤ b.labels }
+abbrev pub added_or_subtracted : Bool → Sum → Sum → Sum
+added_or_subtracted minus a b = record { number = signed minus a.number +ℤ b.number; labels = signed minus a.labels +ℤ b.labels }
 
-unfoldable pub sum_of : Names → List Term → Result Sum LineError
+unfoldable pub sum_of : SymbolTable → List Term → Result Sum LineError
 sum_of names [] = Ok (record { number = pos 0; labels = pos 0 })
 sum_of names (term ∷ terms) = do
   first ← ok_or_wanted term.left KnownName (sum_of_atom names term.atom)
   others ← sum_of names terms
-  Ok (added term.minus first others)
+  Ok (added_or_subtracted term.minus first others)
 
 -- ---- numbers in so many bits
 
@@ -68,8 +68,8 @@ abbrev pub fits_signed : ℕ → ℤ → Bool
 fits_signed bits z = is_within (neg_ℤ (pos (2 ^ (bits - 1)))) (pos (2 ^ (bits - 1))) z
 
 -- signed or unsigned
-abbrev pub fits : ℕ → ℤ → Bool
-fits bits z = is_within (neg_ℤ (pos (2 ^ (bits - 1)))) (pos (2 ^ bits)) z
+abbrev pub fits_in_bits : ℕ → ℤ → Bool
+fits_in_bits bits z = is_within (neg_ℤ (pos (2 ^ (bits - 1)))) (pos (2 ^ bits)) z
 
 -- a number that fits, modulo 2^bits
 abbrev pub residue : ℕ → ℤ → ℕ
@@ -110,11 +110,11 @@ jump_by here left s = do
 
 abbrev pub immediate_by : Mnemonic → ℕ → ℕ → Sum → Result ℤ LineError
 immediate_by m here left s =
-    if is_wide m then if_fits (fits 32 s.number) left Range (cast_signed w32 (residue 32 s.number))
+    if is_wide m then if_fits (fits_in_bits 32 s.number) left Range (cast_signed w32 (residue 32 s.number))
     else if is_jump m then jump_by here left s
     else if_fits (fits_signed 32 s.number) left Range s.number
 
-unfoldable pub immediate_of : Names → ℕ → Operation → Result ℤ LineError
+unfoldable pub immediate_of : SymbolTable → ℕ → Operation → Result ℤ LineError
 immediate_of names here o = do
   s ← sum_of names o.operands.value.terms
   immediate_by o.mnemonic here o.operands.value.left s
@@ -124,15 +124,15 @@ instruction_of o imm = instruction_with o.mnemonic o.operands.rd o.operands.rs o
 
 -- ---- data
 
-abbrev pub bits_of : AccessSize → ℕ
-bits_of size = 8 * bytes_of size
+abbrev pub size_bits : AccessSize → ℕ
+size_bits size = 8 * bytes_of size
 
-abbrev pub number_of : Names → AccessSize → Value → Result ℕ LineError
+abbrev pub number_of : SymbolTable → AccessSize → Value → Result ℕ LineError
 number_of names size v = do
   s ← sum_of names v.terms
-  if_fits (fits (bits_of size) s.number) v.left Range (residue (bits_of size) s.number)
+  if_fits (fits_in_bits (size_bits size) s.number) v.left Range (residue (size_bits size) s.number)
 
-unfoldable pub numbers_of : Names → AccessSize → List Value → Result (List ℕ) LineError
+unfoldable pub numbers_of : SymbolTable → AccessSize → List Value → Result (List ℕ) LineError
 numbers_of names size [] = Ok []
 numbers_of names size (v ∷ vs) = do
   n ← number_of names size v
@@ -148,47 +148,47 @@ little_endian Eight n = to_le_bytes w64 n
 
 -- ---- what a source says
 
-pub data Item : Type 0 where
-  instruction : Instr → Item
+pub data SourceItem : Type 0 where
+  instruction : Instr → SourceItem
   -- numbers of this size
-  data_of : AccessSize → List ℕ → Item
-  zeros : ℕ → Item
+  data_of : AccessSize → List ℕ → SourceItem
+  zeros : ℕ → SourceItem
 
-abbrev pub item_of : Names → ℕ → Statement → Result Item LineError
-item_of names here Nothing = Ok (zeros 0)
-item_of names here (Definition left name number) = Ok (zeros 0)
-item_of names here (Offset left offset) = Ok (zeros (offset - here))
-item_of names here (Data left size values) = do
+abbrev pub assembled_item_of : SymbolTable → ℕ → Statement → Result SourceItem LineError
+assembled_item_of names here Nothing = Ok (zeros 0)
+assembled_item_of names here (Definition left name number) = Ok (zeros 0)
+assembled_item_of names here (Offset left offset) = Ok (zeros (offset - here))
+assembled_item_of names here (Data left size values) = do
   ns ← numbers_of names size values
   Ok (data_of size ns)
-item_of names here (Instruction o) = do
+assembled_item_of names here (Instruction o) = do
   imm ← immediate_of names here o
   Ok (instruction (instruction_of o imm))
 
-unfoldable pub items_of : Names → List Placed → Result (List Item) SourceFault
+unfoldable pub items_of : SymbolTable → List Placed → Result (List SourceItem) SourceFault
 items_of names [] = Ok []
 items_of names (line ∷ lines) = do
-  item ← in_line line.number line.end (item_of names line.here line.statement)
+  item ← in_source_line line.number line.end (assembled_item_of names line.here line.statement)
   items ← items_of names lines
   Ok (item ∷ items)
 
 -- the instructions, data and zeros of a text, in order; or its first fault: first of the lines as they are, then of
 -- what names stand for
-unfoldable pub said : List ℕ → Result (List Item) SourceFault
-said text = do
+unfoldable pub source_items : List ℕ → Result (List SourceItem) SourceFault
+source_items text = do
   layout ← layout_from at_start 1 (lines_of text)
   items_of layout.names layout.lines
 
-abbrev pub bytes_of_item : Item → List ℕ
+abbrev pub bytes_of_item : SourceItem → List ℕ
 bytes_of_item (instruction i) = encoding_of i
 bytes_of_item (data_of size ns) = flat_map (little_endian size) ns
 bytes_of_item (zeros n) = replicate n 0
 
-abbrev pub bytes_of_items : List Item → List ℕ
+abbrev pub bytes_of_items : List SourceItem → List ℕ
 bytes_of_items items = flat_map bytes_of_item items
 
 -- the bytes of a text
 abbrev pub assembled : List ℕ → Result (List ℕ) SourceFault
 assembled text = do
-  items ← said text
+  items ← source_items text
   Ok (bytes_of_items items)

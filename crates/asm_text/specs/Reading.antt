@@ -26,9 +26,9 @@ use Rattle.asm_text.specs.declared.statement.Statement.{Statement}
 use Rattle.asm_text.specs.declared.statement.Statement.TheVariants.{Nothing, Definition, Offset, Data, Instruction}
 use Rattle.asm_text.specs.declared.statement.SourceLine.{SourceLine}
 
-abbrev pub left_of : Tokens → ℕ
-left_of (end_with left) = left
-left_of (token left word more) = left
+abbrev pub line_bytes_left : Tokens → ℕ
+line_bytes_left (end_with left) = left
+line_bytes_left (token left word more) = left
 
 -- what is wanted isn't there
 abbrev pub wanted : {X : Type 0} → ℕ → Want → Result X LineError
@@ -58,8 +58,8 @@ keyword text want ts = do
   (_, ts) ← next (is_word text) want ts
   Ok ts
 
-unfoldable pub register : Tokens → Result (ℕ × Tokens) LineError
-register ts = next register_of Register ts
+unfoldable pub register_token : Tokens → Result (ℕ × Tokens) LineError
+register_token ts = next register_of Register ts
 
 -- the line ends
 unfoldable pub at_end : Tokens → Result (Unit {0}) LineError
@@ -128,20 +128,20 @@ terms (token left word more) = terms_behind (sign_of word) (token left word more
 unfoldable pub value : Tokens → Result (Value × Tokens) LineError
 value ts = do
   (sum, more) ← terms ts
-  Ok (record { left = left_of ts; terms = sum }, more)
+  Ok (record { left = line_bytes_left ts; terms = sum }, more)
 
 -- what is added to a register; nothing is 0
 unfoldable pub displacement : Tokens → Result (Value × Tokens) LineError
 displacement ts = do
   (sum, more) ← signed_terms ts
-  Ok (record { left = left_of ts; terms = sum }, more)
+  Ok (record { left = line_bytes_left ts; terms = sum }, more)
 
 abbrev pub comma : Tokens → Result Tokens LineError
 comma ts = keyword (codes ",") Comma ts
 
-abbrev pub count_of : Tokens → ℕ
-count_of (end_with left) = 0
-count_of (token left word more) = 1 + count_of more
+abbrev pub token_count : Tokens → ℕ
+token_count (end_with left) = 0
+token_count (token left word more) = 1 + token_count more
 
 -- a value, and behind a comma such others
 abbrev pub with_others : Value → Tokens → (Tokens → Result (List Value) LineError) → Result (List Value) LineError
@@ -153,7 +153,7 @@ with_others first (token left word more) others = do
 
 -- values up to the end of the line with commas between them, at most so many
 unfoldable pub values : ℕ → Tokens → Result (List Value) LineError
-values zero ts = wanted (left_of ts) TermWant
+values zero ts = wanted (line_bytes_left ts) TermWant
 values (suc n) ts = do
   (first, ts) ← value ts
   with_others first ts (values n)
@@ -169,15 +169,15 @@ operands rd rs size value = record { rd = rd; rs = rs; size = size; value = valu
 -- rd, rs
 unfoldable pub pair : Tokens → Result (ℕ × ℕ × Tokens) LineError
 pair ts = do
-  (rd, ts) ← register ts
+  (rd, ts) ← register_token ts
   ts ← comma ts
-  (rs, ts) ← register ts
+  (rs, ts) ← register_token ts
   Ok (rd, rs, ts)
 
 -- rs + imm
 unfoldable pub place : Tokens → Result (ℕ × Value × Tokens) LineError
 place ts = do
-  (rs, ts) ← register ts
+  (rs, ts) ← register_token ts
   (offset, ts) ← displacement ts
   Ok (rs, offset, ts)
 
@@ -191,7 +191,7 @@ small left Eight = wanted left Size
 -- rd, SIZE at rs + imm
 unfoldable pub memory : Tokens → Result (Operands × Tokens) LineError
 memory ts = do
-  (rd, ts) ← register ts
+  (rd, ts) ← register_token ts
   ts ← comma ts
   (n, ts) ← size ts
   ts ← keyword (codes "at") At ts
@@ -201,10 +201,10 @@ memory ts = do
 -- rd, SIZE at port rs + imm; or with another word for `at`
 unfoldable pub port : List ℕ → Want → Tokens → Result (Operands × Tokens) LineError
 port text want ts = do
-  (rd, ts) ← register ts
+  (rd, ts) ← register_token ts
   at ← comma ts
   (n, ts) ← size at
-  small (left_of at) n
+  small (line_bytes_left at) n
   ts ← keyword text want ts
   ts ← keyword (codes "port") Port ts
   (rs, offset, ts) ← place ts
@@ -213,7 +213,7 @@ port text want ts = do
 -- rd, imm
 unfoldable pub immediate : Tokens → Result (Operands × Tokens) LineError
 immediate ts = do
-  (rd, ts) ← register ts
+  (rd, ts) ← register_token ts
   ts ← comma ts
   (imm, ts) ← value ts
   Ok (operands rd 0 One imm, ts)
@@ -237,10 +237,10 @@ operands_of Memory ts = memory ts
 operands_of PortRead ts = port (codes "at") At ts
 operands_of PortWrite ts = port (codes "to") To ts
 operands_of Destination ts = do
-  (rd, ts) ← register ts
+  (rd, ts) ← register_token ts
   Ok (operands rd 0 One no_value, ts)
 operands_of Source ts = do
-  (rs, ts) ← register ts
+  (rs, ts) ← register_token ts
   Ok (operands 0 rs One no_value, ts)
 operands_of Jump ts = do
   (imm, ts) ← value ts
@@ -260,7 +260,7 @@ instruction left mnemonic ts = do
 -- data up to the end of the line: no more values than tokens
 unfoldable pub data_line : ℕ → AccessSize → Tokens → Result Statement LineError
 data_line left n ts = do
-  vs ← values (count_of ts) ts
+  vs ← values (token_count ts) ts
   Ok (Data left n vs)
 
 unfoldable pub number : Tokens → Result (ℕ × Tokens) LineError
@@ -288,13 +288,13 @@ abbrev pub integer : Tokens → Result (Integer × Tokens) LineError
 integer (end_with left) = wanted left Number
 integer (token left word more) = signed_number (sign_of word) (token left word more) more
 
-abbrev pub name_at : ℕ → List ℕ → Result (List ℕ) LineError
-name_at left word = ok_or_wanted left NameWant (symbol_of word)
+abbrev pub name_or_wanted : ℕ → List ℕ → Result (List ℕ) LineError
+name_or_wanted left word = ok_or_wanted left NameWant (symbol_of word)
 
 -- NAME = NUMBER, where the name stands before these tokens
 unfoldable pub definition : ℕ → List ℕ → Tokens → Result Statement LineError
 definition left word ts = do
-  name ← name_at left word
+  name ← name_or_wanted left word
   (n, ts) ← integer ts
   at_end ts
   Ok (Definition left name n)
@@ -318,7 +318,7 @@ statement (token left word (token at mark more)) =
 
 abbrev pub named : ℕ → List ℕ → Tokens → Result (Option Label × Tokens) LineError
 named left word ts = do
-  name ← name_at left word
+  name ← name_or_wanted left word
   Ok (Some (record { left = left; name = name }), ts)
 
 -- a label, where one stands there
@@ -329,8 +329,8 @@ label (token left word (token at mark more)) =
     if bytes_eq mark (codes ":") then named left word more else Ok (None, token left word (token at mark more))
 
 -- what a line says
-unfoldable pub line_of : Tokens → Result SourceLine LineError
-line_of ts = do
+unfoldable pub source_line_of : Tokens → Result SourceLine LineError
+source_line_of ts = do
   (l, ts) ← label ts
   s ← statement ts
   Ok (record { label = l; statement = s })

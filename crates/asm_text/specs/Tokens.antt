@@ -23,14 +23,14 @@ abbrev pub is_word_byte : ℕ → Bool
 is_word_byte c = not (is_blank c || is_mark c || begins_comment c)
 
 -- a word goes on
-abbrev pub goes_on : List ℕ → Bool
-goes_on [] = false
-goes_on (c ∷ cs) = is_word_byte c
+abbrev pub word_goes_on : List ℕ → Bool
+word_goes_on [] = false
+word_goes_on (c ∷ cs) = is_word_byte c
 
 -- a byte more at the head of the first token, where so many bytes are left
-abbrev pub with_byte : ℕ → ℕ → Tokens → Tokens
-with_byte left c (end_with n) = token left (c ∷ []) (end_with n)
-with_byte left c (token n word more) = token left (c ∷ word) more
+abbrev pub with_token_byte : ℕ → ℕ → Tokens → Tokens
+with_token_byte left c (end_with n) = token left (c ∷ []) (end_with n)
+with_token_byte left c (token n word more) = token left (c ∷ word) more
 
 -- the tokens of what is left of a line
 unfoldable pub tokens_of : List ℕ → Tokens
@@ -38,7 +38,7 @@ tokens_of [] = end_with 0
 tokens_of (c ∷ cs) =
     if begins_comment c then end_with (length (c ∷ cs))
     else if is_blank c then tokens_of cs
-    else if goes_on cs && not (is_mark c) then with_byte (length (c ∷ cs)) c (tokens_of cs)
+    else if word_goes_on cs && not (is_mark c) then with_token_byte (length (c ∷ cs)) c (tokens_of cs)
     else token (length (c ∷ cs)) (c ∷ []) (tokens_of cs)
 
 -- how many bytes of a word stand at the head

@@ -18,12 +18,12 @@ use Rattle.asm_text.specs.declared.mnemonic.TheConstants.{MNEMONICS}
 abbrev pub behind : List ℕ → List ℕ → Option (List ℕ)
 behind beginning word = if bytes_eq (take (length beginning) word) beginning then Some (drop (length beginning) word) else None
 
-abbrev pub below : ℕ → ℕ → Option ℕ
-below end n = if nat_lt n end then Some n else None
+abbrev pub if_below : ℕ → ℕ → Option ℕ
+if_below end n = if nat_lt n end then Some n else None
 
 -- `r0` to `r15`
 abbrev pub register_of : List ℕ → Option ℕ
-register_of word = option_and_then (below 16) (option_and_then (λ digits. result_ok (decimal digits)) (behind (codes "r") word))
+register_of word = option_and_then (if_below 16) (option_and_then (λ digits. result_ok (decimal digits)) (behind (codes "r") word))
 
 abbrev pub by_mark : Option (List ℕ) → Option ℕ → Option ℕ
 by_mark (Some digits) other = number_of_groups (groups_of digits)

@@ -2,9 +2,9 @@
 ghost use Rattle.std.specs.Prelude.{◌≡◌, ◌++◌, ◌<◌, ◌*◌, ◌^◌, length, OnOk};
 ghost use Rattle.muen_num.specs.AccessSize.{bytes_of};
 ghost use Rattle.muen_num.specs.Answers.{Answers};
-ghost use Rattle.asm_text.specs.Appended.{FollowFrom, IsFit, IsFitAt, appended, of_numbers, with_bytes};
+ghost use Rattle.asm_text.specs.Appended.{FollowFrom, IsFit, IsFitAt, appended, of_numbers, bytes_if_ok};
 ghost use Rattle.text_words.specs.Steps.{mapped};
-ghost use Rattle.asm_text.specs.Meaning.{assembled, bytes_of_items, item_of, items_of, little_endian, numbers_of};
+ghost use Rattle.asm_text.specs.Meaning.{assembled, bytes_of_items, assembled_item_of, items_of, little_endian, numbers_of};
 
 use crate::fault::{LineError, SourceFault};
 use crate::layout::{Layout, fault_in, layout_of};
@@ -37,7 +37,7 @@ fn put_numbers(
     size: AccessSize,
     values: &[Value],
 ) -> Result<(), LineError>
-    ensures { Answers LineError.NoMemory (of_numbers out.old.items size (numbers_of names.now.entries size values.now)) (with_bytes result out.new.items) }
+    ensures { Answers LineError.NoMemory (of_numbers out.old.items size (numbers_of names.now.entries size values.now)) (bytes_if_ok result out.new.items) }
 {
     for value in values {
         match number_of(names, size, value) {
@@ -55,7 +55,7 @@ fn put_instruction(
     operation: &Operation,
 ) -> Result<(), LineError>
     requires { IsFit operation.now }
-    ensures { Answers LineError.NoMemory (appended out.old.items (item_of names.now.entries here (Statement.Instruction operation.now))) (with_bytes result out.new.items) }
+    ensures { Answers LineError.NoMemory (appended out.old.items (assembled_item_of names.now.entries here (Statement.Instruction operation.now))) (bytes_if_ok result out.new.items) }
 {
     let imm = immediate_of(names, here, operation)?;
     let with = &operation.operands;
@@ -72,7 +72,7 @@ fn put_line(
 ) -> Result<(), LineError>
     requires here { line.now.here ≡ length out.old.items }
     requires fit { IsFitAt line.now.here line.now.statement }
-    ensures { Answers LineError.NoMemory (appended out.old.items (item_of names.now.entries line.now.here line.now.statement)) (with_bytes result out.new.items) }
+    ensures { Answers LineError.NoMemory (appended out.old.items (assembled_item_of names.now.entries line.now.here line.now.statement)) (bytes_if_ok result out.new.items) }
 {
     match &line.statement {
         Statement::Nothing | Statement::Definition { .. } => Ok(()),

@@ -1,8 +1,8 @@
 //! Where what each line says begins, and what each name stands for.
 ghost use Rattle.std.specs.Prelude.{◌≡◌};
 ghost use Rattle.muen_num.specs.Answers.{Answers};
-ghost use Rattle.asm_text.specs.Layout.{after_line, at_start, fault_in, labelled, layout_from, line_at, moved, stated, with_name};
-ghost use Rattle.asm_text.specs.Placing.{laid_out, placed_told, shown_layout, standing_of};
+ghost use Rattle.asm_text.specs.Layout.{after_line, at_start, fault_in, labelled, layout_from, source_line_at, continued_at, stated, with_name};
+ghost use Rattle.asm_text.specs.Placing.{laid_out, placed_told, shown_layout, layout_standing_of};
 ghost use Rattle.text_words.specs.Parts.{lines_of};
 
 use crate::fault::{LineError, SourceFault, Want};
@@ -24,7 +24,7 @@ pub(crate) struct Standing {
 impl Standing {
     // A name that is new.
     fn add(&mut self, left: usize, name: Name, meaning: Meaning) -> Result<(), LineError>
-        ensures { Answers LineError.NoMemory (with_name left name meaning (standing_of self.old)) (laid_out result self.new) }
+        ensures { Answers LineError.NoMemory (with_name left name meaning (layout_standing_of self.old)) (laid_out result self.new) }
     {
         if self.names.contains_key(&name) {
             return Err(LineError::Wanted {
@@ -40,7 +40,7 @@ impl Standing {
 
     // What follows begins there.
     fn move_to(&mut self, left: usize, to: u64) -> Result<(), LineError>
-        ensures { laid_out result self.new ≡ moved left to (standing_of self.old) }
+        ensures { laid_out result self.new ≡ continued_at left to (layout_standing_of self.old) }
     {
         if to > COMPONENT_FILE_MOST as u64 {
             return Err(LineError::Wanted {
@@ -53,7 +53,7 @@ impl Standing {
     }
 
     fn add_label(&mut self, label: Option<Label>) -> Result<(), LineError>
-        ensures { Answers LineError.NoMemory (labelled label (standing_of self.old)) (laid_out result self.new) }
+        ensures { Answers LineError.NoMemory (labelled label (layout_standing_of self.old)) (laid_out result self.new) }
     {
         match label {
             None => Ok(()),
@@ -62,7 +62,7 @@ impl Standing {
     }
 
     fn add_statement(&mut self, statement: &Statement) -> Result<(), LineError>
-        ensures { Answers LineError.NoMemory (stated statement.now (standing_of self.old)) (laid_out result self.new) }
+        ensures { Answers LineError.NoMemory (stated statement.now (layout_standing_of self.old)) (laid_out result self.new) }
     {
         let here = self.here;
         match statement {
@@ -97,7 +97,7 @@ impl Standing {
 
     // What a line leaves.
     fn add_line(&mut self, line: &SourceLine) -> Result<(), LineError>
-        ensures { Answers LineError.NoMemory (after_line line.now (standing_of self.old)) (laid_out result self.new) }
+        ensures { Answers LineError.NoMemory (after_line line.now (layout_standing_of self.old)) (laid_out result self.new) }
     {
         self.add_label(line.label)?;
         self.add_statement(&line.statement)
@@ -126,14 +126,14 @@ pub(crate) fn fault_in(number: u64, end: u64, error: LineError) -> SourceFault
 }
 
 // What a line says, and where it begins. What it leaves is kept.
-#[tactic(auto, unfolding(crate::specs::Layout::line_at))]
+#[tactic(auto, unfolding(crate::specs::Layout::source_line_at))]
 fn place_line(
     alloc: Global,
     standing: &mut Standing,
     number: u64,
     text: &[u8],
 ) -> Result<Placed, SourceFault>
-    ensures { Answers SourceFault.NoMemory (line_at (standing_of standing.old) number text.now) (placed_told result standing.new) }
+    ensures { Answers SourceFault.NoMemory (source_line_at (layout_standing_of standing.old) number text.now) (placed_told result standing.new) }
 {
     let here = standing.here;
     let end = text.len() as u64 + 1;

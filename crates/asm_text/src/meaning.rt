@@ -1,7 +1,7 @@
 //! What a statement comes to, where each name is known.
 ghost use Rattle.std.specs.Prelude.{◌≡◌, ◌≤◌, ◌<◌, ◌*◌, ◌^◌, IfOk, IfSome, pos, true};
 ghost use Rattle.muen_num.specs.AccessSize.{bytes_of};
-ghost use Rattle.asm_text.specs.Meaning.{bits_of, distance_by, fits, fits_signed, immediate_by, if_fits, immediate_of, integer_of, is_jump, is_wide, number_of, residue, signed, sum_of, sum_of_atom, sum_of_meaning};
+ghost use Rattle.asm_text.specs.Meaning.{size_bits, distance_by, fits_in_bits, fits_signed, immediate_by, if_fits, immediate_of, integer_of, is_jump, is_wide, number_of, residue, signed, sum_of, sum_of_atom, sum_of_meaning};
 ghost use Rattle.asm_text.specs.Ranges.{IsMagnitude, IsSmallSum, IsSum};
 
 use crate::fault::{LineError, Want};
@@ -107,7 +107,7 @@ fn fits_signed(bits: u32, n: i128) -> bool
 fn fits(bits: u32, n: i128) -> bool
     requires low { 1 ≤ bits }
     requires high { bits ≤ 64 }
-    ensures { result ≡ fits bits n }
+    ensures { result ≡ fits_in_bits bits n }
 {
     -power(bits - 1) <= n && n < power(bits)
 }
@@ -116,7 +116,7 @@ fn fits(bits: u32, n: i128) -> bool
 fn residue(bits: u32, n: i128) -> u64
     requires low { 1 ≤ bits }
     requires high { bits ≤ 64 }
-    requires fits { fits bits n ≡ true }
+    requires fits { fits_in_bits bits n ≡ true }
     ensures value { result ≡ residue bits n }
     ensures within { result < 2 ^ bits }
 {
@@ -208,7 +208,7 @@ pub(crate) fn immediate_of(
 
 // How many bits numbers of this size have.
 fn bits_of(size: AccessSize) -> u32
-    ensures value { result ≡ bits_of size }
+    ensures value { result ≡ size_bits size }
     ensures low { 1 ≤ result }
     ensures high { result ≤ 64 }
 {

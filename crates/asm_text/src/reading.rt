@@ -1,7 +1,7 @@
 //! What a line says.
 ghost use Rattle.std.specs.Prelude.{◌≡◌, ◌++◌, ◌<◌, ◌≤◌, IfOk, IfSome, length, option_map};
 ghost use Rattle.muen_num.specs.Answers.{Answers};
-ghost use Rattle.asm_text.specs.Reading.{at_end, comma, count_of, definition, data_line, displacement, immediate, instruction, integer, integer_with, keyword, label, line_of, memory, below_jump, number, offset_line, operands_of, pair, place, port, register, signed_terms, size, statement, terms, terms_of, value, values, worded};
+ghost use Rattle.asm_text.specs.Reading.{at_end, comma, token_count, definition, data_line, displacement, immediate, instruction, integer, integer_with, keyword, label, source_line_of, memory, below_jump, number, offset_line, operands_of, pair, place, port, register_token, signed_terms, size, statement, terms, terms_of, value, values, worded};
 ghost use Rattle.asm_text.specs.Shown.{is_over, mark_at, sign_at, term_of, told, told_rest, told_two};
 ghost use Rattle.text_words.specs.Steps.{mapped};
 ghost use Rattle.asm_text.specs.Tokens.{tokens_of};
@@ -34,9 +34,9 @@ fn keyword<'a>(text: &str, want: Want, line: &'a [u8]) -> Result<&'a [u8], LineE
     }
 }
 
-#[tactic(auto, unfolding(crate::specs::Reading::register))]
+#[tactic(auto, unfolding(crate::specs::Reading::register_token))]
 fn register(line: &[u8]) -> Result<(u8, &[u8]), LineError>
-    ensures { told result ≡ register (tokens_of line.now) }
+    ensures { told result ≡ register_token (tokens_of line.now) }
 {
     let next = first_token(line);
     if let Some(Token { word, rest }) = next.token {
@@ -211,7 +211,7 @@ fn is_over(line: &[u8]) -> bool
 
 // Values up to the end of the line, with commas between them.
 fn values(alloc: Global, line: &[u8]) -> Result<Seq<Value>, LineError>
-    ensures { Answers LineError.NoMemory (values (count_of (tokens_of line.now)) (tokens_of line.now)) result }
+    ensures { Answers LineError.NoMemory (values (token_count (tokens_of line.now)) (tokens_of line.now)) result }
 {
     let mut values = Seq::new(alloc);
     let mut rest = line;
@@ -474,7 +474,7 @@ fn integer(line: &[u8]) -> Result<(Integer, &[u8]), LineError>
 
 // The name that a word is.
 fn name_at(left: usize, word: &[u8]) -> Result<Name, LineError>
-    ensures { result ≡ Rattle.asm_text.specs.Reading.name_at left word.now }
+    ensures { result ≡ Rattle.asm_text.specs.Reading.name_or_wanted left word.now }
 {
     match symbol_of(word) {
         Some(name) => Ok(name),
@@ -559,9 +559,9 @@ fn label(line: &[u8]) -> Result<(Option<Label>, &[u8]), LineError>
 }
 
 /// What a line says.
-#[tactic(auto, unfolding(crate::specs::Reading::line_of))]
+#[tactic(auto, unfolding(crate::specs::Reading::source_line_of))]
 pub(crate) fn line_of(alloc: Global, line: &[u8]) -> Result<SourceLine, LineError>
-    ensures { Answers LineError.NoMemory (line_of (tokens_of line.now)) result }
+    ensures { Answers LineError.NoMemory (source_line_of (tokens_of line.now)) result }
 {
     match label(line) {
         Ok((label, rest)) => {

@@ -12,10 +12,10 @@ use Rattle.muen_outside.specs.declared.files.FileError.TheVariants.{Failed as Fi
 use Rattle.muen_outside.proofs.Explained.{told_none}
 use Rattle.asm_top.specs.Answers.{Answer, prints, writes, answer_of, of_source}
 use Rattle.asm_top.specs.Calls.{Comes, DoesOrNot, IsCallOf, Told, WriteEnds, missing_text, too_long_text}
-use Rattle.asm_top.specs.Commands.{Command, bin, file_of, most_of}
+use Rattle.asm_top.specs.Commands.{Command, bin, input_file_of, most_of}
 use Rattle.asm_top.specs.Outcomes.{ComesOf, ComesTo, IsUsage, PutsTo, Wrote, WritesTo, ends_with, look_of}
 use Rattle.asm_top.specs.Parsed.{Reported, status_of}
-use Rattle.asm_top.specs.Reads.{NotAssembled, NotRead, Saw, SawSource}
+use Rattle.asm_top.specs.Reads.{NotAssembled, SourceNotRead, Saw, SawSource}
 use Rattle.asm_top.specs.declared.limits.TheConstants.{SOURCE_MOST}
 use Rattle.asm_top.specs.declared.report.CommandError.{CommandError}
 use Rattle.asm_top.specs.declared.report.CommandError.TheVariants.{Usage, Missing, TooLong, Refused, FileFault, OutputFault, NoMemory}
@@ -41,7 +41,7 @@ puts_so old seen text out out' (Err FileFault) put err err' r = absurd put
 
 module _ (c : Command) (held held' : Option Store) (old new : History) (same : held' ≡ held) (out out' : SinkState) where
   -- nothing is written
-  came : (got : Result Reading FileError) → Saw (file_of c) (most_of c) got held old new → (outcome : Outcome)
+  came : (got : Result Reading FileError) → Saw (input_file_of c) (most_of c) got held old new → (outcome : Outcome)
       → ((err err' : SinkState) → Reported err err' outcome → Comes (ends_with old (looked old (look_of c got ∷ [])) out out' outcome err err') (looked old (look_of c got ∷ [])) c got)
       → ComesTo c held held' old new out out' outcome
   came got saw outcome comes = record {
@@ -56,7 +56,7 @@ module _ (c : Command) (held held' : Option Store) (old new : History) (same : h
   }
 
   -- a text is put
-  pub printed : (bytes text : List ℕ) → Saw (file_of c) (most_of c) (Ok (whole bytes)) held old new → answer_of c bytes ≡ prints text
+  pub printed : (bytes text : List ℕ) → Saw (input_file_of c) (most_of c) (Ok (whole bytes)) held old new → answer_of c bytes ≡ prints text
       → (outcome : Outcome) → PutsTo text out out' outcome → ComesTo c held held' old new out out' outcome
   printed bytes text saw is outcome put =
       let seen = looked old (look_of c (Ok (whole bytes)) ∷ []) in
@@ -65,14 +65,14 @@ module _ (c : Command) (held held' : Option Store) (old new : History) (same : h
 
   -- a text of the bytes that a source says
   pub said_printed : (shown : List ℕ → List ℕ) → ((text : List ℕ) → answer_of c text ≡ of_source (λ b. prints (shown b)) (assembled text)) → most_of c ≡ SOURCE_MOST
-      → (bytes : List ℕ) → SawSource (file_of c) held old new (Ok bytes) → (outcome : Outcome) → PutsTo (shown bytes) out out' outcome → ComesTo c held held' old new out out' outcome
+      → (bytes : List ℕ) → SawSource (input_file_of c) held old new (Ok bytes) → (outcome : Outcome) → PutsTo (shown bytes) out out' outcome → ComesTo c held held' old new out out' outcome
   said_printed shown goes_on limit bytes s outcome put =
-      printed s.text (shown bytes) (subst (λ n. Saw (file_of c) n (Ok (whole s.text)) held old new) (sym limit) s.saw)
+      printed s.text (shown bytes) (subst (λ n. Saw (input_file_of c) n (Ok (whole s.text)) held old new) (sym limit) s.saw)
       (goes_on s.text ∙ ap (of_source (λ b. prints (shown b))) s.is) outcome put
 
   module _ (quiet : out' ≡ out) where
     -- the file isn't read
-    pub not_read : (error : CommandError) → NotRead (file_of c) (most_of c) held old new error → ComesTo c held held' old new out out' (Err error)
+    pub not_read : (error : CommandError) → SourceNotRead (input_file_of c) (most_of c) held old new error → ComesTo c held held' old new out out' (Err error)
     not_read (Missing n) h =
         came (Ok absent) h.1 (Err (Missing n))
         (λ err err' r. (refl, record { ended = refl; quiet = quiet; told = subst (λ x. Told (missing_text x) err err') h.0 r }))
@@ -87,13 +87,13 @@ module _ (c : Command) (held held' : Option Store) (old new : History) (same : h
 
     -- .. or is no source
     module _ (next : List ℕ → Answer) (goes_on : (text : List ℕ) → answer_of c text ≡ of_source next (assembled text)) (limit : most_of c ≡ SOURCE_MOST) where
-      with_limit : (got : Result Reading FileError) → Saw (file_of c) SOURCE_MOST got held old new → Saw (file_of c) (most_of c) got held old new
-      with_limit got saw = subst (λ n. Saw (file_of c) n got held old new) (sym limit) saw
+      with_limit : (got : Result Reading FileError) → Saw (input_file_of c) SOURCE_MOST got held old new → Saw (input_file_of c) (most_of c) got held old new
+      with_limit got saw = subst (λ n. Saw (input_file_of c) n got held old new) (sym limit) saw
 
-      no_read : (error : CommandError) → NotRead (file_of c) SOURCE_MOST held old new error → ComesTo c held held' old new out out' (Err error)
-      no_read error h = not_read error (subst (λ n. NotRead (file_of c) n held old new error) (sym limit) h)
+      no_read : (error : CommandError) → SourceNotRead (input_file_of c) SOURCE_MOST held old new error → ComesTo c held held' old new out out' (Err error)
+      no_read error h = not_read error (subst (λ n. SourceNotRead (input_file_of c) n held old new error) (sym limit) h)
 
-      refused : (fault : SourceFault) → SawSource (file_of c) held old new (Err fault) → status_of (Err (Refused fault)) ≡ statuses.SourceRefused → ComesTo c held held' old new out out' (Err (Refused fault))
+      refused : (fault : SourceFault) → SawSource (input_file_of c) held old new (Err fault) → status_of (Err (Refused fault)) ≡ statuses.SourceRefused → ComesTo c held held' old new out out' (Err (Refused fault))
       refused fault s is =
           let seen = looked old (look_of c (Ok (whole s.text)) ∷ []) in
           came (Ok (whole s.text)) (with_limit (Ok (whole s.text)) s.saw) (Err (Refused fault))
@@ -101,7 +101,7 @@ module _ (c : Command) (held held' : Option Store) (old new : History) (same : h
           subst (DoesOrNot (ends_with old seen out out' (Err (Refused fault)) err err') seen) (sym (goes_on s.text ∙ ap (of_source next) s.is))
           (inl (refl, record { ended = is; quiet = quiet; told = r })))
 
-      pub not_assembled : (error : CommandError) → NotAssembled (file_of c) held old new error → ComesTo c held held' old new out out' (Err error)
+      pub not_assembled : (error : CommandError) → NotAssembled (input_file_of c) held old new error → ComesTo c held held' old new out out' (Err error)
       not_assembled (Refused (AtPlace line column want)) s = refused (AtPlace line column want) s refl
       not_assembled (Refused SourceMemory) h = absurd h
       not_assembled NoMemory (inl h) = no_read NoMemory h

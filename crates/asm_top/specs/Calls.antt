@@ -7,7 +7,7 @@ use Rattle.muen_outside.specs.declared.files.FileError.{FileError}
 use Rattle.muen_outside.specs.declared.files.FileError.TheVariants.{Failed as ReadFailed, NoMemory as ReadMemory}
 use Rattle.asm_text.specs.FaultTexts.{source_fault_text}
 use Rattle.asm_top.specs.Answers.{Answer, prints, writes, refuses, answer_of}
-use Rattle.asm_top.specs.Commands.{Command, command_of, file_of, most_of}
+use Rattle.asm_top.specs.Commands.{Command, command_of, input_file_of, most_of}
 use Rattle.asm_top.specs.declared.status.Status.{Status}
 use Rattle.asm_top.specs.declared.status.Status.TheVariants as statuses
 use Rattle.muen_num.specs.Memory.{no_memory_text}
@@ -24,12 +24,12 @@ abbrev pub too_long_text : List ℕ → ℕ → List ℕ
 too_long_text name n = codes "file " ++ (name ++ (codes " has " ++ (decimal n ++ codes " bytes")))
 
 -- the line that is put on the error sink
-abbrev pub line_of : List ℕ → List ℕ
-line_of text = codes "muen_asm: " ++ (text ++ codes "\n")
+abbrev pub assembler_error_line : List ℕ → List ℕ
+assembler_error_line text = codes "muen_asm: " ++ (text ++ codes "\n")
 
 -- the line was appended, or a front of it where the sink has failed
 abbrev pub Told : List ℕ → SinkState → SinkState → Type 0
-Told text old new = Appended (line_of text) old new ⊎ Failed (line_of text) old new
+Told text old new = Appended (assembler_error_line text) old new ⊎ Failed (assembler_error_line text) old new
 
 -- ---- ends
 
@@ -85,8 +85,8 @@ DoesOrNot e seen answer = Does e seen answer ⊎ ((e.after ≡ seen) × Stops e 
 -- what comes of what the file gave
 abbrev pub Comes : Ends → History → Command → Result Reading FileError → Type 0
 Comes e seen c (Ok (whole bytes)) = DoesOrNot e seen (answer_of c bytes)
-Comes e seen c (Ok absent) = (e.after ≡ seen) × Stops e statuses.FileMissing (missing_text (file_of c))
-Comes e seen c (Ok (long n)) = (e.after ≡ seen) × Stops e statuses.FileMissing (too_long_text (file_of c) n)
+Comes e seen c (Ok absent) = (e.after ≡ seen) × Stops e statuses.FileMissing (missing_text (input_file_of c))
+Comes e seen c (Ok (long n)) = (e.after ≡ seen) × Stops e statuses.FileMissing (too_long_text (input_file_of c) n)
 Comes e seen c (Err ReadFailed) = (e.after ≡ seen) × Stops e statuses.FileFault (codes "file fault")
 Comes e seen c (Err ReadMemory) = (e.after ≡ seen) × Stops e statuses.NoMemory no_memory_text
 
@@ -94,7 +94,7 @@ Comes e seen c (Err ReadMemory) = (e.after ≡ seen) × Stops e statuses.NoMemor
 abbrev pub IsCallOf : Option Command → Ends → Type 0
 IsCallOf None e = (e.after ≡ e.before) × Stops e statuses.Usage usage_text
 IsCallOf (Some c) e =
-    (got : Result Reading FileError) × Comes e (looked e.before (look (file_of c) (most_of c) got ∷ [])) c got
+    (got : Result Reading FileError) × Comes e (looked e.before (look (input_file_of c) (most_of c) got ∷ [])) c got
 
 abbrev pub IsCall : List (List ℕ) → Ends → Type 0
 IsCall words e = IsCallOf (command_of words) e

@@ -32,11 +32,11 @@ command_of (word ∷ a ∷ b ∷ []) =
 command_of (word ∷ a ∷ b ∷ c ∷ rest) = None
 
 -- the file that a command reads, and how many bytes it may have
-abbrev pub file_of : Command → List ℕ
-file_of (hex source) = source
-file_of (lines source base) = source
-file_of (bin source file) = source
-file_of (text file) = file
+abbrev pub input_file_of : Command → List ℕ
+input_file_of (hex source) = source
+input_file_of (lines source base) = source
+input_file_of (bin source file) = source
+input_file_of (text file) = file
 
 abbrev pub most_of : Command → ℕ
 most_of (hex source) = SOURCE_MOST

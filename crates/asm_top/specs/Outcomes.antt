@@ -8,7 +8,7 @@ use Rattle.muen_outside.specs.Looks.{WriteLeaves}
 use Rattle.muen_outside.specs.declared.files.FileError.{FileError}
 use Rattle.muen_outside.specs.declared.files.FileError.TheVariants.{Failed as WriteFailed, NoMemory as WriteMemory}
 use Rattle.asm_top.specs.Calls.{Comes, Ends}
-use Rattle.asm_top.specs.Commands.{Command, file_of, most_of}
+use Rattle.asm_top.specs.Commands.{Command, input_file_of, most_of}
 use Rattle.asm_top.specs.Parsed.{Reported, status_of}
 use Rattle.asm_top.specs.declared.report.CommandError.{CommandError}
 use Rattle.asm_top.specs.declared.report.CommandError.TheVariants.{Usage, FileFault, OutputFault, NoMemory}
@@ -33,7 +33,7 @@ WritesTo name bytes held held' old new (Err _) = ⊥
 
 -- the one look of a command
 abbrev pub look_of : Command → Result Reading FileError → Look
-look_of c got = look (file_of c) (most_of c) got
+look_of c got = look (input_file_of c) (most_of c) got
 
 -- what a call finds and leaves whose command ends so
 abbrev pub ends_with : History → History → SinkState → SinkState → Result (Unit {0}) CommandError → SinkState → SinkState → Ends

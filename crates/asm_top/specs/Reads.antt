@@ -18,12 +18,12 @@ pub record Saw (name : List ℕ) (most : ℕ) (got : Result Reading FileError) (
   pub told : IfSome held (λ m. ShowAll m (look name most got ∷ []))
 
 -- why a look gives no bytes
-abbrev pub NotRead : List ℕ → ℕ → Option Store → History → History → CommandError → Type 0
-NotRead name most held old new (Missing n) = (n.now ≡ name) × Saw name most (Ok absent) held old new
-NotRead name most held old new (TooLong n k) = (n.now ≡ name) × Saw name most (Ok (long k)) held old new
-NotRead name most held old new FileFault = Saw name most (Err ReadFailed) held old new
-NotRead name most held old new NoMemory = Saw name most (Err ReadMemory) held old new
-NotRead name most held old new _ = ⊥
+abbrev pub SourceNotRead : List ℕ → ℕ → Option Store → History → History → CommandError → Type 0
+SourceNotRead name most held old new (Missing n) = (n.now ≡ name) × Saw name most (Ok absent) held old new
+SourceNotRead name most held old new (TooLong n k) = (n.now ≡ name) × Saw name most (Ok (long k)) held old new
+SourceNotRead name most held old new FileFault = Saw name most (Err ReadFailed) held old new
+SourceNotRead name most held old new NoMemory = Saw name most (Err ReadMemory) held old new
+SourceNotRead name most held old new _ = ⊥
 
 -- a source was read, and this is what its text says
 pub record SawSource (name : List ℕ) (held : Option Store) (old new : History) (said : Result (List ℕ) SourceFault) : Type 0 where
@@ -39,5 +39,5 @@ pub record SawAny (name : List ℕ) (held : Option Store) (old new : History) : 
 -- why a file of a source gives no bytes: it isn't read, or is refused, or memory is
 abbrev pub NotAssembled : List ℕ → Option Store → History → History → CommandError → Type 0
 NotAssembled name held old new (Refused (AtPlace line column want)) = SawSource name held old new (Err (AtPlace line column want))
-NotAssembled name held old new NoMemory = NotRead name SOURCE_MOST held old new NoMemory ⊎ SawAny name held old new
-NotAssembled name held old new error = NotRead name SOURCE_MOST held old new error
+NotAssembled name held old new NoMemory = SourceNotRead name SOURCE_MOST held old new NoMemory ⊎ SawAny name held old new
+NotAssembled name held old new error = SourceNotRead name SOURCE_MOST held old new error

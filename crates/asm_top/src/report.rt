@@ -2,7 +2,7 @@
 ghost use Rattle.std.specs.Prelude.{◌≡◌};
 ghost use Rattle.muen_num.specs.Pieces.{whole};
 ghost use Rattle.muen_outside.specs.Puts.{Puts};
-ghost use Rattle.asm_top.specs.Calls.{line_of, usage_text};
+ghost use Rattle.asm_top.specs.Calls.{assembler_error_line, usage_text};
 ghost use Rattle.asm_top.specs.Parsed.{Reported, error_text, status_of};
 
 use crate::status::Status;
@@ -58,7 +58,7 @@ fn pieces<'a>(error: CommandError<'a>, one: &'a mut Buffer, two: &'a mut Buffer)
 
 // The line with this text.
 fn put_line<S: Sink>(text: &Pieces<'_>, err: &mut S) -> Result<(), SinkFault>
-    ensures { Puts (line_of (whole text.now)) (S.state err.old) (S.state err.new) result }
+    ensures { Puts (assembler_error_line (whole text.now)) (S.state err.old) (S.state err.new) result }
 {
     let Pieces(a, b, c, d, e, f, g, last) = *text;
     put_pieces(&["muen_asm: ", a, b, c, d, e, f, g, last, "\n"], err)

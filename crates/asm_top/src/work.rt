@@ -9,7 +9,7 @@ ghost use Rattle.asm_top.specs.Answers.{hex_text};
 ghost use Rattle.asm_top.specs.Calls.{IsCall, ends};
 ghost use Rattle.asm_top.specs.Commands.{bin, command_of, hex, lines, text};
 ghost use Rattle.asm_top.specs.Outcomes.{ComesOf, ComesTo, PutsTo, WritesTo};
-ghost use Rattle.asm_top.specs.Reads.{NotAssembled, NotRead, Saw, SawSource};
+ghost use Rattle.asm_top.specs.Reads.{NotAssembled, SourceNotRead, Saw, SawSource};
 
 use crate::command::Command;
 use crate::limits::SOURCE_MOST;
@@ -30,7 +30,7 @@ fn read<'a, F: Files>(
     files: &mut F,
 ) -> Result<Seq<u8>, CommandError<'a>>
     ensures ok { IfOk result (λ bytes. Saw name.now most (Ok (whole bytes)) (F.held files.old) (F.history files.old) (F.history files.new)) }
-    ensures err { IfErr result (NotRead name.now most (F.held files.old) (F.history files.old) (F.history files.new)) }
+    ensures err { IfErr result (SourceNotRead name.now most (F.held files.old) (F.history files.old) (F.history files.new)) }
     ensures held { F.held files.new ≡ F.held files.old }
 {
     match files.read(alloc, name, most) {

@@ -1,7 +1,7 @@
 -- A form that is read, and what reads on behind it.
 use Rattle.std.proofs.Common.{◌≡◌, ℕ, ◌≤◌, List, length, Result, Ok, Err, inl, inr}
 use Rattle.binary_form.specs.declared.fault.FormFault.{FormFault}
-use Rattle.binary_form.specs.Form.{IsBytes, ◌>>=◌, Form, left_of}
+use Rattle.binary_form.specs.Form.{IsBytes, ◌>>=◌, Form, fault_bytes_left}
 use Rattle.binary_form.proofs.Leaves.{Laws, Takes, Takes-shorter, bind_err, bind_ok}
 
 -- a value was read, which is spelled so and fits; and the value and what is left behind it were read on
@@ -23,8 +23,8 @@ read_on f laws next bytes y are e =
 
 -- the field of a fault begins among the bytes, if that of a fault of what reads on does
 pub within_on : {A B : Type 0} (f : Form A) → Laws f → (next : A × List ℕ → Result B FormFault) (bytes : List ℕ) (s : FormFault) → IsBytes bytes
-    → ((value : A) (left : List ℕ) → IsBytes left → length left ≤ length bytes → next (value, left) ≡ Err s → left_of s ≤ length bytes)
-    → (f.read bytes >>= next) ≡ Err s → left_of s ≤ length bytes
+    → ((value : A) (left : List ℕ) → IsBytes left → length left ≤ length bytes → next (value, left) ≡ Err s → fault_bytes_left s ≤ length bytes)
+    → (f.read bytes >>= next) ≡ Err s → fault_bytes_left s ≤ length bytes
 within_on f laws next bytes s are behind e =
     elim (bind_err (f.read bytes) next s e) [
       | inl here ↦ laws.within bytes s are here

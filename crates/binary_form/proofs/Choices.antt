@@ -2,7 +2,7 @@
 use Rattle.std.proofs.Common.{◌≡◌, ℕ, Bool, true, false, List, [], ◌++◌, length, replicate, Option, Some, None, Result, Ok, refl, sym, ap, subst, ◌∙◌, inl, inr}
 use Rattle.binary_form.specs.declared.fault.Field.{Field}
 use Rattle.binary_form.specs.declared.fault.FormFault.{FormFault}
-use Rattle.binary_form.specs.Form.{◌>>=◌, Form, longer, gap_at, absent, present, spelled_there, fits_there, either, done}
+use Rattle.binary_form.specs.Form.{◌>>=◌, Form, longer, gap_at, absent_value, present, spelled_there, fits_there, either, done}
 use Rattle.binary_form.proofs.Behind.{read_on, within_on}
 use Rattle.binary_form.proofs.Fields.{Knows}
 use Rattle.binary_form.proofs.Gaps.{gap_takes, gap_again, gap_within, gap_stays}
@@ -24,8 +24,8 @@ done_laws {S} made = record {
 -- ---- a value or none
 
 -- that of no value has them
-pub absent_laws : {A : Type 0} (n : ℕ) (name : Field) → Laws (absent {A = A} n name)
-unfolding absent
+pub absent_laws : {A : Type 0} (n : ℕ) (name : Field) → Laws (absent_value {A = A} n name)
+unfolding absent_value
 absent_laws {A} n name = record {
   takes = λ bytes o rest are e.
       let none : Option A = None in

@@ -5,7 +5,7 @@ use Rattle.std.proofs.lemmas.List.{length-append}
 use Rattle.binary_form.specs.declared.fault.Field.{Field}
 use Rattle.binary_form.specs.declared.fault.FormFault.{FormFault}
 use Rattle.binary_form.specs.declared.fault.FormFault.TheVariants.{Short, Bad, Trailing}
-use Rattle.binary_form.specs.Form.{IsBytes, ◌>>=◌, Form, left_of, IsSettled, extended, longer, only, field, tag, gap, done}
+use Rattle.binary_form.specs.Form.{IsBytes, ◌>>=◌, Form, fault_bytes_left, IsSettled, extended, longer, only, field, tag, gap, done}
 use Rattle.binary_form.proofs.Behind.{read_on, within_on}
 use Rattle.binary_form.proofs.Leaves.{test_ok, test_err, Takes, Takes-then, Laws, bind_stays}
 
@@ -42,7 +42,7 @@ module _ {A : Type 0} (test : A → Bool) (name : Field) (f : Form A) (laws : La
   only_again x rest fits = rw (laws.again x rest fits.0, fits.1) refl
 
   -- a fault begins among the bytes
-  only_within : (bytes : List ℕ) (s : FormFault) → IsBytes bytes → (only test name f).read bytes ≡ Err s → left_of s ≤ length bytes
+  only_within : (bytes : List ℕ) (s : FormFault) → IsBytes bytes → (only test name f).read bytes ≡ Err s → fault_bytes_left s ≤ length bytes
   unfolding only
   only_within bytes s are e =
       within_on f laws (λ y. cond (test y.0) (Ok y) (Err (Bad (length bytes) name))) bytes s are
@@ -126,7 +126,7 @@ module _ {S A : Type 0} (get : S → A) (f : Form A) (more : A → Form S) (firs
       ∙ (others (get s)).again s rest fits.1
 
   -- a fault of either begins among the bytes
-  field_within : (bytes : List ℕ) (s : FormFault) → IsBytes bytes → (field get f more).read bytes ≡ Err s → left_of s ≤ length bytes
+  field_within : (bytes : List ℕ) (s : FormFault) → IsBytes bytes → (field get f more).read bytes ≡ Err s → fault_bytes_left s ≤ length bytes
   unfolding field
   field_within bytes s are e =
       within_on f first (λ x. (more x.0).read x.1) bytes s are

@@ -5,7 +5,7 @@ use Rattle.std.proofs.lemmas.List.{append-nil, nil_from_length}
 use Rattle.binary_form.specs.declared.fault.Field.{Field}
 use Rattle.binary_form.specs.declared.fault.FormFault.{FormFault}
 use Rattle.binary_form.specs.declared.fault.FormFault.TheVariants.{Short, Bad, Trailing}
-use Rattle.binary_form.specs.Form.{IsBytes, ◌>>=◌, Form, left_of, IsSettled, extended, longer, whole}
+use Rattle.binary_form.specs.Form.{IsBytes, ◌>>=◌, Form, fault_bytes_left, IsSettled, extended, longer, whole}
 use Rattle.binary_form.proofs.Behind.{read_on, within_on}
 use Rattle.binary_form.proofs.Leaves.{test_ok, test_err, Laws, number_laws, byte_laws, bytes_laws, coded_laws, wide16, wide32, wide64}
 pub use Rattle.binary_form.proofs.Choices.{absent_laws, done_laws, either_laws, knows_either, present_laws}
@@ -61,7 +61,7 @@ unfolding whole
 whole_again f laws x fits = ap (λ t. f.read t >>= ending) (sym (append-nil (f.spell x))) ∙ ap (λ r. r >>= ending) (laws.again x [] fits)
 
 -- the field of a fault begins among the bytes
-pub whole_within : {A : Type 0} (f : Form A) → Laws f → (bytes : List ℕ) (s : FormFault) → IsBytes bytes → whole f bytes ≡ Err s → left_of s ≤ length bytes
+pub whole_within : {A : Type 0} (f : Form A) → Laws f → (bytes : List ℕ) (s : FormFault) → IsBytes bytes → whole f bytes ≡ Err s → fault_bytes_left s ≤ length bytes
 unfolding whole
 whole_within f laws bytes s are e =
     within_on f laws ending bytes s are

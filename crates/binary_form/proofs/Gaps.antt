@@ -8,7 +8,7 @@ use Rattle.std.proofs.lemmas.Slice.Eq.{bytes_eq-Decides}
 use Rattle.binary_form.specs.declared.fault.Field.{Field}
 use Rattle.binary_form.specs.declared.fault.FormFault.{FormFault}
 use Rattle.binary_form.specs.declared.fault.FormFault.TheVariants.{Short, Bad}
-use Rattle.binary_form.specs.Form.{IsBytes, ◌>>=◌, Form, left_of, IsSettled, extended, longer, tag, tag_at, gap, gap_at}
+use Rattle.binary_form.specs.Form.{IsBytes, ◌>>=◌, Form, fault_bytes_left, IsSettled, extended, longer, tag, tag_at, gap, gap_at}
 use Rattle.binary_form.proofs.Fields.{chosen_stays}
 use Rattle.binary_form.proofs.Leaves.{IsBytes-drop, bind_ok, tests_ok, bind_err, tests_err, Takes-shorter, Takes, Takes-then, Laws, bind_stays, field_stays}
 
@@ -37,7 +37,7 @@ module _ (wanted : List ℕ) (name : Field) where
       rw (long, take_at wanted rest (length wanted) refl, drop_at wanted rest (length wanted) refl, same) refl
 
   -- where they don't stand there, the fault begins among the bytes
-  tag_within : (bytes : List ℕ) (s : FormFault) → tag_at wanted name bytes ≡ Err s → left_of s ≤ length bytes
+  tag_within : (bytes : List ℕ) (s : FormFault) → tag_at wanted name bytes ≡ Err s → fault_bytes_left s ≤ length bytes
   unfolding tag_at
   tag_within bytes s e =
       let n = length wanted in
@@ -118,7 +118,7 @@ module _ (n : ℕ) (name : Field) where
       rw (long, take_at (replicate n 0) rest n len, drop_at (replicate n 0) rest n len, are_zeros n) refl
 
   -- where they don't stand there, the fault begins among the bytes
-  pub gap_within : (bytes : List ℕ) (s : FormFault) → gap_at n name bytes ≡ Err s → left_of s ≤ length bytes
+  pub gap_within : (bytes : List ℕ) (s : FormFault) → gap_at n name bytes ≡ Err s → fault_bytes_left s ≤ length bytes
   unfolding gap_at
   gap_within bytes s e =
       elim (tests_err (ltb (length bytes) n) (list_all (λ b. eqb b 0) (take n bytes)) (Short (length bytes)) (Bad (length bytes) name) (drop n bytes) s e) [

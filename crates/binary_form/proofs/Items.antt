@@ -1,7 +1,7 @@
 -- The laws of forms of many items: so many, each by what the ones before it left, and one for each of a list.
 use Rattle.std.proofs.Common.{◌≡◌, ℕ, zero, suc, ◌≤◌, List, [], ◌∷◌, ◌++◌, length, Result, Ok, Err, refl, ap, subst, ◌∙◌, append_assoc, arith, inl, inr}
 use Rattle.binary_form.specs.declared.fault.FormFault.{FormFault}
-use Rattle.binary_form.specs.Form.{IsBytes, ◌>>=◌, Form, left_of, IsSettled, extended, longer, field, items, items_at, spells, all_fit, each, each_at, each_spelled, each_fit}
+use Rattle.binary_form.specs.Form.{IsBytes, ◌>>=◌, Form, fault_bytes_left, IsSettled, extended, longer, field, items, items_at, spells, all_fit, each, each_at, each_spelled, each_fit}
 use Rattle.binary_form.proofs.Behind.{read_on, within_on}
 use Rattle.binary_form.proofs.Fields.{Knows, knows_within}
 use Rattle.binary_form.proofs.Leaves.{bind_ok, bind_err, ok_not_err, ok_is, Takes, Takes-then, Laws, bind_stays}
@@ -57,7 +57,7 @@ module _ {A C : Type 0} (next : C → A → C) (form : C → Form A) (laws : (c 
       ∙ ap (λ (r : Result (List A × List ℕ) FormFault). r >>= with_first x) (items_again (next c x) xs rest fits.1)
 
   -- a fault begins among the bytes
-  items_within : (c : C) (n : ℕ) (bytes : List ℕ) (s : FormFault) → IsBytes bytes → read_items c n bytes ≡ Err s → left_of s ≤ length bytes
+  items_within : (c : C) (n : ℕ) (bytes : List ℕ) (s : FormFault) → IsBytes bytes → read_items c n bytes ≡ Err s → fault_bytes_left s ≤ length bytes
   unfolding items_at
   items_within c zero bytes s are e = let none : List A = [] in absurd (ok_not_err (none, bytes) s e)
   items_within c (suc n) bytes s are e =
@@ -145,7 +145,7 @@ module _ {R A : Type 0} (form : R → Form A) (laws : (r : R) → Laws (form r))
       ∙ ap (λ (q : Result (List A × List ℕ) FormFault). q >>= with_first x) (each_again rs xs rest fits.1)
 
   -- a fault begins among the bytes
-  each_within : (rs : List R) (bytes : List ℕ) (s : FormFault) → IsBytes bytes → read_each rs bytes ≡ Err s → left_of s ≤ length bytes
+  each_within : (rs : List R) (bytes : List ℕ) (s : FormFault) → IsBytes bytes → read_each rs bytes ≡ Err s → fault_bytes_left s ≤ length bytes
   unfolding each_at
   each_within [] bytes s are e = let none : List A = [] in absurd (ok_not_err (none, bytes) s e)
   each_within (r ∷ rs) bytes s are e =

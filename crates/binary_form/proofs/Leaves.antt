@@ -7,7 +7,7 @@ use Rattle.std.proofs.lemmas.Nat.{le_bytes_2, le_bytes_4, le_bytes_8, from_le_by
 use Rattle.binary_form.specs.declared.fault.Field.{Field}
 use Rattle.binary_form.specs.declared.fault.FormFault.{FormFault}
 use Rattle.binary_form.specs.declared.fault.FormFault.TheVariants.{Short, Bad, Trailing}
-use Rattle.binary_form.specs.Form.{IsBytes, ◌>>=◌, Form, left_of, IsSettled, extended, longer, number, number_at, byte, byte_at, bytes_of, bytes_at, coded, coded_at, coded_in}
+use Rattle.binary_form.specs.Form.{IsBytes, ◌>>=◌, Form, fault_bytes_left, IsSettled, extended, longer, number, number_at, byte, byte_at, fixed_bytes, bytes_at, coded, coded_at, coded_in}
 
 pub IsBytes-drop : (n : ℕ) (bytes : List ℕ) → IsBytes bytes → IsBytes (drop n bytes)
 IsBytes-drop n bytes h i = rw get_or-drop (h (n + i))
@@ -96,7 +96,7 @@ Takes-then a x b y c p q = record { parts = p.parts ∙ ap (λ (t : List ℕ). x
 pub record Laws {A : Type 0} (f : Form A) : Type 0 where
   pub takes : (bytes : List ℕ) (x : A) (rest : List ℕ) → IsBytes bytes → f.read bytes ≡ Ok (x, rest) → Takes bytes (f.spell x) rest × f.fits x
   pub again : (x : A) (rest : List ℕ) → f.fits x → f.read (f.spell x ++ rest) ≡ Ok (x, rest)
-  pub within : (bytes : List ℕ) (s : FormFault) → IsBytes bytes → f.read bytes ≡ Err s → left_of s ≤ length bytes
+  pub within : (bytes : List ℕ) (s : FormFault) → IsBytes bytes → f.read bytes ≡ Err s → fault_bytes_left s ≤ length bytes
   pub stays : (bytes more : List ℕ) → IsSettled (f.read bytes) → f.read (bytes ++ more) ≡ extended (longer more) (length more) (f.read bytes)
 
 pub bind_stays : {X Y : Type 0} (gx : X → X) (gy : Y → Y) (n : ℕ) (r q : Result X FormFault) (k : X → Result Y FormFault) → (IsSettled r → q ≡ extended gx n r) → ((x : X) → IsSettled (k x) → k (gx x) ≡ extended gy n (k x))
@@ -170,7 +170,7 @@ number_again w wide n rest lt =
     let long : ltb (length (to_le_bytes w n ++ rest)) (byte_len w) ≡ false = le-ltb _ _ (omega (arith, length-append (to_le_bytes w n) rest)) in
     rw (long, take_at (to_le_bytes w n) rest (byte_len w) len, drop_at (to_le_bytes w n) rest (byte_len w) len, wide.again n lt) refl
 
-number_within : (w : Width) (bytes : List ℕ) (s : FormFault) → IsBytes bytes → number_at w bytes ≡ Err s → left_of s ≤ length bytes
+number_within : (w : Width) (bytes : List ℕ) (s : FormFault) → IsBytes bytes → number_at w bytes ≡ Err s → fault_bytes_left s ≤ length bytes
 unfolding number_at
 number_within w bytes s fits e =
     rw (← guard_err (ltb (length bytes) (byte_len w)) (Short (length bytes)) (from_le_bytes w (take (byte_len w) bytes), drop (byte_len w) bytes) s e) (omega arith)
@@ -193,7 +193,7 @@ byte_again : (b : ℕ) (rest : List ℕ) → b < 256 → byte_at ((b ∷ []) ++ 
 unfolding byte_at
 byte_again b rest lt = refl
 
-byte_within : (bytes : List ℕ) (s : FormFault) → IsBytes bytes → byte_at bytes ≡ Err s → left_of s ≤ length bytes
+byte_within : (bytes : List ℕ) (s : FormFault) → IsBytes bytes → byte_at bytes ≡ Err s → fault_bytes_left s ≤ length bytes
 unfolding byte_at
 byte_within [] s fits e = rw (← err_is (Short 0) s e) (omega arith)
 byte_within (x ∷ xs) s fits e = absurd cc
@@ -222,7 +222,7 @@ bytes_again n t rest fits =
     let long : ltb (length (t ++ rest)) n ≡ false = le-ltb _ _ (omega (arith, length-append t rest)) in
     rw (long, take_at t rest n len, drop_at t rest n len) refl
 
-bytes_within : (n : ℕ) (bytes : List ℕ) (s : FormFault) → IsBytes bytes → bytes_at n bytes ≡ Err s → left_of s ≤ length bytes
+bytes_within : (n : ℕ) (bytes : List ℕ) (s : FormFault) → IsBytes bytes → bytes_at n bytes ≡ Err s → fault_bytes_left s ≤ length bytes
 unfolding bytes_at
 bytes_within n bytes s fits e = rw (← guard_err (ltb (length bytes) n) (Short (length bytes)) (take n bytes, drop n bytes) s e) (omega arith)
 
@@ -230,8 +230,8 @@ bytes_stays : (n : ℕ) (bytes more : List ℕ) → IsSettled (bytes_at n bytes)
 unfolding bytes_at
 bytes_stays n bytes more settled = field_stays (longer more) n (λ left front rest. Ok (front, rest)) bytes more (λ front rest. refl) settled
 
-pub bytes_laws : (n : ℕ) → Laws (bytes_of n)
-unfolding bytes_of
+pub bytes_laws : (n : ℕ) → Laws (fixed_bytes n)
+unfolding fixed_bytes
 bytes_laws n = record { takes = bytes_takes n; again = bytes_again n; within = bytes_within n; stays = bytes_stays n }
 
 -- ---- what is decoded as one
@@ -267,11 +267,11 @@ coded_again n decode encode _ code x rest fits =
     let long : ltb (length (encode x ++ rest)) n ≡ false = le-ltb _ _ (omega (arith, length-append (encode x) rest)) in
     rw (long, take_at (encode x) rest n size, drop_at (encode x) rest n size, fits) refl
 
-coded_err : {A : Type 0} (name : Field) (left : ℕ) (behind : List ℕ) (o : Option A) (s : FormFault) → coded_in name left behind o ≡ Err s → left_of s ≡ left
-coded_err {A} title left behind None s e = ap left_of (sym (err_is {A = A × List ℕ} (Bad left title) s e))
+coded_err : {A : Type 0} (name : Field) (left : ℕ) (behind : List ℕ) (o : Option A) (s : FormFault) → coded_in name left behind o ≡ Err s → fault_bytes_left s ≡ left
+coded_err {A} title left behind None s e = ap fault_bytes_left (sym (err_is {A = A × List ℕ} (Bad left title) s e))
 coded_err title left behind (Some y) s e = absurd (ok_not_err (y, behind) s e)
 
-coded_within : {A : Type 0} (n : ℕ) (decode : List ℕ → Option A) (name : Field) (bytes : List ℕ) (s : FormFault) → coded_at n decode name bytes ≡ Err s → left_of s ≤ length bytes
+coded_within : {A : Type 0} (n : ℕ) (decode : List ℕ → Option A) (name : Field) (bytes : List ℕ) (s : FormFault) → coded_at n decode name bytes ≡ Err s → fault_bytes_left s ≤ length bytes
 unfolding coded_at
 coded_within n decode name bytes s e =
     elim (else_err (ltb (length bytes) n) (Short (length bytes)) (coded_in name (length bytes) (drop n bytes) (decode (take n bytes))) s e) [

@@ -11,7 +11,7 @@ use Rattle.muen_num.proofs.Numbers.{byte_low}
 use Rattle.muen_num.specs.Naming.{is_name, is_name_byte, name_room}
 use Rattle.binary_form.specs.declared.fault.Field.{Field}
 use Rattle.binary_form.specs.declared.fault.Field.TheVariants as at
-use Rattle.binary_form.specs.Form.{IsBytes, Form, number, byte, bytes_of, coded, only, field, gap, done, absent, present, spelled_there, fits_there, either, items, spells, all_fit, each, each_spelled, each_fit}
+use Rattle.binary_form.specs.Form.{IsBytes, Form, number, byte, fixed_bytes, coded, only, field, gap, done, absent_value, present, spelled_there, fits_there, either, items, spells, all_fit, each, each_spelled, each_fit}
 use Rattle.binary_form.specs.Name.{name, name_in, name_bytes}
 use Rattle.binary_form.proofs.Leaves.{IsCode, IsWide}
 use Rattle.binary_form.proofs.NameLaws.{name_code, name_kept, name_short}
@@ -85,8 +85,8 @@ pub byte_sized : IsSized 1 byte
 unfolding byte
 byte_sized = record { bytes = λ b fits. one_more b [] fits no_bytes; few = λ b fits. omega arith }
 
-pub bytes_sized : (n : ℕ) → IsSized n (bytes_of n)
-unfolding bytes_of
+pub bytes_sized : (n : ℕ) → IsSized n (fixed_bytes n)
+unfolding fixed_bytes
 bytes_sized n = record { bytes = λ t fits. fits.1; few = λ t fits. let len = fits.0 in omega (arith, len) }
 
 pub coded_sized : {A : Type 0} (n : ℕ) (decode : List ℕ → Option A) (encode : A → List ℕ) (title : Field) → IsCode n decode encode → ((x : A) → decode (encode x) ≡ Some x → IsBytes (encode x)) → IsSized n (coded n decode encode title)
@@ -134,8 +134,8 @@ pub done_sized : {S : Type 0} (made : S) → IsSized 0 (done made)
 unfolding done
 done_sized made = record { bytes = λ s fits. no_bytes; few = λ s fits. omega arith }
 
-pub absent_sized : {A : Type 0} (n : ℕ) (title : Field) → IsSized n (absent {A = A} n title)
-unfolding absent
+pub absent_sized : {A : Type 0} (n : ℕ) (title : Field) → IsSized n (absent_value {A = A} n title)
+unfolding absent_value
 absent_sized n _ = record { bytes = λ o fits. zeros n; few = λ o fits. let many = length-replicate {A = ℕ} n 0 in omega (arith, many) }
 
 there_bytes : {A : Type 0} (n : ℕ) (f : Form A) → IsSized n f → (o : Option A) → fits_there f o → IsBytes (spelled_there f o)

@@ -34,9 +34,9 @@ abbrev pub at_offset : ℕ → List ℕ → List ℕ
 at_offset at why = image_refused_at ++ (decimal at ++ (codes ": " ++ why))
 
 -- what is wrong at an offset, or at none
-abbrev pub fault_place_text : Option ℕ → List ℕ → List ℕ
-fault_place_text (Some at) why = at_offset at why
-fault_place_text None why = why
+abbrev pub fault_offset_text : Option ℕ → List ℕ → List ℕ
+fault_offset_text (Some at) why = at_offset at why
+fault_offset_text None why = why
 
 abbrev pub image_fault_text : ImageFault → List ℕ
 image_fault_text (Short at) = at_offset at (codes "short")

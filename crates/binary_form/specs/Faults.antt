@@ -6,7 +6,7 @@ use Rattle.binary_form.specs.declared.fault.FormFault.{FormFault}
 use Rattle.binary_form.specs.declared.fault.FormFault.TheVariants.{Short, Bad, Trailing}
 use Rattle.binary_form.specs.declared.fault.FormError.{FormError}
 use Rattle.binary_form.specs.declared.fault.FormError.TheVariants.{NoMemory, At}
-use Rattle.binary_form.specs.Form.{Form, left_of, whole}
+use Rattle.binary_form.specs.Form.{Form, fault_bytes_left, whole}
 
 -- the fault, by its offset among so many bytes
 abbrev pub located : ℕ → FormFault → ImageFault
@@ -37,7 +37,7 @@ Tells wanted (Err f) = IsWanted wanted f
 -- its field begins among so many bytes
 abbrev pub IsErrorOf : ℕ → FormError → Type 0
 IsErrorOf total NoMemory = Unit {0}
-IsErrorOf total (At s) = left_of s ≤ total
+IsErrorOf total (At s) = fault_bytes_left s ≤ total
 
 -- the fault tells why a reader of so many bytes stopped
 abbrev pub IsFaultOf : ℕ → FormError → ImageFault → Type 0

@@ -26,10 +26,10 @@ pub record Form (A : Type 0) : Type 1 where
   pub fits : A → Type 0
 
 -- how many bytes are left from where the field of a fault begins
-abbrev pub left_of : FormFault → ℕ
-left_of (Short left) = left
-left_of (Bad left field) = left
-left_of (Trailing left) = left
+abbrev pub fault_bytes_left : FormFault → ℕ
+fault_bytes_left (Short left) = left
+fault_bytes_left (Bad left field) = left
+fault_bytes_left (Trailing left) = left
 
 -- more than the end of the bytes stopped it, or nothing did
 abbrev pub IsSettled : {X : Type 0} → Result X FormFault → Type 0
@@ -81,8 +81,8 @@ unfoldable pub bytes_at : ℕ → List ℕ → Result (List ℕ × List ℕ) For
 bytes_at n bytes = if nat_lt (length bytes) n then Err (Short (length bytes)) else Ok (take n bytes, drop n bytes)
 
 -- so many bytes, as they are
-unfoldable pub bytes_of : ℕ → Form (List ℕ)
-bytes_of n = record { read = bytes_at n; spell = λ t. t; fits = λ t. (length t ≡ n) × IsBytes t }
+unfoldable pub fixed_bytes : ℕ → Form (List ℕ)
+fixed_bytes n = record { read = bytes_at n; spell = λ t. t; fits = λ t. (length t ≡ n) × IsBytes t }
 
 abbrev pub coded_in : {A : Type 0} → Field → ℕ → List ℕ → Option A → Result (A × List ℕ) FormFault
 coded_in field left rest (Some x) = Ok (x, rest)
@@ -112,8 +112,8 @@ gap_at n field bytes =
     else (if list_all (λ b. b == 0) (take n bytes) then Ok (drop n bytes) else Err (Bad (length bytes) field))
 
 -- so many zeros, and there is no value
-unfoldable pub absent : {A : Type 0} → ℕ → Field → Form (Option A)
-absent n field = record {
+unfoldable pub absent_value : {A : Type 0} → ℕ → Field → Form (Option A)
+absent_value n field = record {
   read = λ bytes. gap_at n field bytes >>= λ rest. Ok (None, rest);
   spell = λ o. replicate n 0;
   fits = λ o. o ≡ None;

@@ -3,7 +3,7 @@ ghost use Rattle.std.specs.Prelude.{◌≡◌};
 ghost use Rattle.muen_num.specs.Pieces.{whole};
 ghost use Rattle.binary_form.specs.declared.fault.FormError.TheVariants.{NoMemory as OutOfMemory};
 ghost use Rattle.binary_form.specs.Faults.{IsFaultOf, IsErrorOf};
-ghost use Rattle.binary_form.specs.FaultText.{fault_place_text, field_text, image_fault_text, image_refused_at};
+ghost use Rattle.binary_form.specs.FaultText.{fault_offset_text, field_text, image_fault_text, image_refused_at};
 
 use itoa::Buffer;
 use muen_num::{NoMemory, Pieces};
@@ -157,7 +157,7 @@ fn image_refused_at() -> &'static str
 impl ImageFault {
     // The offset, and what is wrong there; no offset where memory was refused.
     fn place(self) -> (Option<u64>, &'static str)
-        ensures { fault_place_text result.0 result.1.now ≡ image_fault_text self }
+        ensures { fault_offset_text result.0 result.1.now ≡ image_fault_text self }
     {
         match self {
             ImageFault::Short { at } => (Some(at), "short"),

@@ -1,11 +1,11 @@
 //! Readers of single fields: each gives the value and the bytes behind it, or says how many bytes
 //! are left from where the field begins.
-#![tactic(auto, unfolding(crate::specs::Form::number, crate::specs::Form::number_at, crate::specs::Form::byte, crate::specs::Form::byte_at, crate::specs::Form::bytes_of, crate::specs::Form::bytes_at, crate::specs::Form::tag_at, crate::specs::Form::gap_at))]
+#![tactic(auto, unfolding(crate::specs::Form::number, crate::specs::Form::number_at, crate::specs::Form::byte, crate::specs::Form::byte_at, crate::specs::Form::fixed_bytes, crate::specs::Form::bytes_at, crate::specs::Form::tag_at, crate::specs::Form::gap_at))]
 
 ghost use Rattle.std.specs.Prelude.{◌≡◌, ◌==◌, length};
 ghost use Rattle.std.specs.Int.{w16, w32, w64};
 ghost use Rattle.std.specs.List.{list_all};
-ghost use Rattle.binary_form.specs.Form.{Form, Gives, byte, bytes_of, gap_at, number, tag_at};
+ghost use Rattle.binary_form.specs.Form.{Form, Gives, byte, fixed_bytes, gap_at, number, tag_at};
 ghost use Rattle.binary_form.specs.Name.{name, name_in};
 
 use crate::fault::{Field, FormError, FormFault};
@@ -113,7 +113,7 @@ pub fn gap_of(bytes: &[u8], n: usize, field: Field) -> Result<&[u8], FormError>
 
 /// So many bytes. `Short` where there are fewer, and `NoMemory` where memory for them was refused.
 pub fn bytes_upto(alloc: Global, bytes: &[u8], n: usize) -> Result<(Seq<u8>, &[u8]), FormError>
-    ensures { Gives (λ x. (x.0, x.1.now)) result ((bytes_of n).read bytes.now) }
+    ensures { Gives (λ x. (x.0, x.1.now)) result ((fixed_bytes n).read bytes.now) }
 {
     if bytes.len() < n {
         return Err(short(bytes));

@@ -4,7 +4,7 @@
 
 ghost use Rattle.std.specs.Prelude.{◌≡◌, ℕ, ◌++◌, replicate, OnOk};
 ghost use Rattle.std.specs.Int.{w16, w32, w64};
-ghost use Rattle.binary_form.specs.Form.{Form, byte, bytes_of, number};
+ghost use Rattle.binary_form.specs.Form.{Form, byte, fixed_bytes, number};
 ghost use Rattle.binary_form.specs.Name.{name};
 
 use muen_num::Name;
@@ -30,9 +30,9 @@ pub fn put_tag(out: &mut Vec<u8>, bytes: &[u8]) -> Result<(), AllocError>
 }
 
 /// Writes these bytes, where the form has them as a value.
-#[tactic(auto, unfolding(crate::specs::Form::bytes_of))]
+#[tactic(auto, unfolding(crate::specs::Form::fixed_bytes))]
 pub fn put_bytes(out: &mut Vec<u8>, bytes: &[u8]) -> Result<(), AllocError>
-    ensures { (n : ℕ) → OnOk result (out.new.items ≡ out.old.items ++ (bytes_of n).spell bytes.now) }
+    ensures { (n : ℕ) → OnOk result (out.new.items ≡ out.old.items ++ (fixed_bytes n).spell bytes.now) }
 {
     out.extend_from_slice(bytes)?;
     Ok(())

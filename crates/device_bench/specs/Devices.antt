@@ -16,19 +16,19 @@ pub record BenchState : Type 0 where
   pub ports : List ℕ
 
 -- inputs stand by their ticks, and so do orders, of which a tick has one at most
-pub record IsInOrder (r : Record Effect) : Type 0 where
+pub record IsRecordInOrder (r : Record Effect) : Type 0 where
   pub inputs : IsNonDecreasing (map (λ i. i.tick) r.inputs)
   pub orders : IsStrictlyIncreasing (map (λ o. o.tick) r.orders)
 
 -- what is written into memory ends below 2 ^ 64
-abbrev pub IsLow : Effect → Type 0
-IsLow (Mem at bytes) = at + length bytes < 2 ^ 64
-IsLow _ = Unit {0}
+abbrev pub IsLowEffect : Effect → Type 0
+IsLowEffect (Mem at bytes) = at + length bytes < 2 ^ 64
+IsLowEffect _ = Unit {0}
 
 -- a record that a machine can run
 pub record CanRun (run : Record Effect) : Type 0 where
-  pub in_order : IsInOrder run
-  pub low : All (λ i. IsLow i.input) run.inputs
+  pub in_order : IsRecordInOrder run
+  pub low : All (λ i. IsLowEffect i.input) run.inputs
 
 -- the inputs of a tick, in their order
 abbrev pub inputs_at : Record Effect → ℕ → List (TickInput Effect)
@@ -48,5 +48,5 @@ value_of_ports ports port size = le_number (take size (drop port ports))
 
 -- what always holds: the record is in order, and each port has a byte
 pub record IsBench (b : BenchState) : Type 0 where
-  pub in_order : IsInOrder b.run
+  pub in_order : IsRecordInOrder b.run
   pub ports : length b.ports ≡ LAST_PORT + 1

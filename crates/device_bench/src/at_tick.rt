@@ -2,7 +2,7 @@
 ghost use Rattle.std.specs.Prelude.{ℕ, ◌≡◌, ◌+◌, ◌<◌, ◌≤◌, ◌^◌};
 ghost use Rattle.std.specs.List.Sorted.{IsNonDecreasingBy};
 ghost use Rattle.device_bench.specs.Before.{Splits, StandBefore};
-ghost use Rattle.device_bench.specs.Devices.{IsInOrder};
+ghost use Rattle.device_bench.specs.Devices.{IsRecordInOrder};
 
 use crate::effect::Effect;
 use record_text::{Record, TickInput, TickOrder};
@@ -69,7 +69,7 @@ impl AtTick {
 
     // The first tick.
     pub(crate) fn start(run: &Record<Effect>) -> AtTick
-        requires { IsInOrder run.now }
+        requires { IsRecordInOrder run.now }
         ensures { IsAtTick run.now result }
     {
         AtTick {
@@ -82,7 +82,7 @@ impl AtTick {
 
     // Any tick, in time that grows with the logarithm of the record.
     pub(crate) fn search(run: &Record<Effect>, tick: u32) -> AtTick
-        requires { IsInOrder run.now }
+        requires { IsRecordInOrder run.now }
         ensures there { IsAtTick run.now result }
         ensures tick { result.tick ≡ tick }
     {
@@ -98,7 +98,7 @@ impl AtTick {
 
     // A later tick, in time that grows with what stands between.
     pub(crate) fn later(self, run: &Record<Effect>, tick: u32) -> AtTick
-        requires order { IsInOrder run.now }
+        requires order { IsRecordInOrder run.now }
         requires here { IsAtTick run.now self }
         requires later { self.tick < tick }
         ensures there { IsAtTick run.now result }

@@ -5,7 +5,7 @@ ghost use Rattle.std.specs.List.Sorted.{IsNonDecreasingBy};
 ghost use Rattle.machine_layout.specs.Memory.{le_number};
 ghost use Rattle.muen_num.specs.AccessSize.{bytes_of};
 ghost use Rattle.device_bench.specs.Before.{Splits};
-ghost use Rattle.device_bench.specs.Devices.{IsInOrder, inputs_at, order_at, no_inputs, value_of_ports};
+ghost use Rattle.device_bench.specs.Devices.{IsRecordInOrder, inputs_at, order_at, no_inputs, value_of_ports};
 ghost use Rattle.muen_num.specs.Numbers.{zeros};
 
 use crate::at_tick::AtTick;
@@ -104,7 +104,7 @@ impl Bench {
     /// # Errors
     /// Memory is refused.
     pub fn start(alloc: Global, run: Record<Effect>) -> Result<Bench, NoMemory>
-        requires { IsInOrder run }
+        requires { IsRecordInOrder run }
         ensures { IfOk result (λ b. b ≡ record { run = run; ports = no_inputs }) }
     {
         let at = AtTick::start(&run);

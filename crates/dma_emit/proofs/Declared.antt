@@ -10,9 +10,9 @@ use Rattle.std.proofs.lemmas.List.{length-map}
 use Rattle.std.proofs.lemmas.Option.{get_or_from_slice_get, slice_get-map}
 use Rattle.std.proofs.lemmas.Slice.Eq.{bytes_eq-Decides}
 use Rattle.dma_emit.specs.declared.devices.DomainDevice.{DomainDevice}
-use Rattle.dma_emit.specs.Domains.{device_at, domain_device, domain_devices, domain_number, domains_of, is_lower, mapped, place_of, region_mapped, windows_of}
-use Rattle.dma_emit.specs.Layout.{windows_at}
-use Rattle.dma_emit.specs.Reached.{kind_of, placed_at}
+use Rattle.dma_emit.specs.Domains.{device_at, domain_device, domain_devices, domain_number, domains_of, is_lower_window, mapped, region_address_of, region_mapped, windows_of}
+use Rattle.dma_emit.specs.Layout.{domain_windows_at}
+use Rattle.dma_emit.specs.Reached.{device_access_kind, placed_at}
 use Rattle.dma_emit.proofs.DomainRules.{IsDomain, devices_kept}
 use Rattle.dma_emit.proofs.DomainWindows.{AreTwo, are_two, each_domain}
 use Rattle.dma_emit.proofs.DomainsReady.{ready, stands}
@@ -42,7 +42,7 @@ use Rattle.region_alloc.specs.Placed.{IsPlaced, Placement}
 
 -- where a device reads or writes by an address, by the policy's declaration
 abbrev pub declared_at : Placement → List ℕ → ℕ → Bool → Option ℕ
-declared_at x device addr write = placed_at x (dma_access (source_of x.expanded.lawful) device addr (kind_of write))
+declared_at x device addr write = placed_at x (dma_access (source_of x.expanded.lawful) device addr (device_access_kind write))
 
 not_both : (a b : Window) (addr : ℕ) → AreTwo a b → is_in addr a ≡ true → is_in addr b ≡ true → ⊥
 not_both a b addr two p q =
@@ -70,15 +70,15 @@ module _ (x : Placement) (placed : IsPlaced x) where
   granted m = region_window p m.region m.virtual_address m.rights
 
   by_rights : (m : Mapping) (r : Region) (addr : ℕ) (write : Bool) → r.name ≡ m.region
-      → led (Some (region_mapped x m r)) addr write ≡ placed_at x (access_by (Some (window m.virtual_address r.size m.rights (region r.name))) addr (kind_of write))
+      → led (Some (region_mapped x m r)) addr write ≡ placed_at x (access_by (Some (window m.virtual_address r.size m.rights (region r.name))) addr (device_access_kind write))
   by_rights m r addr write same =
-      elim (allows m.rights (kind_of write)) as (λ b. (if b then Some (place_of x m.region + (addr - m.virtual_address)) else None) ≡ placed_at x (if b then byte (region r.name) (addr - m.virtual_address) else violation (Some m.rights))) [
-        | true ↦ ap (λ name. Some (place_of x name + (addr - m.virtual_address))) (sym same)
+      elim (allows m.rights (device_access_kind write)) as (λ b. (if b then Some (region_address_of x m.region + (addr - m.virtual_address)) else None) ≡ placed_at x (if b then byte (region r.name) (addr - m.virtual_address) else violation (Some m.rights))) [
+        | true ↦ ap (λ name. Some (region_address_of x name + (addr - m.virtual_address))) (sym same)
         | false ↦ refl
       ]
 
   leads : (ms : List Mapping) (addr : ℕ) (write : Bool)
-      → led (find (is_in addr) (filter_map (mapped x) ms)) addr write ≡ placed_at x (access_by (find (λ w. holds w addr) (filter_map granted ms)) addr (kind_of write))
+      → led (find (is_in addr) (filter_map (mapped x) ms)) addr write ≡ placed_at x (access_by (find (λ w. holds w addr) (filter_map granted ms)) addr (device_access_kind write))
   unfolding source_of
   leads [] addr write = refl
   leads (m ∷ ms) addr write =
@@ -87,22 +87,22 @@ module _ (x : Placement) (placed : IsPlaced x) where
       let vs = filter_map granted ms in
       elim (find (λ r. bytes_eq r.name m.region) memory) as (λ o. find (λ r. bytes_eq r.name m.region) memory ≡ o
       → led (find (is_in addr) (cons_option (option_map (region_mapped x m) o) us)) addr write
-      ≡ placed_at x (access_by (find (λ w. holds w addr) (cons_option (option_map (λ r. window m.virtual_address r.size m.rights (region r.name)) o) vs)) addr (kind_of write))) [
+      ≡ placed_at x (access_by (find (λ w. holds w addr) (cons_option (option_map (λ r. window m.virtual_address r.size m.rights (region r.name)) o) vs)) addr (device_access_kind write))) [
         | None ↦ λ e. rest
         | Some r ↦ λ e.
             let name = (bytes_eq-Decides r.name m.region).0 (find_in (λ r. bytes_eq r.name m.region) memory r e).1 in
             elim (nat_le m.virtual_address addr && nat_lt addr (m.virtual_address + r.size)) as (λ b. led (cond b (Some (region_mapped x m r)) (find (is_in addr) us)) addr write
-            ≡ placed_at x (access_by (cond b (Some (window m.virtual_address r.size m.rights (region r.name))) (find (λ w. holds w addr) vs)) addr (kind_of write))) [
+            ≡ placed_at x (access_by (cond b (Some (window m.virtual_address r.size m.rights (region r.name))) (find (λ w. holds w addr) vs)) addr (device_access_kind write))) [
               | true ↦ by_rights m r addr write name
               | false ↦ rest
             ]
       ] refl
 
-  domain_leads : (d : Domain) → In d domains → (addr : ℕ) (write : Bool) → led (window_at (windows_of x d) addr) addr write ≡ placed_at x (access_of (domain_windows p d) addr (kind_of write))
+  domain_leads : (d : Domain) → In d domains → (addr : ℕ) (write : Bool) → led (window_at (windows_of x d) addr) addr write ≡ placed_at x (access_of (domain_windows p d) addr (device_access_kind write))
   unfolding windows_of
   domain_leads d i addr write =
       let in_turn = filter_map (mapped x) d.memory in
-      let moved : IsPermutation in_turn (windows_of x d) = in_order_permutes is_lower in_turn in
+      let moved : IsPermutation in_turn (windows_of x d) = in_order_permutes is_lower_window in_turn in
       let two = are_two x placed d (all_in (IsDomain p) domains (each_domain x placed) d i) in
       ap (λ o. led o addr write) (sym (found_permuted (is_in addr) in_turn (windows_of x d) moved (λ j k w l n. not_both (get_or (windows_of x d) j w) (get_or (windows_of x d) k w) addr (two j k w l n))))
       ∙ leads d.memory addr write
@@ -116,7 +116,7 @@ module _ (x : Placement) (placed : IsPlaced x) where
   unfolding source_of
   domain_is device n d e at = sym (at_position (has device) domains n e) ∙ at
 
-  windows_are : (n : ℕ) (d : Domain) → slice_get domains n ≡ Some d → windows_at (domains_of x) n ≡ windows_of x d
+  windows_are : (n : ℕ) (d : Domain) → slice_get domains n ≡ Some d → domain_windows_at (domains_of x) n ≡ windows_of x d
   windows_are n d at = get_or_from_slice_get (map (windows_of x) domains) n (windows_of x d) [] (slice_get-map (windows_of x) domains n ∙ ap (option_map (windows_of x)) at)
 
   -- a device that stands in a domain is listed there
@@ -174,7 +174,7 @@ module _ (x : Placement) (placed : IsPlaced x) where
       omega arith
 
   by_device : (device : List ℕ) (addr : ℕ) (write : Bool) (o : Option DomainDevice) → find (λ v. bytes_eq v.device.name device) (domain_devices p) ≡ o → option_and_then (led_device (domains_of x) addr write) o ≡ declared_at x device addr write
-  by_device device addr write None e = sym (ap (λ o. placed_at x (access_of (option_map_or (domain_windows p) o []) addr (kind_of write))) (no_domain device e))
+  by_device device addr write None e = sym (ap (λ o. placed_at x (access_of (option_map_or (domain_windows p) o []) addr (device_access_kind write))) (no_domain device e))
   by_device device addr write (Some v) e =
       let here = find_in (λ v. bytes_eq v.device.name device) (domain_devices p) v e in
       let d = made_of v here.0 in
@@ -187,7 +187,7 @@ module _ (x : Placement) (placed : IsPlaced x) where
       let is = domain_is device v.domain at.0 domain at.1 in
       ap (λ ws. led (window_at ws addr) addr write) (windows_are v.domain at.0 at.1)
       ∙ (domain_leads at.0 (at_in domains v.domain at.0 at.1) addr write
-      ∙ sym (ap (λ o. placed_at x (access_of (option_map_or (domain_windows p) o []) addr (kind_of write))) is))
+      ∙ sym (ap (λ o. placed_at x (access_of (option_map_or (domain_windows p) o []) addr (device_access_kind write))) is))
 
   pub declares : (device : List ℕ) (addr : ℕ) (write : Bool) → by_domains (domains_of x) device addr write ≡ declared_at x device addr write
   declares device addr write = by_device device addr write (find (λ v. bytes_eq v.device.name device) (domain_devices p)) refl

@@ -8,15 +8,15 @@ use Rattle.std.specs.Str.{bytes_eq}
 use Rattle.std.proofs.lemmas.Bool.{and_parts, eqb-true, leb-true, ltb-true, ne_eqb, or_cases}
 use Rattle.std.proofs.lemmas.List.Elements.{All-weaker}
 use Rattle.std.proofs.lemmas.List.Sorted.{All-permutation}
-use Rattle.dma_emit.specs.Domains.{is_lower, mapped, place_of, region_mapped, windows_of}
-use Rattle.dma_emit.specs.Ready.{AreWindows, HaveDifferentGuests, IsForDevices}
+use Rattle.dma_emit.specs.Domains.{is_lower_window, mapped, region_address_of, region_mapped, windows_of}
+use Rattle.dma_emit.specs.Ready.{AreDomainWindows, HaveDifferentGuests, IsForDevices}
 use Rattle.dma_emit.proofs.DomainRules.{IsDomain, IsWindow, domains_kept}
 use Rattle.dma_emit.proofs.Found.{all_made, beside_at, found_at, pairs_made, position_found}
 use Rattle.std.proofs.lemmas.Option.{slice_get_within}
 use Rattle.dma_emit.proofs.PlacesThere.{addresses_long}
 use Rattle.dma_emit.proofs.Ranges.{AreTwo as AreApart, ascending, two_moved}
 use Rattle.ept_emit.specs.Entries.{IsEmittable}
-use Rattle.ept_emit.specs.Pages.{range_of}
+use Rattle.ept_emit.specs.Pages.{guest_range_of}
 use Rattle.ept_emit.specs.declared.window.GuestRange.{GuestRange}
 use Rattle.ept_emit.specs.declared.window.Window.{Window}
 use Rattle.expand_kernel.proofs.Ordered.{in_order_permutes}
@@ -68,7 +68,7 @@ module _ (x : Placement) (placed : IsPlaced x) where
     aligned : address % PAGE ≡ 0
     low : address + size ≤ PHYSICAL_END
 
-  place_is : (name : List ℕ) (r : SourceRegion) → find (λ r. bytes_eq r.name name) x.expanded.lawful.memory ≡ Some r → place_of x name ≡ get_or x.addresses (position_or_len (λ r. bytes_eq r.name name) x.expanded.lawful.memory) 0
+  place_is : (name : List ℕ) (r : SourceRegion) → find (λ r. bytes_eq r.name name) x.expanded.lawful.memory ≡ Some r → region_address_of x name ≡ get_or x.addresses (position_or_len (λ r. bytes_eq r.name name) x.expanded.lawful.memory) 0
   place_is name r e = ap (λ o. option_map_or (slice_index x.addresses) o 0) (position_found (λ r. bytes_eq r.name name) x.expanded.lawful.memory r e)
 
   number_there : (n : ℕ) (r : SourceRegion) → slice_get x.expanded.lawful.memory n ≡ Some r → n < length x.addresses
@@ -77,7 +77,7 @@ module _ (x : Placement) (placed : IsPlaced x) where
       let long = addresses_long x placed in
       omega arith
 
-  is_at : (name : List ℕ) (r : SourceRegion) → find (λ r. bytes_eq r.name name) x.expanded.lawful.memory ≡ Some r → IsAt (place_of x name) r.size
+  is_at : (name : List ℕ) (r : SourceRegion) → find (λ r. bytes_eq r.name name) x.expanded.lawful.memory ≡ Some r → IsAt (region_address_of x name) r.size
   is_at name r e =
       let n = position_or_len (λ r. bytes_eq r.name name) x.expanded.lawful.memory in
       let blocks = x.expanded.lawful.memory_blocks in
@@ -180,7 +180,7 @@ module _ (x : Placement) (placed : IsPlaced x) where
 
     moved : IsPermutation in_turn (windows_of x d)
     unfolding windows_of
-    moved = in_order_permutes is_lower in_turn
+    moved = in_order_permutes is_lower_window in_turn
 
     pub are_two : AllPairs AreTwo (windows_of x d)
     are_two = two_moved (λ (w : Window). w.guest) (λ (w : Window). w.size) in_turn (windows_of x d) moved each_two
@@ -192,10 +192,10 @@ module _ (x : Placement) (placed : IsPlaced x) where
     unfolding windows_of
     ascend = ascending (λ (w : Window). w.guest) (λ (w : Window). w.size) in_turn (All-weaker IsEmittable (λ w. 0 < w.size) (λ w fine. fine.some) in_turn each_emittable) each_two
 
-    pub are_windows : AreWindows (windows_of x d)
+    pub are_windows : AreDomainWindows (windows_of x d)
     are_windows = record {
       emittable = all_emittable;
-      apart = pairs_mapped range_of (λ (a b : GuestRange). a.guest + a.size ≤ b.guest) (windows_of x d) ascend;
+      apart = pairs_mapped guest_range_of (λ (a b : GuestRange). a.guest + a.size ≤ b.guest) (windows_of x d) ascend;
       for_devices = All-permutation IsForDevices in_turn (windows_of x d) moved each_for_devices;
     }
 

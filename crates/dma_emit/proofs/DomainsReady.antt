@@ -12,9 +12,9 @@ use Rattle.std.proofs.lemmas.List.Sorted.{sum_by-IsPermutation}
 use Rattle.std.proofs.lemmas.List.Sums.{sum_by-append, sum_by-cons, sum_by-le-sum_by}
 use Rattle.dma_emit.specs.declared.devices.DomainDevice.{DomainDevice}
 use Rattle.dma_emit.specs.declared.domains.Domains.{Domains}
-use Rattle.dma_emit.specs.Domains.{device_at, domain_device, domain_devices, domain_number, domains_of, is_lower, mapped, region_mapped, windows_of}
-use Rattle.dma_emit.specs.Layout.{domain_pages, has_device, page_count, windows_at}
-use Rattle.dma_emit.specs.Ready.{AreWindows, HaveDifferentGuests, IsReady, same_place}
+use Rattle.dma_emit.specs.Domains.{device_at, domain_device, domain_devices, domain_number, domains_of, is_lower_window, mapped, region_mapped, windows_of}
+use Rattle.dma_emit.specs.Layout.{domain_pages, has_device, page_count, domain_windows_at}
+use Rattle.dma_emit.specs.Ready.{AreDomainWindows, HaveDifferentGuests, IsReady, same_place}
 use Rattle.dma_emit.proofs.Counts.{few_tables, found_weight, sum_found, tables_for}
 use Rattle.dma_emit.proofs.DomainRules.{DevicesKept, IsDomain, devices_kept, regions_once}
 use Rattle.dma_emit.proofs.DomainWindows.{are_windows, different, each_domain, laid_out}
@@ -23,7 +23,7 @@ use Rattle.dma_emit.proofs.Layouts.{few_buses}
 use Rattle.dma_emit.proofs.Lists.{listed}
 use Rattle.dma_emit.proofs.PlacesThere.{position_within}
 use Rattle.dma_emit.proofs.TotalSize.{first_bytes, regions_bytes}
-use Rattle.ept_emit.specs.Pages.{ept_pages, range_of, ranges_of}
+use Rattle.ept_emit.specs.Pages.{ept_pages, guest_range_of, ranges_of}
 use Rattle.ept_emit.specs.declared.window.GuestRange.{GuestRange}
 use Rattle.ept_emit.specs.declared.window.Window.{Window}
 use Rattle.expand_kernel.proofs.Ordered.{in_order_permutes}
@@ -145,8 +145,8 @@ weights (m ∷ ms) =
 
 -- ---- pages
 
-pages_at_most : (d : Domains) (n : ℕ) → domain_pages d n ≤ ept_pages (ranges_of (windows_at d n))
-pages_at_most d n = elim (has_device d n) as (λ b. (if b then ept_pages (ranges_of (windows_at d n)) else 0) ≤ ept_pages (ranges_of (windows_at d n))) [ true ↦ omega arith | false ↦ omega arith ]
+pages_at_most : (d : Domains) (n : ℕ) → domain_pages d n ≤ ept_pages (ranges_of (domain_windows_at d n))
+pages_at_most d n = elim (has_device d n) as (λ b. (if b then ept_pages (ranges_of (domain_windows_at d n)) else 0) ≤ ept_pages (ranges_of (domain_windows_at d n))) [ true ↦ omega arith | false ↦ omega arith ]
 
 -- ---- a placed policy
 
@@ -187,8 +187,8 @@ module _ (x : Placement) (placed : IsPlaced x) where
       let ws = windows_of x d in
       let in_turn = filter_map (mapped x) d.memory in
       let few = few_tables (ranges_of ws) in
-      let ranges = sum_by-map (λ (r : GuestRange). tables_for r.size) range_of ws in
-      let moved : IsPermutation in_turn ws = in_order_permutes is_lower in_turn in
+      let ranges = sum_by-map (λ (r : GuestRange). tables_for r.size) guest_range_of ws in
+      let moved : IsPermutation in_turn ws = in_order_permutes is_lower_window in_turn in
       let same = sum_by-IsPermutation (λ (w : Window). tables_for w.size) in_turn ws moved in
       let made = sum_made (λ (w : Window). tables_for w.size) (mapped x) d.memory in
       let each = weights_mapped d.memory in
@@ -227,7 +227,7 @@ module _ (x : Placement) (placed : IsPlaced x) where
   few_pages_of : sum_by (domain_pages (domains_of x)) (numbers_below (length (domains_of x).windows)) ≤ length domains + 6240
   few_pages_of =
       let d = domains_of x in
-      let most = sum_by-le-sum_by (domain_pages d) (λ n. ept_pages (ranges_of (windows_at d n))) (numbers_below (length d.windows)) (pages_at_most d) in
+      let most = sum_by-le-sum_by (domain_pages d) (λ n. ept_pages (ranges_of (domain_windows_at d n))) (numbers_below (length d.windows)) (pages_at_most d) in
       let windows = by_number (λ (ws : List Window). ept_pages (ranges_of ws)) d.windows [] (length d.windows) refl in
       let each = sum_by-map (λ (ws : List Window). ept_pages (ranges_of ws)) (windows_of x) domains in
       let few = sum_by-le-sum_by (λ d. ept_pages (ranges_of (windows_of x d))) (λ (d : Domain). 1 + sum_by weight d.memory) domains domain_few in
@@ -295,7 +295,7 @@ module _ (x : Placement) (placed : IsPlaced x) where
         domains = all_made (λ d. is_bdf d.bdf ≡ true) (λ v. v.domain < length (domains_of x).windows) (domain_device p) (λ d v h e. in_range d v e) ds bdfs;
         names = pairs_mapped (λ (v : DomainDevice). v.device.name) (λ a b. bytes_eq a b ≡ false) (filter_map (domain_device p) ds) (pairs_made (λ a b. bytes_eq a.name b.name ≡ false) (λ u v. bytes_eq u.device.name v.device.name ≡ false) (domain_device p) names_apart ds names_differ);
         places = pairs_made AreApart (λ u v. same_place u v ≡ false) (domain_device p) (other_places p) ds devices_apart;
-        windows = All-map AreWindows (windows_of x) domains (All-weaker (IsDomain p) (λ d. AreWindows (windows_of x d)) (λ d h. are_windows x placed d h) domains (each_domain x placed));
+        windows = All-map AreDomainWindows (windows_of x) domains (All-weaker (IsDomain p) (λ d. AreDomainWindows (windows_of x d)) (λ d h. are_windows x placed d h) domains (each_domain x placed));
         pages = omega arith;
       }
 

@@ -7,7 +7,7 @@ use Rattle.dma_emit.specs.declared.devices.DomainDevice.{DomainDevice}
 use Rattle.dma_emit.specs.declared.domains.Domains.{Domains}
 use Rattle.dma_emit.specs.Base.{is_free}
 use Rattle.dma_emit.specs.Domains.{domain_devices, domains_of, windows_of}
-use Rattle.dma_emit.specs.Entries.{absent, context_entry, root_entry}
+use Rattle.dma_emit.specs.Entries.{absent_entry, context_entry, root_entry}
 use Rattle.dma_emit.specs.Layout.{buses, page_count}
 use Rattle.dma_emit.specs.Reached.{placed_at}
 use Rattle.ept_emit.specs.Entries.{leaf_entry, table_entry}
@@ -101,14 +101,14 @@ lies_low = refl
 root_is : root_entry its 0 0 ≡ record { low = 0x1001; high = 0 }
 root_is = refl
 
-no_other_bus : root_entry its 0 1 ≡ absent
+no_other_bus : root_entry its 0 1 ≡ absent_entry
 no_other_bus = refl
 
 context_is : context_entry its 0 0 24 ≡ record { low = 0x2001; high = 0x102 }
 unfolding buses
 context_is = refl
 
-no_other_device : context_entry its 0 0 25 ≡ absent
+no_other_device : context_entry its 0 0 25 ≡ absent_entry
 no_other_device = refl
 
 references_are : table_entry Rw 3 ∷ table_entry Rw 4 ∷ table_entry Rw 5 ∷ [] ≡ 0x3003 ∷ 0x4003 ∷ 0x5003 ∷ []

@@ -7,11 +7,11 @@ use Rattle.std.proofs.lemmas.List.{get_or_default, length-map}
 use Rattle.std.proofs.lemmas.List.Elements.{All-map}
 use Rattle.dma_emit.specs.declared.domains.Domains.{Domains}
 use Rattle.dma_emit.specs.declared.layout.TheConstants.{BUSES}
-use Rattle.dma_emit.specs.Layout.{buses, buses_below, context_page, domain_pages, has_device, on_bus, page_count, tables_page, windows_at}
-use Rattle.dma_emit.specs.Ready.{AreWindows, IsReady}
+use Rattle.dma_emit.specs.Layout.{buses, buses_below, context_page, domain_pages, has_device, on_bus, page_count, tables_page, domain_windows_at}
+use Rattle.dma_emit.specs.Ready.{AreDomainWindows, IsReady}
 use Rattle.dma_emit.proofs.Lists.{filter_fits_numbers, filter_passes_next, length_pushed, sum_grows, sum_next, sum_rises}
 use Rattle.ept_emit.specs.Entries.{IsEmittable}
-use Rattle.ept_emit.specs.Pages.{IsMapped, ept_pages, range_of, ranges_of}
+use Rattle.ept_emit.specs.Pages.{IsMapped, ept_pages, guest_range_of, ranges_of}
 use Rattle.ept_emit.specs.declared.window.Window.{Window}
 use Rattle.muen_num.specs.Range.{numbers_below}
 use Rattle.muen_num.proofs.Members.{all_in, any_some, filter_fits}
@@ -80,11 +80,11 @@ domain_there d n ready h =
     let same = eqb-true v.one.domain n v.passes in
     omega arith
 
-pub pages_some : (d : Domains) (n : ℕ) → has_device d n ≡ true → domain_pages d n ≡ ept_pages (ranges_of (windows_at d n))
-pages_some d n h = ap (λ b. if b then ept_pages (ranges_of (windows_at d n)) else 0) h
+pub pages_some : (d : Domains) (n : ℕ) → has_device d n ≡ true → domain_pages d n ≡ ept_pages (ranges_of (domain_windows_at d n))
+pages_some d n h = ap (λ b. if b then ept_pages (ranges_of (domain_windows_at d n)) else 0) h
 
 pub pages_none : (d : Domains) (n : ℕ) → has_device d n ≡ false → domain_pages d n ≡ 0
-pages_none d n h = ap (λ b. if b then ept_pages (ranges_of (windows_at d n)) else 0) h
+pages_none d n h = ap (λ b. if b then ept_pages (ranges_of (domain_windows_at d n)) else 0) h
 
 pub pages_step : (d : Domains) (n : ℕ) → tables_page d (n + 1) ≡ tables_page d n + domain_pages d n
 pages_step d n =
@@ -95,11 +95,11 @@ pages_step d n =
 
 -- ---- windows
 
-pub windows_there : (d : Domains) (n : ℕ) → IsReady d → n < length d.windows → AreWindows (windows_at d n)
+pub windows_there : (d : Domains) (n : ℕ) → IsReady d → n < length d.windows → AreDomainWindows (domain_windows_at d n)
 windows_there d n ready l = ready.windows n [] l
 
 pub all_mapped : (ws : List Window) → All IsEmittable ws → All IsMapped (ranges_of ws)
-all_mapped ws h = All-map IsMapped range_of ws (λ k w l. let fine = h k w l in record { some = fine.some; end = fine.end })
+all_mapped ws h = All-map IsMapped guest_range_of ws (λ k w l. let fine = h k w l in record { some = fine.some; end = fine.end })
 
 -- what stands behind the last domain's page is the number of all
 pub count_is : (d : Domains) (pages : List ℕ) → pages ≡ map (tables_page d) (numbers_below (length d.windows + 1)) → (n count : ℕ) → n ≡ length d.windows → count ≡ get_or pages n count → count ≡ page_count d

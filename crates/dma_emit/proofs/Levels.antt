@@ -2,7 +2,7 @@
 use Rattle.std.proofs.Common.{◌≡◌, ℕ, zero, suc, ◌+◌, ◌-◌, ◌*◌, ◌/◌, ◌%◌, ◌^◌, ◌<◌, ◌≤◌, ◌&&◌, true, false, Bool, List, Option, Some, None, All, refl, sym, ap, ◌∙◌, arith}
 use Rattle.std.specs.Prelude.{if◌then◌else◌, option_and_then}
 use Rattle.std.proofs.lemmas.Bool.{and_from, and_left, eq-eqb, ne_eqb}
-use Rattle.dma_emit.specs.Reached.{kind_of}
+use Rattle.dma_emit.specs.Reached.{device_access_kind}
 use Rattle.dma_emit.specs.Ready.{IsForDevices}
 use Rattle.dma_tables.specs.DmaWalk.{are_zero, has_right, is_paging, next_page, page_in, paged}
 use Rattle.ept_emit.specs.Emitted.{window_at}
@@ -61,7 +61,7 @@ reads_with write x r a b c h = read_some write (x + r) (x / 4096) (and_from _ _ 
 
 -- an entry of a window's page
 reads_page : (rights : Rights) (write : Bool) (x : ℕ) → may_execute rights ≡ false → x % 4096 ≡ 0 → x < 2 ^ 40
-    → read write (x + rights_bits rights) ≡ (if allows rights (kind_of write) then Some (x / 4096) else None)
+    → read write (x + rights_bits rights) ≡ (if allows rights (device_access_kind write) then Some (x / 4096) else None)
 reads_page R true x e a b = read_none true (x + 1) (and_left _ _ (not_write_one x a))
 reads_page R false x e a b = reads_with false x 1 a b (omega arith) (may_read x 1 a refl)
 reads_page Rw true x e a b = reads_with true x 3 a b (omega arith) (may_write_three x a)
@@ -97,7 +97,7 @@ paged_is word addr write table = chained (next_page word addr write 0) (next_pag
 -- the page that a window leads to, where it has the right
 abbrev pub led_page : Option Window → ℕ → Bool → Option ℕ
 led_page None addr write = None
-led_page (Some w) addr write = if allows w.rights (kind_of write) then Some ((w.address + (addr - w.guest)) / 4096) else None
+led_page (Some w) addr write = if allows w.rights (device_access_kind write) then Some ((w.address + (addr - w.guest)) / 4096) else None
 
 small_leaf : (leaf : Leaf) → leaf ≡ Small → level_of leaf ≡ 0
 small_leaf leaf e = ap level_of e
@@ -143,7 +143,7 @@ module _ (word : ℕ → ℕ → Option ℕ) (out : ℕ → ℕ) (base lo hi : �
       at_entry 0 k lt
       ∙ (ap (read write) (is ∙ plain)
       ∙ (reads_page w.rights write x d.rights m.pages m.small
-      ∙ (ap (λ p. if allows w.rights (kind_of write) then Some p else None) same
+      ∙ (ap (λ p. if allows w.rights (device_access_kind write) then Some p else None) same
       ∙ ap (λ o. led_page o addr write) (sym here))))
 
   free_page : (l k : ℕ) → k < hi → window_of ws l addr ≡ None → IsWritten Rw out base lo hi ws l k addr → next_page word addr write l (base + k) ≡ None

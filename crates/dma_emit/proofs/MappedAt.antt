@@ -5,7 +5,7 @@ use Rattle.std.specs.List.{find}
 use Rattle.std.specs.Option.{option_map_or}
 use Rattle.std.specs.Str.{bytes_eq}
 use Rattle.std.proofs.lemmas.Option.{get_or_from_slice_get}
-use Rattle.dma_emit.specs.Domains.{mapped, place_of, region_mapped}
+use Rattle.dma_emit.specs.Domains.{mapped, region_address_of, region_mapped}
 use Rattle.dma_emit.proofs.PlacesThere.{position_within}
 use Rattle.ept_emit.specs.declared.window.Leaf.TheVariants.{Small}
 use Rattle.muen_num.proofs.Lists.{there}
@@ -22,7 +22,7 @@ mapped_at x m memory addresses n d is lie at =
     let number : position (λ r. bytes_eq r.name m.region) rs ≡ Some n = ap (position (λ r. bytes_eq r.name m.region)) (sym is) ∙ at in
     let region = there rs n (position_within (λ r. bytes_eq r.name m.region) rs n number) in
     let size : (get_or memory n d).size ≡ region.0.size = ap (λ ms. (get_or ms n d).size) is ∙ ap (λ (r : Region). r.size) (get_or_from_slice_get rs n region.0 d region.1) in
-    let lies : get_or addresses n 0 ≡ place_of x m.region = ap (λ ps. get_or ps n 0) lie ∙ sym (ap (λ o. option_map_or (slice_index x.addresses) o 0) number) in
+    let lies : get_or addresses n 0 ≡ region_address_of x m.region = ap (λ ps. get_or ps n 0) lie ∙ sym (ap (λ o. option_map_or (slice_index x.addresses) o 0) number) in
     let found : find (λ r. bytes_eq r.name m.region) rs ≡ Some region.0 = sym (at_position (λ r. bytes_eq r.name m.region) rs n number) ∙ region.1 in
     (λ i. Some (record { guest = m.virtual_address; size = size i; address = lies i; rights = m.rights; caching = Uc; leaf = Small }))
     ∙ ap (option_map (region_mapped x m)) (sym found)

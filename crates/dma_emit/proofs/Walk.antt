@@ -9,16 +9,16 @@ use Rattle.dma_emit.specs.declared.domains.Domains.{Domains}
 use Rattle.dma_emit.specs.declared.entries.WideEntry.{WideEntry}
 use Rattle.dma_emit.specs.declared.layout.TheConstants.{BUSES, DEVFNS}
 use Rattle.dma_emit.specs.Emitted.{IsFileOf}
-use Rattle.dma_emit.specs.Entries.{absent, context_entry, context_of, domain_word, refers_to, root_entry}
-use Rattle.dma_emit.specs.Layout.{context_page, domain_pages, has_device, on_bus, page_count, tables_page, windows_at}
-use Rattle.dma_emit.specs.Reached.{kind_of}
+use Rattle.dma_emit.specs.Entries.{absent_entry, context_entry, context_of, domain_word, refers_to, root_entry}
+use Rattle.dma_emit.specs.Layout.{context_page, domain_pages, has_device, on_bus, page_count, tables_page, domain_windows_at}
+use Rattle.dma_emit.specs.Reached.{device_access_kind}
 use Rattle.dma_emit.specs.Ready.{IsReady}
 use Rattle.dma_emit.proofs.Layouts.{before_all, context_fits, domain_there, pages_next, pages_some, windows_there}
 use Rattle.dma_emit.proofs.Levels.{descend, descended, led_page, paged_is}
 use Rattle.dma_emit.proofs.OnlyOne.{only_found}
 use Rattle.dma_emit.proofs.Places.{context_word, pages_long, root_word, tables_word}
 use Rattle.dma_emit.proofs.Words.{high_of, low_of, word_in}
-use Rattle.dma_tables.specs.DmaFile.{pages_in}
+use Rattle.dma_tables.specs.DmaFile.{page_count_of}
 use Rattle.dma_tables.specs.DmaWalk.{context_table, device_page, device_walk, dma_walk, highest_table, is_context, is_root, page_in, pair_page, paged, root_page, word_of}
 use Rattle.dma_tables.specs.declared.file.DmaDevice.{DmaDevice}
 use Rattle.dma_tables.specs.declared.file.DmaFile.{DmaFile}
@@ -36,11 +36,11 @@ use Rattle.policy_lawful.specs.Rights.{allows}
 -- where a window leads an access, where it has the right
 abbrev pub led : Option Window → ℕ → Bool → Option ℕ
 led None addr write = None
-led (Some w) addr write = if allows w.rights (kind_of write) then Some (w.address + (addr - w.guest)) else None
+led (Some w) addr write = if allows w.rights (device_access_kind write) then Some (w.address + (addr - w.guest)) else None
 
 -- where a device gets by the windows of its domain
 abbrev pub led_device : Domains → ℕ → Bool → DomainDevice → Option ℕ
-led_device d addr write v = led (window_at (windows_at d v.domain) addr) addr write
+led_device d addr write v = led (window_at (domain_windows_at d v.domain) addr) addr write
 
 abbrev pub by_domains : Domains → List ℕ → ℕ → Bool → Option ℕ
 by_domains d device addr write = option_and_then (led_device d addr write) (find (λ v. bytes_eq v.device.name device) d.devices)
@@ -82,8 +82,8 @@ module _ (d : Domains) (ready : IsReady d) (t : DmaFile) (file : IsFileOf d t) (
   word_there k i l =
       let many = long in
       let rest : root + k - root ≡ k = omega arith in
-      let within : root + k - root < pages_in t = omega arith in
-      let here : (nat_le root (root + k) && nat_lt (root + k - root) (pages_in t)) ≡ true = and_from _ _ (le-leb root (root + k) (omega arith)) (lt-ltb _ _ within) in
+      let within : root + k - root < page_count_of t = omega arith in
+      let here : (nat_le root (root + k) && nat_lt (root + k - root) (page_count_of t)) ≡ true = and_from _ _ (le-leb root (root + k) (omega arith)) (lt-ltb _ _ within) in
       ap (λ b. if b then Some (number_at t.pages (4096 * (root + k - root) + 8 * i) 8) else None) here
       ∙ ap (λ j. Some (number_at t.pages (4096 * j + 8 * i) 8)) rest
 
@@ -99,7 +99,7 @@ module _ (d : Domains) (ready : IsReady d) (t : DmaFile) (file : IsFileOf d t) (
       omega arith
 
   root_is : (bus : ℕ) → on_bus d bus ≡ true → root_entry d root bus ≡ record { low = refers_to (root + context_page d bus); high = 0 }
-  root_is bus h = ap (λ b. if b then record { low = refers_to (root + context_page d bus); high = 0 } else absent) h
+  root_is bus h = ap (λ b. if b then record { low = refers_to (root + context_page d bus); high = 0 } else absent_entry) h
 
   context_found : (bus : ℕ) → bus < BUSES → on_bus d bus ≡ true → context_table (word_of t) root bus ≡ Some (root + context_page d bus)
   context_found bus l h =
@@ -140,7 +140,7 @@ module _ (d : Domains) (ready : IsReady d) (t : DmaFile) (file : IsFileOf d t) (
 
     entry_is : context_entry d root v.device.bus v.device.devfn ≡ context_of d root v
     entry_is =
-        ap (λ o. option_map_or (context_of d root) o absent)
+        ap (λ o. option_map_or (context_of d root) o absent_entry)
         (only_found v d.devices stands ready.places)
 
     tables_low : tables_page d n < page_count d
@@ -189,7 +189,7 @@ module _ (d : Domains) (ready : IsReady d) (t : DmaFile) (file : IsFileOf d t) (
         ∙ ap Some (ap (word_in t.pages) place ∙ tables_word d root t.pages file.pages n (8 * (512 * k + i)) there (omega arith)))
 
     abbrev ws : List Window
-    ws = windows_at d n
+    ws = domain_windows_at d n
 
     paged_to : (addr : ℕ) (write : Bool) → addr < 2 ^ 48 → paged (word_of t) addr write (root + tables_page d n) ≡ led_page (window_at ws addr) addr write
     paged_to addr write l =
@@ -215,7 +215,7 @@ module _ (d : Domains) (ready : IsReady d) (t : DmaFile) (file : IsFileOf d t) (
         let fine = All_at IsEmittable ws addr w windows.emittable e in
         let held = first_held ws addr w e in
         let same : 4096 * ((w.address + (addr - w.guest)) / 4096) + addr % 4096 ≡ w.address + (addr - w.guest) = omega (arith, fine.address, fine.guest, held.0) in
-        elim (allows w.rights (kind_of write)) as (λ b. option_map (λ page. 4096 * page + addr % 4096) (if b then Some ((w.address + (addr - w.guest)) / 4096) else None) ≡ (if b then Some (w.address + (addr - w.guest)) else None)) [
+        elim (allows w.rights (device_access_kind write)) as (λ b. option_map (λ page. 4096 * page + addr % 4096) (if b then Some ((w.address + (addr - w.guest)) / 4096) else None) ≡ (if b then Some (w.address + (addr - w.guest)) else None)) [
           | true ↦ ap Some same
           | false ↦ refl
         ]

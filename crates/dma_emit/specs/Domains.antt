@@ -45,23 +45,23 @@ domain_devices p = filter_map (domain_device p) p.devices
 -- ---- windows
 
 -- the physical address of the region of this name
-abbrev pub place_of : Placement → List ℕ → ℕ
-place_of x name = option_map_or (slice_index x.addresses) (position (λ r. bytes_eq r.name name) x.expanded.lawful.memory) 0
+abbrev pub region_address_of : Placement → List ℕ → ℕ
+region_address_of x name = option_map_or (slice_index x.addresses) (position (λ r. bytes_eq r.name name) x.expanded.lawful.memory) 0
 
 -- a window of a domain on a region, mapped by pages of 4 KiB; in second-level tables the bits of a memory type are zero
 abbrev pub region_mapped : Placement → Mapping → Region → Window
 region_mapped x m r =
-    record { guest = m.virtual_address; size = r.size; address = place_of x m.region; rights = m.rights; caching = Uc; leaf = Small }
+    record { guest = m.virtual_address; size = r.size; address = region_address_of x m.region; rights = m.rights; caching = Uc; leaf = Small }
 
 abbrev pub mapped : Placement → Mapping → Option Window
 mapped x m = option_map (region_mapped x m) (find (λ r. bytes_eq r.name m.region) x.expanded.lawful.memory)
 
-abbrev pub is_lower : Window → Window → Bool
-is_lower a b = nat_le a.guest b.guest
+abbrev pub is_lower_window : Window → Window → Bool
+is_lower_window a b = nat_le a.guest b.guest
 
 -- those of a domain, by ascending address
 unfoldable pub windows_of : Placement → Domain → List Window
-windows_of x d = in_order is_lower (filter_map (mapped x) d.memory)
+windows_of x d = in_order is_lower_window (filter_map (mapped x) d.memory)
 
 -- ---- both, of a placed policy
 

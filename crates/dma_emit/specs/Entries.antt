@@ -15,17 +15,17 @@ use Rattle.muen_num.specs.declared.limits.TheConstants.{PAGE}
 
 -- ---- the bytes of a table of entries of 16 bytes
 
-abbrev pub entry_bytes : WideEntry → List ℕ
-entry_bytes e = le_bytes 8 e.low ++ le_bytes 8 e.high
+abbrev pub wide_entry_bytes : WideEntry → List ℕ
+wide_entry_bytes e = le_bytes 8 e.low ++ le_bytes 8 e.high
 
 unfoldable pub table_bytes : (ℕ → WideEntry) → List ℕ
-table_bytes entry = flat_map (λ i. entry_bytes (entry i)) (numbers_below ENTRIES)
+table_bytes entry = flat_map (λ i. wide_entry_bytes (entry i)) (numbers_below ENTRIES)
 
 -- ---- entries
 
 -- one that isn't present
-abbrev pub absent : WideEntry
-absent = record { low = 0; high = 0 }
+abbrev pub absent_entry : WideEntry
+absent_entry = record { low = 0; high = 0 }
 
 -- it is present, by bit 0, and refers to the table in this page
 abbrev pub refers_to : ℕ → ℕ
@@ -34,7 +34,7 @@ refers_to page = PAGE * page + PRESENT
 -- the root entry of a bus refers to its context table
 abbrev pub root_entry : Domains → ℕ → ℕ → WideEntry
 root_entry d root bus =
-    if on_bus d bus then record { low = refers_to (root + context_page d bus); high = 0 } else absent
+    if on_bus d bus then record { low = refers_to (root + context_page d bus); high = 0 } else absent_entry
 
 -- bits 66:64 are 2, four levels of tables, and bits 87:72 the identifier of the domain, which is its number plus 1
 abbrev pub domain_word : ℕ → ℕ
@@ -49,4 +49,4 @@ abbrev pub context_of : Domains → ℕ → DomainDevice → WideEntry
 context_of d root v = record { low = refers_to (root + tables_page d v.domain); high = domain_word v.domain }
 
 abbrev pub context_entry : Domains → ℕ → ℕ → ℕ → WideEntry
-context_entry d root bus devfn = option_map_or (context_of d root) (device_on d bus devfn) absent
+context_entry d root bus devfn = option_map_or (context_of d root) (device_on d bus devfn) absent_entry

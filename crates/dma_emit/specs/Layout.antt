@@ -28,12 +28,12 @@ abbrev pub context_page : Domains → ℕ → ℕ
 context_page d bus = 1 + length (buses_below d bus)
 
 -- the windows of the domain of this number
-abbrev pub windows_at : Domains → ℕ → List Window
-windows_at d number = slice_index_or d.windows number []
+abbrev pub domain_windows_at : Domains → ℕ → List Window
+domain_windows_at d number = slice_index_or d.windows number []
 
 -- how many pages its tables take, none where no device stands in it
 abbrev pub domain_pages : Domains → ℕ → ℕ
-domain_pages d number = if has_device d number then ept_pages (ranges_of (windows_at d number)) else 0
+domain_pages d number = if has_device d number then ept_pages (ranges_of (domain_windows_at d number)) else 0
 
 -- the page of its highest table; behind the last domain's, the number of all pages
 abbrev pub tables_page : Domains → ℕ → ℕ

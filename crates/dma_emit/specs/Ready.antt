@@ -14,12 +14,12 @@ use Rattle.muen_num.specs.declared.limits.TheConstants.{MOST_DEVICES, MOST_DOMAI
 use Rattle.policy_lawful.specs.Rights.{may_execute}
 use Rattle.policy_lawful.specs.rights.Caching.TheVariants.{Uc}
 
-abbrev pub same_guest : Window → Window → Bool
-same_guest a b = a.guest == b.guest
+abbrev pub same_device_address : Window → Window → Bool
+same_device_address a b = a.guest == b.guest
 
 -- no two windows are at the same address
 abbrev pub HaveDifferentGuests : List Window → Type 0
-HaveDifferentGuests ws = AllPairs (λ a b. same_guest a b ≡ false) ws
+HaveDifferentGuests ws = AllPairs (λ a b. same_device_address a b ≡ false) ws
 
 -- it is mapped by pages of 4 KiB, with no memory type, to read or to read and write
 pub record IsForDevices (w : Window) : Type 0 where
@@ -28,7 +28,7 @@ pub record IsForDevices (w : Window) : Type 0 where
   pub rights : may_execute w.rights ≡ false
 
 -- the windows of a domain
-pub record AreWindows (ws : List Window) : Type 0 where
+pub record AreDomainWindows (ws : List Window) : Type 0 where
   pub emittable : All IsEmittable ws
   pub apart : AreApart (ranges_of ws)
   pub for_devices : All IsForDevices ws
@@ -43,5 +43,5 @@ pub record IsReady (d : Domains) : Type 0 where
   pub domains : All (λ v. v.domain < length d.windows) d.devices
   pub names : AreDistinct (map (λ v. v.device.name) d.devices)
   pub places : AllPairs (λ a b. same_place a b ≡ false) d.devices
-  pub windows : All AreWindows d.windows
+  pub windows : All AreDomainWindows d.windows
   pub pages : page_count d < MOST_DMA_PAGES

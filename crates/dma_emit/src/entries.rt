@@ -1,7 +1,7 @@
 //! Root and context tables (Intel VT-d specification, legacy mode).
 ghost use Rattle.std.specs.Prelude.{◌≡◌, ◌+◌, ◌<◌, ◌≤◌, ◌++◌, ◌^◌, length, map, OnOk, option_map};
 ghost use Rattle.std.specs.List.{flat_map};
-ghost use Rattle.dma_emit.specs.Entries.{context_entry, context_of, device_on, entry_bytes, refers_to, root_entry, table_bytes};
+ghost use Rattle.dma_emit.specs.Entries.{context_entry, context_of, device_on, wide_entry_bytes, refers_to, root_entry, table_bytes};
 ghost use Rattle.dma_emit.specs.Layout.{buses, context_page, on_bus, page_count, tables_page};
 ghost use Rattle.dma_emit.specs.Ready.{IsReady};
 ghost use Rattle.muen_num.specs.Range.{numbers_below};
@@ -36,7 +36,7 @@ const DOMAIN_UNIT: u64 = 1 << 8;
 // Appends an entry.
 #[tactic(auto, using(crate::proofs::Words::entry_appended))]
 fn put_entry(out: &mut Vec<u8>, entry: WideEntry) -> Result<(), AllocError>
-    ensures { OnOk result (out.new.items ≡ out.old.items ++ entry_bytes entry) }
+    ensures { OnOk result (out.new.items ≡ out.old.items ++ wide_entry_bytes entry) }
 {
     out.extend_from_slice(&entry.low.to_le_bytes())?;
     out.extend_from_slice(&entry.high.to_le_bytes())?;

@@ -1,7 +1,7 @@
 //! Which page of the file has which table. Pages are numbered from 0, the root table's.
 ghost use Rattle.std.specs.Prelude.{◌≡◌, ◌+◌, ◌==◌, ◌<◌, ◌≤◌, length, map, IfOk};
 ghost use Rattle.dma_emit.specs.Layout.{buses, buses_below, domain_pages, has_device, on_bus, tables_page};
-ghost use Rattle.dma_emit.specs.Ready.{AreWindows, IsReady};
+ghost use Rattle.dma_emit.specs.Ready.{AreDomainWindows, IsReady};
 ghost use Rattle.dma_emit.specs.declared.layout.TheConstants.{BUSES};
 ghost use Rattle.ept_emit.specs.Pages.{ept_pages, ranges_of};
 ghost use Rattle.muen_num.specs.Range.{numbers_below};
@@ -72,7 +72,7 @@ fn ranges_of(alloc: Global, windows: &[Window]) -> Result<Vec<GuestRange>, Alloc
 
 // How many pages the tables of these windows take.
 fn table_pages(alloc: Global, windows: &[Window]) -> Result<u64, NoMemory>
-    requires { AreWindows windows.now }
+    requires { AreDomainWindows windows.now }
     ensures { IfOk result (λ n. n ≡ ept_pages (ranges_of windows.now)) }
 {
     let ranges = ranges_of(alloc, windows)?;

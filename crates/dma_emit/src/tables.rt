@@ -1,9 +1,9 @@
 //! The tables of domains (Intel VT-d specification, second-level translation).
 ghost use Rattle.std.specs.Prelude.{◌≡◌, ◌+◌, ◌*◌, ◌<◌, ◌≤◌, ◌^◌, ◌++◌, length, map, IfOk, OnOk};
 ghost use Rattle.std.specs.List.{concat};
-ghost use Rattle.dma_emit.specs.Emitted.{AreDomainTables, AreTablesOf, IsDomainsTables};
+ghost use Rattle.dma_emit.specs.Emitted.{AreDomainTables, AreTablesOfDomain, IsDomainsTables};
 ghost use Rattle.dma_emit.specs.Layout.{page_count, tables_page};
-ghost use Rattle.dma_emit.specs.Ready.{AreWindows, IsReady};
+ghost use Rattle.dma_emit.specs.Ready.{AreDomainWindows, IsReady};
 ghost use Rattle.ept_emit.specs.Pages.{ept_pages, ranges_of};
 ghost use Rattle.muen_num.specs.Range.{numbers_below};
 
@@ -17,10 +17,10 @@ use std::alloc::{AllocError, Global};
 
 // The tables of these windows, so many pages, of which the first is this one of physical memory.
 fn tables_of(alloc: Global, windows: &[Window], page: u64, count: u64) -> Result<Seq<u8>, NoMemory>
-    requires windows { AreWindows windows.now }
+    requires windows { AreDomainWindows windows.now }
     requires count { count ≡ ept_pages (ranges_of windows.now) }
     requires end { page + count ≤ 2 ^ 28 }
-    ensures { IfOk result (AreTablesOf windows.now page) }
+    ensures { IfOk result (AreTablesOfDomain windows.now page) }
 {
     let mut tables = vec![in alloc; 0u8; (PAGE * count) as usize]?;
     write_tables(windows, Rights::Rw, PAGE * page, tables.as_mut_slice());

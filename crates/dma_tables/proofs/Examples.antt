@@ -6,7 +6,7 @@ use Rattle.device_bench.specs.declared.effect.Effect.TheVariants.{Mem}
 use Rattle.binary_form.specs.Faults.{unpacked}
 use Rattle.binary_form.specs.Form.{tag, tag_at, whole}
 use Rattle.binary_form.specs.declared.fault.ImageFault.TheVariants.{Short}
-use Rattle.dma_tables.specs.DmaFile.{dma_file, mark_bytes}
+use Rattle.dma_tables.specs.DmaFile.{dma_file, dma_mark_bytes}
 use Rattle.dma_tables.specs.DmaWalk.{device_page, is_context, is_paging, is_root}
 use Rattle.dma_tables.specs.Lowered.{by_pages, line_writes}
 use Rattle.dma_tables.specs.Tables.{most_dma_bytes}
@@ -95,7 +95,7 @@ read_alone = refl
 -- ---- files
 
 no_file : unpacked dma_file [] ≡ Err (Short 0)
-unfolding unpacked dma_file mark_bytes tag tag_at whole
+unfolding unpacked dma_file dma_mark_bytes tag tag_at whole
 no_file = refl
 
 a_longest_file : most_dma_bytes ≡ 67111064

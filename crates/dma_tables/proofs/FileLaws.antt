@@ -2,7 +2,7 @@
 use Rattle.std.proofs.Common.{◌≡◌, ℕ, ◌*◌, ◌/◌, List, length, arith}
 use Rattle.std.specs.Int.{w32, w64}
 use Rattle.muen_num.specs.declared.limits.TheConstants.{PAGE}
-use Rattle.binary_form.specs.Form.{bytes_of, only}
+use Rattle.binary_form.specs.Form.{fixed_bytes, only}
 use Rattle.binary_form.proofs.Leaves.{Laws, byte_laws, bytes_laws, number_laws, wide32, wide64}
 use Rattle.binary_form.proofs.Forms.{Knows, done_laws, field_laws, gap_laws, items_laws, knows_count, knows_field, knows_gap, knows_within, laws, only_laws, tag_laws}
 use Rattle.binary_form.proofs.NameLaws.{name_laws}
@@ -17,8 +17,8 @@ device_laws among names =
     gap_laws _ _ _ (done_laws _))))
 
 -- so many bytes are so many pages
-knows_pages : (n : ℕ) → Knows (λ (bytes : List ℕ). length bytes / PAGE) n (bytes_of (PAGE * n))
-unfolding bytes_of
+knows_pages : (n : ℕ) → Knows (λ (bytes : List ℕ). length bytes / PAGE) n (fixed_bytes (PAGE * n))
+unfolding fixed_bytes
 knows_pages n = record {
   is = λ bytes fits.
       let many : length bytes ≡ 4096 * n = fits.0 in

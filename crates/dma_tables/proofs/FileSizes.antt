@@ -9,8 +9,8 @@ use Rattle.binary_form.specs.declared.fault.Field.{Field}
 use Rattle.binary_form.specs.Form.{Form, IsBytes, tag}
 use Rattle.binary_form.proofs.Leaves.{wide32, wide64}
 use Rattle.binary_form.proofs.Sizes.{IsSized, both_bytes, byte_sized, bytes_sized, condition, done_sized, each_low, field_sized, gap_sized, items_sized, name_sized, number_sized, only_sized, rows, wider}
-use Rattle.dma_tables.specs.DmaFile.{after_device, device, dma_file, is_size, mark_bytes}
-use Rattle.dma_tables.specs.Tables.{IsDmaFile, device_size, most_dma_bytes}
+use Rattle.dma_tables.specs.DmaFile.{after_dma_device, device, dma_file, is_dma_size, dma_mark_bytes}
+use Rattle.dma_tables.specs.Tables.{IsDmaFile, dma_device_size, most_dma_bytes}
 use Rattle.dma_tables.specs.declared.file.TheConstants.{MOST_DMA_PAGES}
 use Rattle.dma_tables.specs.declared.file.DmaFile.{DmaFile}
 
@@ -24,7 +24,7 @@ tag_sized m wanted _ more low s = record {
       omega (arith, sum, behind);
 }
 
-pub device_sized : (among : Unit {0}) (names : List (List ℕ)) → IsSized device_size (device among names)
+pub device_sized : (among : Unit {0}) (names : List (List ℕ)) → IsSized dma_device_size (device among names)
 unfolding device
 device_sized among names =
     field_sized 64 4 _ _ _ (only_sized 64 _ _ _ name_sized) (λ called a.
@@ -32,22 +32,22 @@ device_sized among names =
     field_sized 1 2 _ _ _ byte_sized (λ devfn c.
     gap_sized 2 0 _ _ (done_sized _))))
 
-few_pages : (base pages : ℕ) → IsTrue (is_size base pages) → PAGE * pages ≤ PAGE * MOST_DMA_PAGES
+few_pages : (base pages : ℕ) → IsTrue (is_dma_size base pages) → PAGE * pages ≤ PAGE * MOST_DMA_PAGES
 few_pages base pages h =
     let a = and_parts (nat_le 1 pages) (nat_le pages MOST_DMA_PAGES && nat_le (base + PAGE * pages) PHYSICAL_END) h in
     let b = and_parts (nat_le pages MOST_DMA_PAGES) (nat_le (base + PAGE * pages) PHYSICAL_END) a.1 in
     let few : pages ≤ 16384 = leb-true pages MOST_DMA_PAGES b.0 in
     omega (arith, few)
 
-marked : IsBytes mark_bytes
-unfolding mark_bytes
-marked = each_low mark_bytes refl
+marked : IsBytes dma_mark_bytes
+unfolding dma_mark_bytes
+marked = each_low dma_mark_bytes refl
 
-pub marked_size : length mark_bytes ≡ 8
-unfolding mark_bytes
+pub marked_size : length dma_mark_bytes ≡ 8
+unfolding dma_mark_bytes
 marked_size = refl
 
-sized : IsSized (length mark_bytes + 67111056) dma_file
+sized : IsSized (length dma_mark_bytes + 67111056) dma_file
 unfolding dma_file
 sized =
     tag_sized 67111056 _ _ _ marked (
@@ -56,12 +56,12 @@ sized =
     field_sized 1 67111043 _ _ _ (only_sized 1 _ _ _ byte_sized) (λ count c.
     gap_sized 3 67111040 _ _ (
     field_sized 2176 67108864 _ _ _
-    (rows count MOST_DEVICES device_size _ (leb-true count MOST_DEVICES (condition _ _ _ count c)) (items_sized (after_device tt) (device tt) _ count device_size (device_sized tt))) (λ devices d.
+    (rows count MOST_DEVICES dma_device_size _ (leb-true count MOST_DEVICES (condition _ _ _ count c)) (items_sized (after_dma_device tt) (device tt) _ count dma_device_size (device_sized tt))) (λ devices d.
     field_sized 67108864 0 _ _ _ (wider (PAGE * pages) 67108864 _ (few_pages base pages (condition _ _ _ pages b)) (bytes_sized (PAGE * pages))) (λ bytes e.
     done_sized _)))))))
 
 pub file_sized : IsSized most_dma_bytes dma_file
-file_sized = wider (length mark_bytes + 67111056) most_dma_bytes dma_file (let size = marked_size in omega (arith, size)) sized
+file_sized = wider (length dma_mark_bytes + 67111056) most_dma_bytes dma_file (let size = marked_size in omega (arith, size)) sized
 
 pub file_bytes : (bytes : List ℕ) (t : DmaFile) → IsDmaFile bytes t → IsBytes bytes
 file_bytes bytes t is = subst IsBytes (sym is.bytes_are) (file_sized.bytes t is.tables)

@@ -2,7 +2,7 @@
 use Rattle.std.proofs.Common.{◌≤◌, Option}
 use Rattle.image_pack.specs.Parts.{IsParts}
 use Rattle.image_pack.specs.declared.parts.Image.{Image}
-use Rattle.device_bench.specs.Devices.{CanRun, IsLow}
+use Rattle.device_bench.specs.Devices.{CanRun, IsLowEffect}
 use Rattle.record_text.specs.Law.{IsInputOf, IsLowWrite, IsOrderly, IsRecordOf}
 use Rattle.record_text.specs.declared.devices.Devices.{Devices}
 use Rattle.record_text.specs.declared.record.Input.{Input}
@@ -34,5 +34,5 @@ pub can_run : (t : Option DmaFile) (i : Image) (r : Record Input) → IsParts i 
 unfolding lowered
 can_run t i r parts is = record {
   in_order = record { inputs = rises_lowered t i r.inputs is.inputs; orders = is.orders };
-  low = each_lowered t i (λ e. IsLowWrite e.input) (λ e. IsLow e.input) (λ e h. lowered_low t i e.input parts h) r.inputs is.low;
+  low = each_lowered t i (λ e. IsLowWrite e.input) (λ e. IsLowEffect e.input) (λ e h. lowered_low t i e.input parts h) r.inputs is.low;
 }

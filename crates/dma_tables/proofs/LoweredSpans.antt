@@ -13,7 +13,7 @@ use Rattle.image_pack.specs.SpanConditions.{end_of}
 use Rattle.image_pack.specs.declared.parts.DevicePart.{DevicePart}
 use Rattle.image_pack.specs.declared.parts.Image.{Image}
 use Rattle.image_pack.specs.declared.parts.SpanPart.{SpanPart}
-use Rattle.device_bench.specs.Devices.{IsLow}
+use Rattle.device_bench.specs.Devices.{IsLowEffect}
 use Rattle.device_bench.specs.declared.effect.Effect.{Effect}
 use Rattle.device_bench.specs.declared.effect.Effect.TheVariants.{Port as ToPort, Mem as ToMem, Irq as ToIrq}
 use Rattle.record_text.specs.Law.{IsInputOf, IsLowWrite}
@@ -196,7 +196,7 @@ few_low spans at count low lies some few =
     omega (arith, first, few)
 
 -- an effect of a record of spans
-low_effect : (devices : Devices) (spans : List SpanPart) (x : Effect) → All (λ s. end_of s ≤ PHYSICAL_END) spans → IsEffectIn devices spans x → IsLow x
+low_effect : (devices : Devices) (spans : List SpanPart) (x : Effect) → All (λ s. end_of s ≤ PHYSICAL_END) spans → IsEffectIn devices spans x → IsLowEffect x
 low_effect devices spans (ToPort port value) low h = tt
 low_effect devices spans (ToMem at bytes) low h = few_low spans at (length bytes) low h.0 h.1 h.2
 low_effect devices spans (ToIrq subject vector) low h = tt
@@ -206,11 +206,11 @@ abbrev none_of : Devices
 none_of = record { cpus = 0; devices = []; few = omega arith }
 
 -- what stands for an input that ends low
-pub lowered_low : (t : Option DmaFile) (i : Image) (x : Input) → IsParts i → IsLowWrite x → All IsLow (lowered_input t i x)
-lowered_low t i (Port port value) parts h = All-cons IsLow _ [] h (All-nil IsLow)
-lowered_low t i (Mem at bytes) parts h = All-cons IsLow _ [] h (All-nil IsLow)
-lowered_low t i (Irq subject vector) parts h = All-cons IsLow _ [] h (All-nil IsLow)
-lowered_low t i Idle parts h = All-nil IsLow
+pub lowered_low : (t : Option DmaFile) (i : Image) (x : Input) → IsParts i → IsLowWrite x → All IsLowEffect (lowered_input t i x)
+lowered_low t i (Port port value) parts h = All-cons IsLowEffect _ [] h (All-nil IsLowEffect)
+lowered_low t i (Mem at bytes) parts h = All-cons IsLowEffect _ [] h (All-nil IsLowEffect)
+lowered_low t i (Irq subject vector) parts h = All-cons IsLowEffect _ [] h (All-nil IsLowEffect)
+lowered_low t i Idle parts h = All-nil IsLowEffect
 lowered_low t i (Dma device addr bytes) parts h =
     let writes = line_in t i none_of (parts_aligned i parts) device addr bytes in
     λ k d l. low_effect none_of i.spans _ (parts_low i parts) (writes k d l)

@@ -7,7 +7,7 @@ use Rattle.std.specs.Str.{bytes_eq}
 use Rattle.muen_num.specs.declared.limits.TheConstants.{GUEST_END, PAGE}
 use Rattle.machine_layout.specs.PageFields.{number_at}
 use Rattle.machine_layout.specs.Walks.{bits_of, index_at}
-use Rattle.dma_tables.specs.DmaFile.{pages_in}
+use Rattle.dma_tables.specs.DmaFile.{page_count_of}
 use Rattle.dma_tables.specs.declared.file.DmaDevice.{DmaDevice}
 use Rattle.dma_tables.specs.declared.file.DmaFile.{DmaFile}
 
@@ -82,7 +82,7 @@ root_page t = t.base / PAGE
 -- word i of the page with this number, where it is one of the file
 abbrev pub word_of : DmaFile → ℕ → ℕ → Option ℕ
 word_of t page i =
-    if nat_le (root_page t) page && nat_lt (page - root_page t) (pages_in t)
+    if nat_le (root_page t) page && nat_lt (page - root_page t) (page_count_of t)
     then Some (number_at t.pages (PAGE * (page - root_page t) + 8 * i) 8)
     else None
 

@@ -18,9 +18,9 @@ pub record IsDmaFile (bytes : List ℕ) (t : DmaFile) : Type 0 where
 abbrev pub front_size : ℕ
 front_size = 24
 
-abbrev pub device_size : ℕ
-device_size = 1 + NAME_MOST + 4
+abbrev pub dma_device_size : ℕ
+dma_device_size = 1 + NAME_MOST + 4
 
 -- the longest file
 abbrev pub most_dma_bytes : ℕ
-most_dma_bytes = front_size + MOST_DEVICES * device_size + PAGE * MOST_DMA_PAGES
+most_dma_bytes = front_size + MOST_DEVICES * dma_device_size + PAGE * MOST_DMA_PAGES

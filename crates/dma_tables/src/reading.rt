@@ -6,9 +6,9 @@ ghost use Rattle.std.specs.Int.{w32, w64};
 ghost use Rattle.binary_form.specs.Form.{Form, Gives, byte, items, number, only, tag_at, whole};
 ghost use Rattle.binary_form.specs.Name.{name};
 ghost use Rattle.binary_form.specs.declared.fault.Field.{Field};
-ghost use Rattle.dma_tables.specs.DmaFile.{after_device, device, dma_file, is_size, mark_bytes};
+ghost use Rattle.dma_tables.specs.DmaFile.{after_dma_device, device, dma_file, is_dma_size, dma_mark_bytes};
 ghost use Rattle.muen_num.specs.Numbers.{is_page_aligned};
-ghost use Rattle.image_pack.specs.Image.{is_listed};
+ghost use Rattle.image_pack.specs.Image.{is_listed_name};
 ghost use Rattle.muen_num.specs.declared.limits.TheConstants.{MOST_DEVICES};
 
 use crate::file::{DmaDevice, DmaFile, MARK, MOST_DMA_PAGES};
@@ -21,16 +21,16 @@ use muen_num::{Name, Seq};
 use std::alloc::{AllocError, Global};
 
 /// The bytes that a file begins with.
-#[tactic(auto, unfolding(crate::specs::DmaFile::mark_bytes))]
+#[tactic(auto, unfolding(crate::specs::DmaFile::dma_mark_bytes))]
 pub(crate) fn mark() -> &'static [u8]
-    ensures { result.now ≡ mark_bytes }
+    ensures { result.now ≡ dma_mark_bytes }
 {
     MARK
 }
 
 // What stands behind the first eight bytes.
 fn mark_of(bytes: &[u8]) -> Result<&[u8], FormError>
-    ensures { Gives (λ x. x.now) result (tag_at mark_bytes Field.Magic bytes.now) }
+    ensures { Gives (λ x. x.now) result (tag_at dma_mark_bytes Field.Magic bytes.now) }
 {
     tag_of(bytes, mark(), Field::Magic)
 }
@@ -47,7 +47,7 @@ fn base_of(bytes: &[u8]) -> Result<(u64, &[u8]), FormError>
 }
 
 fn is_size(base: u64, pages: u32) -> bool
-    ensures { result ≡ is_size base pages }
+    ensures { result ≡ is_dma_size base pages }
 {
     let pages = u64::from(pages);
     1 <= pages
@@ -58,7 +58,7 @@ fn is_size(base: u64, pages: u32) -> bool
 
 // How many pages there are.
 fn pages_of(base: u64, bytes: &[u8]) -> Result<(u32, &[u8]), FormError>
-    ensures { Gives (λ x. (x.0, x.1.now)) result ((only (is_size base) Field.Pages (number w32)).read bytes.now) }
+    ensures { Gives (λ x. (x.0, x.1.now)) result ((only (is_dma_size base) Field.Pages (number w32)).read bytes.now) }
 {
     let (pages, rest) = u32_of(bytes)?;
     if !is_size(base, pages) {
@@ -79,14 +79,14 @@ fn count_of(bytes: &[u8]) -> Result<(u8, &[u8]), FormError>
 }
 
 fn is_listed(names: &[Name], name: &Name) -> bool
-    ensures { result ≡ is_listed names.now name.now }
+    ensures { result ≡ is_listed_name names.now name.now }
 {
     names.iter().any(|other| other == name)
 }
 
 // A name that isn't one of these.
 fn new_name_of<'a>(names: &[Name], bytes: &'a [u8]) -> Result<(Name, &'a [u8]), FormError>
-    ensures { Gives (λ x. (x.0, x.1.now)) result ((only (λ n. not (is_listed names.now n)) Field.Name name).read bytes.now) }
+    ensures { Gives (λ x. (x.0, x.1.now)) result ((only (λ n. not (is_listed_name names.now n)) Field.Name name).read bytes.now) }
 {
     match name_of(bytes) {
         Ok((name, rest)) => {
@@ -100,13 +100,13 @@ fn new_name_of<'a>(names: &[Name], bytes: &'a [u8]) -> Result<(Name, &'a [u8]), 
 }
 
 impl Item for DmaDevice {
-    ghost use Rattle.dma_tables.specs.DmaFile.{after_device, device};
+    ghost use Rattle.dma_tables.specs.DmaFile.{after_dma_device, device};
 
     type Among = ();
 
     type Before = Seq<Name>;
 
-    ghost next = { after_device };
+    ghost next = { after_dma_device };
 
     ghost form = { device };
 
@@ -135,7 +135,7 @@ impl Item for DmaDevice {
 
 // The devices.
 fn devices_of(alloc: Global, count: u8, bytes: &[u8]) -> Result<(Seq<DmaDevice>, &[u8]), FormError>
-    ensures { Gives (λ x. (x.0, x.1.now)) result ((items (after_device tt) (device tt) [] count).read bytes.now) }
+    ensures { Gives (λ x. (x.0, x.1.now)) result ((items (after_dma_device tt) (device tt) [] count).read bytes.now) }
 {
     items_of::<DmaDevice>(alloc, &(), Seq::new(alloc), count as usize, bytes)
 }

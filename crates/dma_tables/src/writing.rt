@@ -4,7 +4,7 @@
 ghost use Rattle.std.specs.Prelude.{◌≡◌, ◌/◌, ◌++◌, List, ℕ, OnOk};
 ghost use Rattle.std.specs.Int.{w32};
 ghost use Rattle.binary_form.specs.Form.{Form, number};
-ghost use Rattle.dma_tables.specs.DmaFile.{device, dma_file, pages_in};
+ghost use Rattle.dma_tables.specs.DmaFile.{device, dma_file, page_count_of};
 
 use crate::file::{DmaDevice, DmaFile};
 use crate::reading::mark;
@@ -33,8 +33,8 @@ pub(crate) fn put_device(out: &mut Vec<u8>, d: &DmaDevice) -> Result<(), AllocEr
 // How many pages there are.
 #[tactic(auto, unfolding(binary_form::specs::Form::number))]
 fn page_count(file: &DmaFile) -> u32
-    requires { (number w32).fits (pages_in file.now) }
-    ensures { result ≡ pages_in file.now }
+    requires { (number w32).fits (page_count_of file.now) }
+    ensures { result ≡ page_count_of file.now }
 {
     (file.pages.len() / PAGE as usize) as u32
 }

@@ -5,7 +5,7 @@ use Rattle.std.specs.List.{All, find}
 use Rattle.std.specs.List.Sorted.{IsPartitionPoint}
 use Rattle.std.proofs.Math.Bool.{and-false}
 use Rattle.std.proofs.lemmas.Bool.{cases_lt, and_from, leb-true, leb-false, le-leb, lt-ltb, lt-leb, le-ltb}
-use Rattle.ept_check.specs.Pieces.{Holds, IsApart}
+use Rattle.ept_check.specs.Pieces.{Holds, HasNoEdgeBetween}
 use Rattle.ept_check.specs.Sound.{AreApart, IsWhole}
 use Rattle.ept_emit.specs.Emitted.{holds, window_at}
 use Rattle.ept_emit.specs.Searches.{IsPast}
@@ -78,19 +78,19 @@ module _ (ws : List Window) (apart : AreApart ws) (addr place : ℕ) (past : IsP
   pub one_holds : (e : Window) → All IsWhole ws → place < length ws → (slice_index_or ws place e).guest ≤ addr → Holds addr (slice_index_or ws place e)
   one_holds e whole l h = record { whole = whole place e l; low = h; high = past.after place e (omega arith) l }
 
-  before_apart : (next k : ℕ) (d : Window) → k < place → IsApart addr next (slice_index_or ws k d)
+  before_apart : (next k : ℕ) (d : Window) → k < place → HasNoEdgeBetween addr next (slice_index_or ws k d)
   before_apart next k d less = let h = past.before k d less in record { begins = inl (omega (arith, h)); ends = inl h }
 
-  pub all_apart : (next : ℕ) → place ≡ length ws → All (IsApart addr next) ws
+  pub all_apart : (next : ℕ) → place ≡ length ws → All (HasNoEdgeBetween addr next) ws
   all_apart next e = λ k d lt. before_apart next k d (omega (arith, e, lt))
 
-  pub none_apart : (e : Window) (next : ℕ) → place < length ws → next ≤ (slice_index_or ws place e).guest → All (IsApart addr next) ws
+  pub none_apart : (e : Window) (next : ℕ) → place < length ws → next ≤ (slice_index_or ws place e).guest → All (HasNoEdgeBetween addr next) ws
   none_apart e next l h = λ k d lt. elim (cases_lt k place) [
     | inl less ↦ before_apart next k d less
     | inr more ↦ let far = later e l k d more lt in record { begins = inr (omega (arith, far, h)); ends = inr (omega (arith, far, h)) }
   ]
 
-  pub one_apart : (e : Window) (next : ℕ) → place < length ws → (slice_index_or ws place e).guest ≤ addr → next ≤ (slice_index_or ws place e).guest + (slice_index_or ws place e).size → All (IsApart addr next) ws
+  pub one_apart : (e : Window) (next : ℕ) → place < length ws → (slice_index_or ws place e).guest ≤ addr → next ≤ (slice_index_or ws place e).guest + (slice_index_or ws place e).size → All (HasNoEdgeBetween addr next) ws
   one_apart e next l start h = λ k d lt. elim (cases_lt k place) [
     | inl less ↦ before_apart next k d less
     | inr more ↦ elim (cases_lt place k) [
@@ -100,8 +100,8 @@ module _ (ws : List Window) (apart : AreApart ws) (addr place : ℕ) (past : IsP
           record { begins = inr (omega (arith, order, same, h)); ends = inr (omega (arith, order, same, h)) }
       | inr same_place ↦
           let is : place ≡ k = omega (arith, more, same_place) in
-          subst (λ j. IsApart addr next (slice_index_or ws j d)) is
-          (let item = same_item ws place e d l in subst (λ w. IsApart addr next w) item (record { begins = inl start; ends = inr h }))
+          subst (λ j. HasNoEdgeBetween addr next (slice_index_or ws j d)) is
+          (let item = same_item ws place e d l in subst (λ w. HasNoEdgeBetween addr next w) item (record { begins = inl start; ends = inr h }))
     ]
   ]
 

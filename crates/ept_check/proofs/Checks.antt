@@ -12,11 +12,11 @@ use Rattle.ept_check.proofs.Pieces.{contents_same}
 use Rattle.ept_check.proofs.Reading.{reads_ended}
 use Rattle.ept_check.proofs.Sizes.{above_is, here_is, index_is}
 use Rattle.ept_check.specs.Entries.{ended, leads_on, pages}
-use Rattle.ept_check.specs.Faults.{contents, fault, fault_at, is_outside, is_twice}
+use Rattle.ept_check.specs.Faults.{contents, table_fault_of_kind, table_fault_at, is_outside, is_twice}
 use Rattle.ept_check.specs.Known.{Known, Reads, by_entry, come}
-use Rattle.ept_check.specs.Pieces.{leaves, led}
+use Rattle.ept_check.specs.Pieces.{leaves, led_by_entry}
 use Rattle.ept_check.specs.Search.{first_from}
-use Rattle.ept_check.specs.Tables.{Tables, addr_of, addresses, look, walk}
+use Rattle.ept_check.specs.Tables.{Tables, addr_of, addresses, expected_walk, walk}
 use Rattle.ept_check.specs.declared.types.FaultKind.TheVariants.{Outside, Twice}
 use Rattle.machine_layout.proofs.WalkSteps.{deeper, walk_is}
 use Rattle.machine_layout.specs.Walks.{addresses_from, bits_of, entry_address, index_at, reads, walk_from}
@@ -64,17 +64,17 @@ module _ (v : Tables) (q l t r : ℕ) (low : l ≤ 3) (at : come v q (3 - l) l �
 
 -- ---- the first test
 
-pub outside_first : (v : Tables) (q : ℕ) → is_outside v q ≡ true → fault_at v q ≡ Some (fault Outside q)
-unfolding fault_at
+pub outside_first : (v : Tables) (q : ℕ) → is_outside v q ≡ true → table_fault_at v q ≡ Some (table_fault_of_kind Outside q)
+unfolding table_fault_at
 outside_first v q h = rw h refl
 
-pub twice_first : (v : Tables) (q : ℕ) → is_outside v q ≡ false → is_twice v q ≡ true → fault_at v q ≡ Some (fault Twice q)
-unfolding fault_at
+pub twice_first : (v : Tables) (q : ℕ) → is_outside v q ≡ false → is_twice v q ≡ true → table_fault_at v q ≡ Some (table_fault_of_kind Twice q)
+unfolding table_fault_at
 twice_first v q a b = rw (a, b) refl
 
-pub contents_only : (v : Tables) (q : ℕ) → is_outside v q ≡ false → is_twice v q ≡ false → fault_at v q ≡ contents (walk v) (look v) q
-unfolding fault_at
-contents_only v q a b = rw (a, b) (option_or-None (contents (walk v) (look v) q))
+pub contents_only : (v : Tables) (q : ℕ) → is_outside v q ≡ false → is_twice v q ≡ false → table_fault_at v q ≡ contents (walk v) (expected_walk v) q
+unfolding table_fault_at
+contents_only v q a b = rw (a, b) (option_or-None (contents (walk v) (expected_walk v) q))
 
 -- ---- a entry that doesn't point on
 
@@ -91,10 +91,10 @@ pub entry_steps : (l r e : ℕ) (o : Option ℕ) → o ≡ Some e → leads_on l
 entry_steps l r e o is on = rw (is, on) refl
 
 -- what is found among the positions of an entry that references no table
-pub ended_found : (v : Tables) (seen : ℕ → Bool) (q l t r e i x : ℕ) → l ≤ 3 → q % pages (suc l) ≡ 0 → x ≡ q + i * pages l → i < 512 → come v q (3 - l) l ≡ Some (t, r) → v.entry t (index_at l (addr_of x)) ≡ Some e → leads_on l e ≡ false → Known v seen (x + pages l) q l → first_from (fault_at v) x (pages l) ≡ first_from (contents (led v.there l e r) (look v)) x (pages l)
-ended_found v seen q l t r e i x a b c d at is stop known = same_from (fault_at v) (contents (led v.there l e r) (look v)) x (pages l) (λ p ge lt.
+pub ended_found : (v : Tables) (seen : ℕ → Bool) (q l t r e i x : ℕ) → l ≤ 3 → q % pages (suc l) ≡ 0 → x ≡ q + i * pages l → i < 512 → come v q (3 - l) l ≡ Some (t, r) → v.entry t (index_at l (addr_of x)) ≡ Some e → leads_on l e ≡ false → Known v seen (x + pages l) q l → first_from (table_fault_at v) x (pages l) ≡ first_from (contents (led_by_entry v.there l e r) (expected_walk v)) x (pages l)
+ended_found v seen q l t r e i x a b c d at is stop known = same_from (table_fault_at v) (contents (led_by_entry v.there l e r) (expected_walk v)) x (pages l) (λ p ge lt.
     let same : p / pages (suc l) ≡ q / pages (suc l) = above_is l l q i x p (omega arith) a b c d ge lt in
     let come_p : come v p (3 - l) l ≡ Some (t, r) = come_same v (3 - l) l p q (omega (arith, a)) same ∙ at in
     let i_p : index_at l (addr_of p) ≡ index_at l (addr_of x) = index_is l p a ∙ ap (λ n. n % 512) (here_is l q i x p a b c ge lt) ∙ sym (index_is l x a) in
     contents_only v p (not_outside v seen (x + pages l) q l p known lt) (not_twice v seen (x + pages l) q l p known lt)
-    ∙ contents_same (walk v) (led v.there l e r) (look v) (look v) p (λ kind. come_walk v p kind (3 - l) l t r (omega (arith, a)) come_p ∙ walk_ended v (addr_of p) (kind_bit kind) l t r e (ap (v.entry t) i_p ∙ is) stop) (λ kind. refl))
+    ∙ contents_same (walk v) (led_by_entry v.there l e r) (expected_walk v) (expected_walk v) p (λ kind. come_walk v p kind (3 - l) l t r (omega (arith, a)) come_p ∙ walk_ended v (addr_of p) (kind_bit kind) l t r e (ap (v.entry t) i_p ∙ is) stop) (λ kind. refl))

@@ -10,9 +10,9 @@ use Rattle.ept_check.proofs.Reading.{lowest}
 use Rattle.ept_check.proofs.Sizes.{above_is, entries_within, first_here, index_here, one_up, page_some}
 use Rattle.ept_check.proofs.Steps.{told, told_here}
 use Rattle.ept_check.specs.Entries.{leads_on, pages}
-use Rattle.ept_check.specs.Faults.{contents, fault, fault_at}
+use Rattle.ept_check.specs.Faults.{contents, table_fault_of_kind, table_fault_at}
 use Rattle.ept_check.specs.Known.{Known, come}
-use Rattle.ept_check.specs.Pieces.{leaves, led}
+use Rattle.ept_check.specs.Pieces.{leaves, led_by_entry}
 use Rattle.ept_check.specs.Search.{first_from}
 use Rattle.ept_check.specs.Tables.{Tables, addr_of, subject_of}
 use Rattle.ept_check.specs.declared.types.FaultKind.TheVariants.{Outside, Twice}
@@ -33,26 +33,26 @@ some_positions l = omega (arith, page_some l)
 
 module _ {v : Tables} {q l t r : ℕ} (c : ComesTo v q l t r) where
   -- what is found at the first position is the first fault
-  found_here : (f : TableFault) → fault_at v q ≡ Some f → Some f ≡ first_from (fault_at v) q (512 * pages l)
-  found_here f h = sym (head_found (fault_at v) q (512 * pages l) f h (some_positions l))
+  found_here : (f : TableFault) → table_fault_at v q ≡ Some f → Some f ≡ first_from (table_fault_at v) q (512 * pages l)
+  found_here f h = sym (head_found (table_fault_at v) q (512 * pages l) f h (some_positions l))
 
   -- a walk leaves the tables from this address as from the first position
   leaves_from : (addr : ℕ) → addr ≡ addr_of q → leaves v.entry v.is_table (addr_of q) l t ≡ leaves v.entry v.is_table addr l t
   leaves_from addr e = ap (λ a. leaves v.entry v.is_table a l t) (sym e)
 
   -- the page isn't declared to be a table
-  pub not_table : (f : TableFault) → f ≡ fault Outside q → v.is_table t ≡ false → Some f ≡ first_from (fault_at v) q (512 * pages l)
+  pub not_table : (f : TableFault) → f ≡ table_fault_of_kind Outside q → v.is_table t ≡ false → Some f ≡ first_from (table_fault_at v) q (512 * pages l)
   not_table f e h = found_here f (outside_first v q (out_here v q l t r c.few c.at h) ∙ ap (λ x. Some x) (sym e))
 
   -- the table was entered before, and a walk leaves the tables below it
-  pub leaves_below : {seen : ℕ → Bool} (f : TableFault) (addr : ℕ) → f ≡ fault Outside q → Known v seen q q (suc l) → addr ≡ addr_of q → leaves v.entry v.is_table addr l t ≡ true
-      → Some f ≡ first_from (fault_at v) q (512 * pages l)
+  pub leaves_below : {seen : ℕ → Bool} (f : TableFault) (addr : ℕ) → f ≡ table_fault_of_kind Outside q → Known v seen q q (suc l) → addr ≡ addr_of q → leaves v.entry v.is_table addr l t ≡ true
+      → Some f ≡ first_from (table_fault_at v) q (512 * pages l)
   leaves_below {seen} f addr e known same h =
       found_here f (outside_first v q (out_rest v q l t r c.few c.at seen known ∙ leaves_from addr same ∙ h) ∙ ap (λ x. Some x) (sym e))
 
   -- .. and none does
-  pub seen_before : {seen : ℕ → Bool} (f : TableFault) (addr : ℕ) → f ≡ fault Twice q → q % pages (suc l) ≡ 0 → Known v seen q q (suc l) → seen t ≡ true → addr ≡ addr_of q
-      → leaves v.entry v.is_table addr l t ≡ false → Some f ≡ first_from (fault_at v) q (512 * pages l)
+  pub seen_before : {seen : ℕ → Bool} (f : TableFault) (addr : ℕ) → f ≡ table_fault_of_kind Twice q → q % pages (suc l) ≡ 0 → Known v seen q q (suc l) → seen t ≡ true → addr ≡ addr_of q
+      → leaves v.entry v.is_table addr l t ≡ false → Some f ≡ first_from (table_fault_at v) q (512 * pages l)
   seen_before {seen} f addr e first known was same h =
       let stays = out_rest v q l t r c.few c.at seen known ∙ leaves_from addr same ∙ h in
       let twice = seen_twice v seen q l t (read_here v q l t r c.few c.at) first was known in
@@ -142,9 +142,9 @@ module _ {v : Tables} {q l t r i e : ℕ} (f : Follows v q l t r i e) where
   -- what is found against the windows of the subject is the first fault of its positions
   pub stops_found : {seen : ℕ → Bool} (x : ℕ) (ws : List Window) → leads_on l e ≡ false → Known v seen (place q l i) q l → place q l i ≡ x
       → slice_index_or v.windows (subject_of (place q l i)) [] ≡ ws
-      → first_from (contents (led v.there l e r) (told ws)) x (pages l) ≡ first_from (fault_at v) (place q l i) (pages l)
+      → first_from (contents (led_by_entry v.there l e r) (told ws)) x (pages l) ≡ first_from (table_fault_at v) (place q l i) (pages l)
   stops_found {seen} x ws stop known same own =
-      ap (λ n. first_from (contents (led v.there l e r) (told ws)) n (pages l)) (sym same)
+      ap (λ n. first_from (contents (led_by_entry v.there l e r) (told ws)) n (pages l)) (sym same)
       ∙ told_here v l e r (place q l i) ws f.comes.few (first_here l q i f.comes.few f.first) own
       ∙ sym (ended_found v seen q l t r e i (place q l i) f.comes.few f.first refl f.inside f.comes.at entry_here stop (stops_known stop known))
 
@@ -175,10 +175,10 @@ module _ {v : Tables} {q l t r i e : ℕ} (f : Follows v q l t r i e) where
       })
 
   -- what is found in it is the first fault of the entry's positions
-  pub below_found : (x : ℕ) → leads_on l e ≡ true → place q l i ≡ x → first_from (fault_at v) x (pages (suc (l - 1))) ≡ first_from (fault_at v) (place q l i) (pages l)
+  pub below_found : (x : ℕ) → leads_on l e ≡ true → place q l i ≡ x → first_from (table_fault_at v) x (pages (suc (l - 1))) ≡ first_from (table_fault_at v) (place q l i) (pages l)
   below_found x on same =
-      ap (λ n. first_from (fault_at v) n (pages (suc (l - 1)))) (sym same)
-      ∙ ap (λ n. first_from (fault_at v) (place q l i) (pages n)) (one_up l (level_some on))
+      ap (λ n. first_from (table_fault_at v) n (pages (suc (l - 1)))) (sym same)
+      ∙ ap (λ n. first_from (table_fault_at v) (place q l i) (pages n)) (one_up l (level_some on))
 
   -- what is known behind it is known behind the entry
   pub below_past : (after : ℕ → Bool) (x : ℕ) → leads_on l e ≡ true → place q l i ≡ x → Known v after (x + pages (suc (l - 1))) x (l - 1) → Known v after (place q l i + pages l) q l

@@ -11,7 +11,7 @@ use Rattle.ept_check.proofs.Comes.{come_same, table_come}
 use Rattle.ept_check.proofs.Sizes.{above_is, before_is, here_is, index_is, not_before, page_some, part_is, subject_is}
 use Rattle.ept_check.specs.Entries.{leads_on, pages}
 use Rattle.ept_check.specs.Faults.{is_clash, is_outside, is_twice, levels, same_path, same_table}
-use Rattle.ept_check.specs.Known.{IsBefore, IsOnePath, Known, Reads, by_entry, come}
+use Rattle.ept_check.specs.Known.{IsBefore, IsSameWalkPath, Known, Reads, by_entry, come}
 use Rattle.ept_check.specs.Tables.{Tables, addr_of, addresses, root_at, table_read}
 use Rattle.machine_layout.specs.Walks.{addresses_from, bits_of, entry_size, goes_on, index_at}
 
@@ -262,7 +262,7 @@ module _ (v : Tables) where
     one_table (Some t) None h = refl
     one_table (Some t) (Some u) h = ne_eqb t u (λ e. h t refl (ap (λ n. Some n) (sym e)))
 
-    pub path_of : (o m p l : ℕ) → m ≤ 3 → IsOnePath o m p l → same_path o m p l ≡ true
+    pub path_of : (o m p l : ℕ) → m ≤ 3 → IsSameWalkPath o m p l → same_path o m p l ≡ true
     path_of o m p l a h =
         let part : addr_of o / entry_size (suc m) ≡ addr_of p / entry_size (suc l) = subst (λ n. addr_of o / entry_size (suc m) ≡ addr_of p / entry_size (suc n)) h.level (part_is m o p a h.above) in
         and_from _ _ (eq-eqb _ _ (subject_is m o p a h.above)) (and_from _ _ (eq-eqb _ _ h.level) (eq-eqb _ _ part))

@@ -5,7 +5,7 @@ use Rattle.std.specs.List.{count_by}
 use Rattle.std.proofs.Math.Bool.{or-true, and-false}
 use Rattle.std.proofs.lemmas.Bool.{eq-eqb, ne_eqb}
 use Rattle.std.proofs.lemmas.List.Sums.{sum_by-set}
-use Rattle.ept_check.specs.Looked.{IsNow, is_entered, marked}
+use Rattle.ept_check.specs.Looked.{IsNow, is_entered, is_number_marked}
 use Rattle.muen_num.specs.Numbers.{is_among}
 use Rattle.ept_check.specs.declared.looked.Looked.{Looked}
 use Rattle.phys_mem.specs.Frames.{IsFirst, IsRising, NoneBelow}
@@ -23,7 +23,7 @@ some_has [] t i l h = absurd (omega (arith, l))
 some_has (n ∷ ns) t zero l h = let same = eq-eqb n t h in rw same refl
 some_has (n ∷ ns) t (suc i) l h = let rest = some_has ns t i (omega (arith, l)) h in rw rest (or-true (n == t))
 
-mark_set : (ns : List ℕ) (bs : List Bool) (t i : ℕ) → length bs ≡ length ns → i < length ns → slice_index ns i ≡ t → slice_index_or bs i false ≡ true → marked ns bs t ≡ true
+mark_set : (ns : List ℕ) (bs : List Bool) (t i : ℕ) → length bs ≡ length ns → i < length ns → slice_index ns i ≡ t → slice_index_or bs i false ≡ true → is_number_marked ns bs t ≡ true
 mark_set [] bs t i e l h b = absurd (omega (arith, l))
 mark_set (n ∷ ns) [] t i e l h b = absurd (omega (arith, e))
 mark_set (n ∷ ns) (x ∷ bs) t zero e l h b = let same = eq-eqb n t h in rw (same, b) refl
@@ -32,29 +32,29 @@ mark_set (n ∷ ns) (x ∷ bs) t (suc i) e l h b = let rest = mark_set ns bs t i
 rest_rises : (n : ℕ) (ns : List ℕ) → IsRising (n ∷ ns) → IsRising ns
 rest_rises n ns r = λ i j a b. r (suc i) (suc j) (omega (arith, a)) (omega (arith, b))
 
-nowhere : (ns : List ℕ) (bs : List Bool) (t : ℕ) → ((j : ℕ) → j < length ns → slice_index ns j ≢ t) → marked ns bs t ≡ false
+nowhere : (ns : List ℕ) (bs : List Bool) (t : ℕ) → ((j : ℕ) → j < length ns → slice_index ns j ≢ t) → is_number_marked ns bs t ≡ false
 nowhere [] bs t h = refl
 nowhere (n ∷ ns) [] t h = refl
 nowhere (n ∷ ns) (x ∷ bs) t h = let other = ne_eqb n t (h 0 (omega arith)) in rw other (nowhere ns bs t (λ j l. h (suc j) (omega (arith, l))))
 
-mark_clear : (ns : List ℕ) (bs : List Bool) (t i : ℕ) → IsRising ns → length bs ≡ length ns → i < length ns → slice_index ns i ≡ t → slice_index_or bs i false ≡ false → marked ns bs t ≡ false
+mark_clear : (ns : List ℕ) (bs : List Bool) (t i : ℕ) → IsRising ns → length bs ≡ length ns → i < length ns → slice_index ns i ≡ t → slice_index_or bs i false ≡ false → is_number_marked ns bs t ≡ false
 mark_clear [] bs t i r e l h b = absurd (omega (arith, l))
 mark_clear (n ∷ ns) [] t i r e l h b = absurd (omega (arith, e))
 mark_clear (n ∷ ns) (x ∷ bs) t zero r e l h b =
-    let rest : marked ns bs t ≡ false = nowhere ns bs t (λ j a same. let up = r 0 (suc j) (omega arith) (omega (arith, a)) in omega (arith, up, same, h)) in
+    let rest : is_number_marked ns bs t ≡ false = nowhere ns bs t (λ j a same. let up = r 0 (suc j) (omega arith) (omega (arith, a)) in omega (arith, up, same, h)) in
     rw (b, rest) (or_no (n == t))
 mark_clear (n ∷ ns) (x ∷ bs) t (suc i) r e l h b =
     let up = r 0 (suc i) (omega arith) l in
     let other = ne_eqb n t (λ same. omega (arith, up, h, same)) in
     rw other (mark_clear ns bs t i (rest_rises n ns r) (omega (arith, e)) (omega (arith, l)) h b)
 
-mark_others : (ns : List ℕ) (bs : List Bool) (t i u : ℕ) → slice_index ns i ≡ t → i < length ns → length bs ≡ length ns → u ≢ t → marked ns (slice_set bs i true) u ≡ marked ns bs u
+mark_others : (ns : List ℕ) (bs : List Bool) (t i u : ℕ) → slice_index ns i ≡ t → i < length ns → length bs ≡ length ns → u ≢ t → is_number_marked ns (slice_set bs i true) u ≡ is_number_marked ns bs u
 mark_others [] bs t i u h l e ne = refl
 mark_others (n ∷ ns) [] t i u h l e ne = absurd (omega (arith, e))
 mark_others (n ∷ ns) (x ∷ bs) t zero u h l e ne = let other = ne_eqb n u (λ same. ne (sym same ∙ h)) in rw other refl
 mark_others (n ∷ ns) (x ∷ bs) t (suc i) u h l e ne = ap (λ c. ((n == u) && x) || c) (mark_others ns bs t i u h (omega (arith, l)) (omega (arith, e)) ne)
 
-pub none_marked : (ns : List ℕ) (n t : ℕ) → marked ns (replicate n false) t ≡ false
+pub none_marked : (ns : List ℕ) (n t : ℕ) → is_number_marked ns (replicate n false) t ≡ false
 none_marked [] n t = refl
 none_marked (x ∷ ns) zero t = refl
 none_marked (x ∷ ns) (suc n) t = rw (and-false (x == t)) (none_marked ns n t)
@@ -77,7 +77,7 @@ module _ (ns : List ℕ) (rising : IsRising ns) (old : Looked) (long : length ol
   -- with the mark set
   pub now : (new : Looked) → slice_index_or old.entered.items i false ≡ false → new.entered.items ≡ slice_set old.entered.items i true → length new.entered.items ≡ length ns → IsNow ns old new t
   now new b fs far =
-      let both = λ (u : ℕ). ap (λ bs. marked ns bs u) fs in
+      let both = λ (u : ℕ). ap (λ bs. is_number_marked ns bs u) fs in
       record {
         is = some_has ns t i h.within h.here;
         before = mark_clear ns old.entered.items t i rising long h.within h.here b;

@@ -8,10 +8,10 @@ use Rattle.std.proofs.lemmas.List.Elements.{All-head, All-tail}
 use Rattle.std.proofs.lemmas.Option.{same_Some}
 use Rattle.ept_check.proofs.Sizes.{addr_on, within}
 use Rattle.ept_check.specs.Entries.{ended, pages}
-use Rattle.ept_check.specs.Faults.{contents, fault, is_at, is_lack, is_leak, kinds, same}
-use Rattle.ept_check.specs.Pieces.{IsApart, led}
+use Rattle.ept_check.specs.Faults.{contents, table_fault_of_kind, is_at, is_lack, is_leak, kinds, same}
+use Rattle.ept_check.specs.Pieces.{HasNoEdgeBetween, led_by_entry}
 use Rattle.ept_check.specs.Search.{when}
-use Rattle.ept_check.specs.Sound.{AreWindows, HasPages, IsWhole}
+use Rattle.ept_check.specs.Sound.{AreSubjectWindows, HasPages, IsWhole}
 use Rattle.ept_check.specs.Tables.{addr_of}
 use Rattle.ept_check.specs.declared.types.FaultKind.TheVariants.{Lacks, Leak}
 use Rattle.ept_emit.specs.Emitted.{holds, translation, translation_in}
@@ -93,7 +93,7 @@ no_kind false false x y = absurd (cc)
 -- where there is no fault of contents, each kind of access is led where the windows say
 pub contents_led : (walked told : ℕ → AccessKind → Walk) (q : ℕ) → contents walked told q ≡ None → (kind : AccessKind) → walked q kind ≡ told q kind
 contents_led walked told q h kind =
-    let both = first_none (is_leak (walked q) (told q)) (is_lack (walked q) (told q)) (fault Leak q) (fault Lacks q) h in
+    let both = first_none (is_leak (walked q) (told q)) (is_lack (walked q) (told q)) (table_fault_of_kind Leak q) (table_fault_of_kind Lacks q) h in
     let a = each_kind (λ k. is_at (walked q k) && not (same (walked q k) (told q k))) both.0 kind in
     let b = each_kind (λ k. not (is_at (walked q k)) && not (same (walked q k) (told q k))) both.1 kind in
     same_is _ _ (no_kind (is_at (walked q kind)) _ a b)
@@ -144,7 +144,7 @@ find_some P test (x ∷ xs) w h e = elim (cases_Bool (test x)) [
   | inr b ↦ find_some P test xs w (All-tail P x xs h) (rw b at e)
 ]
 
-holds_same : (low high a : ℕ) (w : Window) → low ≤ a → a < high → IsApart low high w → holds low w ≡ holds a w
+holds_same : (low high a : ℕ) (w : Window) → low ≤ a → a < high → HasNoEdgeBetween low high w → holds low w ≡ holds a w
 holds_same low high a w l h apart =
     let one : nat_le w.guest low ≡ nat_le w.guest a = le_same w.guest low a high apart.begins l h in
     let two : nat_lt low (w.guest + w.size) ≡ nat_lt a (w.guest + w.size) = lt_same (w.guest + w.size) low a high apart.ends l h in
@@ -222,7 +222,7 @@ module _ (there : ℕ → Bool) where
       let then_on = and_parts _ _ (sym same_holds ∙ found.passes) in
       record { whole = found.is; pages = has; start = leb-true _ _ now.0; end = ltb-true _ _ then_on.1; page = whole }
 
-  pub piece_none : (ws : List Window) (level e rights x at p high : ℕ) → level ≤ 3 → x % pages level ≡ 0 → x ≤ at → at ≤ p → p < x + pages level → AreWindows there ws → All (IsApart (addr_of at) high) ws → addr_of p < high → contents (led there level e rights) (λ q kind. translation ws (addr_of q) kind) at ≡ None → contents (led there level e rights) (λ q kind. translation ws (addr_of q) kind) p ≡ None
+  pub piece_none : (ws : List Window) (level e rights x at p high : ℕ) → level ≤ 3 → x % pages level ≡ 0 → x ≤ at → at ≤ p → p < x + pages level → AreSubjectWindows there ws → All (HasNoEdgeBetween (addr_of at) high) ws → addr_of p < high → contents (led_by_entry there level e rights) (λ q kind. translation ws (addr_of q) kind) at ≡ None → contents (led_by_entry there level e rights) (λ q kind. translation ws (addr_of q) kind) p ≡ None
   piece_none ws level e rights x at p high a b c d f fine apart low none =
       let far = within level x at p a b c d f in
       let up = addr_on level x at p a b c d f in
@@ -233,6 +233,6 @@ module _ (there : ℕ → Bool) where
       let has = find_some (HasPages there) (holds (addr_of at)) ws w fine.pages is in
       let far_found = find_some IsWhole (holds (addr_of p)) ws w fine.whole (sym one ∙ is) in
       found_on (addr_of at) (addr_of p) w (omega arith) up found has.is (found.passes ∙ sym far_found.passes) in
-      led_contents (led there level e rights) (λ q kind. translation ws (addr_of q) kind) p (λ kind.
-      led_on level e rights kind (addr_of at) (addr_of p) (find (holds (addr_of at)) ws) up far on (contents_led (led there level e rights) (λ q kind. translation ws (addr_of q) kind) at none kind)
+      led_contents (led_by_entry there level e rights) (λ q kind. translation ws (addr_of q) kind) p (λ kind.
+      led_on level e rights kind (addr_of at) (addr_of p) (find (holds (addr_of at)) ws) up far on (contents_led (led_by_entry there level e rights) (λ q kind. translation ws (addr_of q) kind) at none kind)
       ∙ ap (λ o. translation_in o (addr_of p) kind) one)

@@ -12,11 +12,11 @@ use Rattle.ept_check.proofs.Onward.{addresses_onward, onward, translation_onward
 use Rattle.ept_check.proofs.Pieces.{contents_led, led_contents}
 use Rattle.ept_check.proofs.Sizes.{above_of}
 use Rattle.ept_check.specs.Entries.{pages}
-use Rattle.ept_check.specs.Faults.{contents, fault, fault_at, is_clash, is_outside, is_twice, levels, same_path, same_table, table_fault}
-use Rattle.ept_check.specs.Known.{IsOnePath, Reads}
+use Rattle.ept_check.specs.Faults.{contents, table_fault_of_kind, table_fault_at, is_clash, is_outside, is_twice, levels, same_path, same_table, table_fault}
+use Rattle.ept_check.specs.Known.{IsSameWalkPath, Reads}
 use Rattle.ept_check.specs.Search.{first_from, when}
-use Rattle.ept_check.specs.Sound.{AreSound, AreWindows, HasOnePathPerTable}
-use Rattle.ept_check.specs.Tables.{Tables, addr_of, addresses, look, look_at, root_at, subject_of, table_read, walk, walk_at}
+use Rattle.ept_check.specs.Sound.{AreSound, AreSubjectWindows, HasOnePathPerTable}
+use Rattle.ept_check.specs.Tables.{Tables, addr_of, addresses, expected_walk, look_at, root_at, subject_of, table_read, walk, walk_at}
 use Rattle.ept_check.specs.declared.types.FaultKind.{FaultKind}
 use Rattle.ept_check.specs.declared.types.FaultKind.TheVariants.{Outside, Twice}
 use Rattle.ept_check.specs.declared.types.TableFault.{TableFault}
@@ -31,27 +31,27 @@ use Rattle.muen_num.specs.declared.access.AccessKind.{AccessKind}
 abbrev count : Tables → ℕ
 count v = 2 ^ 36 * length v.roots
 
-fault_from : (v : Tables) → table_fault v ≡ first_from (fault_at v) 0 (count v)
+fault_from : (v : Tables) → table_fault v ≡ first_from (table_fault_at v) 0 (count v)
 unfolding table_fault
-fault_from v = in_below (fault_at v) (count v)
+fault_from v = in_below (table_fault_at v) (count v)
 
-no_fault : (v : Tables) → table_fault v ≡ None → (q : ℕ) → q < count v → fault_at v q ≡ None
-no_fault v h q l = none_at (fault_at v) 0 (count v) (sym (fault_from v) ∙ h) q (omega arith) (omega (arith, l))
+no_fault : (v : Tables) → table_fault v ≡ None → (q : ℕ) → q < count v → table_fault_at v q ≡ None
+no_fault v h q l = none_at (table_fault_at v) 0 (count v) (sym (fault_from v) ∙ h) q (omega arith) (omega (arith, l))
 
-inside : (v : Tables) (q : ℕ) → fault_at v q ≡ None → is_outside v q ≡ false
+inside : (v : Tables) (q : ℕ) → table_fault_at v q ≡ None → is_outside v q ≡ false
 inside v q h = elim (cases_Bool (is_outside v q)) [
   | inr e ↦ e
   | inl e ↦ let bad = sym h ∙ outside_first v q e in absurd (cc)
 ]
 
-once : (v : Tables) (q : ℕ) → fault_at v q ≡ None → is_twice v q ≡ false
+once : (v : Tables) (q : ℕ) → table_fault_at v q ≡ None → is_twice v q ≡ false
 once v q h = elim (cases_Bool (is_twice v q)) [
   | inr e ↦ e
   | inl e ↦ let bad = sym h ∙ twice_first v q (inside v q h) e in absurd (cc)
 ]
 
-led_well : (v : Tables) (q : ℕ) → fault_at v q ≡ None → (kind : AccessKind) → walk v q kind ≡ look v q kind
-led_well v q h = contents_led (walk v) (look v) q (sym (contents_only v q (inside v q h) (once v q h)) ∙ h)
+led_well : (v : Tables) (q : ℕ) → table_fault_at v q ≡ None → (kind : AccessKind) → walk v q kind ≡ expected_walk v q kind
+led_well v q h = contents_led (walk v) (expected_walk v) q (sym (contents_only v q (inside v q h) (once v q h)) ∙ h)
 
 abbrev AreTables : Tables → List ℕ → Type 0
 AreTables v ats = All (λ at. v.is_table (at / 4096) ≡ true) ats
@@ -72,7 +72,7 @@ at_position subject addr l = omega (arith, l)
 in_subject : (subject addr : ℕ) → addr < 2 ^ 48 → subject_of (2 ^ 36 * subject + addr / 4096) ≡ subject
 in_subject subject addr l = omega (arith, l)
 
-pub sound : (v : Tables) → ((k : ℕ) → AreWindows v.there (slice_index_or v.windows k [])) → table_fault v ≡ None → AreSound v
+pub sound : (v : Tables) → ((k : ℕ) → AreSubjectWindows v.there (slice_index_or v.windows k [])) → table_fault v ≡ None → AreSound v
 sound v fine h = record {
   led = λ subject addr kind few low.
       let q = 2 ^ 36 * subject + addr / 4096 in
@@ -109,7 +109,7 @@ sound v fine h = record {
 
 -- ---- paths
 
-path_from : (p m q l : ℕ) → m ≤ 3 → same_path p m q l ≡ true → IsOnePath p m q l
+path_from : (p m q l : ℕ) → m ≤ 3 → same_path p m q l ≡ true → IsSameWalkPath p m q l
 path_from p m q l a h =
     let one = and_parts _ _ h in
     let two = and_parts _ _ one.1 in
@@ -118,7 +118,7 @@ path_from p m q l a h =
     record { level = level; above = above_of m p q a (eqb-true _ _ one.0) part }
 
 -- where there is no clash, a table is on one path
-no_clash_path : (v : Tables) (q : ℕ) → is_twice v q ≡ false → (p m l t : ℕ) → p ≤ q → Reads v p m t → Reads v q l t → IsOnePath p m q l
+no_clash_path : (v : Tables) (q : ℕ) → is_twice v q ≡ false → (p m l t : ℕ) → p ≤ q → Reads v p m t → Reads v q l t → IsSameWalkPath p m q l
 unfolding is_twice
 no_clash_path v q h p m l t le r s = elim (cases_Bool (same_path p m q l)) [
   | inl e ↦ path_from p m q l r.depth e
@@ -129,7 +129,7 @@ no_clash_path v q h p m l t le r s = elim (cases_Bool (same_path p m q l)) [
       (at_level v (λ _. false) (λ n. is_clash v q l p n) m r.depth clash))) ∙ h))
 ]
 
-turn : (p m q l : ℕ) → IsOnePath q l p m → IsOnePath p m q l
+turn : (p m q l : ℕ) → IsSameWalkPath q l p m → IsSameWalkPath p m q l
 turn p m q l h = record { level = sym h.level; above = subst (λ n. p / pages (suc n) ≡ q / pages (suc n)) h.level (sym h.above) }
 
 pub one_path : (v : Tables) → table_fault v ≡ None → HasOnePathPerTable v
@@ -161,12 +161,12 @@ twice_none v q low h = none_below (λ o. list_any (λ k. list_any (λ m. is_clas
     ])))
 
 pub no_faults : (v : Tables) → AreSound v → HasOnePathPerTable v → table_fault v ≡ None
-no_faults v s one = fault_from v ∙ none_from (fault_at v) 0 (count v) (λ q ge lt.
+no_faults v s one = fault_from v ∙ none_from (table_fault_at v) 0 (count v) (λ q ge lt.
     let low : q < count v = omega (arith, lt) in
     let subject : subject_of q < length v.roots = omega (arith, low) in
     let addr : addr_of q < 2 ^ 48 = omega arith in
     contents_only v q (outside_none v q (tables_here v q s subject)) (twice_none v q low one)
-    ∙ led_contents (walk v) (look v) q (λ kind. s.led (subject_of q) (addr_of q) kind subject addr))
+    ∙ led_contents (walk v) (expected_walk v) q (λ kind. s.led (subject_of q) (addr_of q) kind subject addr))
 
 -- ---- every fault but one says that they aren't sound
 
@@ -174,24 +174,24 @@ abbrev kind_or : FaultKind → Option TableFault → FaultKind
 kind_or k None = k
 kind_or k (Some f) = f.kind
 
-twice_only : (q : ℕ) (a b : Bool) (o : Option TableFault) (f : TableFault) → a ≡ false → o ≡ None → first_of (when a (fault Outside q) ∷ when b (fault Twice q) ∷ o ∷ []) ≡ Some f → f.kind ≡ Twice
+twice_only : (q : ℕ) (a b : Bool) (o : Option TableFault) (f : TableFault) → a ≡ false → o ≡ None → first_of (when a (table_fault_of_kind Outside q) ∷ when b (table_fault_of_kind Twice q) ∷ o ∷ []) ≡ Some f → f.kind ≡ Twice
 twice_only q true b o f e g h = absurd (cc)
 twice_only q false b (Some x) f e g h = absurd (cc)
 twice_only q false true None f e g h = sym (ap (kind_or Twice) h)
 twice_only q false false None f e g h = absurd (cc)
 
-fault_twice : (v : Tables) (q : ℕ) (f : TableFault) → is_outside v q ≡ false → contents (walk v) (look v) q ≡ None → fault_at v q ≡ Some f → f.kind ≡ Twice
-unfolding fault_at
-fault_twice v q f a b h = twice_only q (is_outside v q) (is_twice v q) (contents (walk v) (look v) q) f a b h
+fault_twice : (v : Tables) (q : ℕ) (f : TableFault) → is_outside v q ≡ false → contents (walk v) (expected_walk v) q ≡ None → table_fault_at v q ≡ Some f → f.kind ≡ Twice
+unfolding table_fault_at
+fault_twice v q f a b h = twice_only q (is_outside v q) (is_twice v q) (contents (walk v) (expected_walk v) q) f a b h
 
 pub unsound : (v : Tables) (f : TableFault) → Some f ≡ table_fault v → AreSound v → f.kind ≡ Twice
 unsound v f h s =
-    let r = found_at (fault_at v) 0 (count v) f (sym (fault_from v) ∙ sym h) in
+    let r = found_at (table_fault_at v) 0 (count v) f (sym (fault_from v) ∙ sym h) in
     let high = r.high in
     let low : r.k < count v = omega (arith, high) in
     let subject : subject_of r.k < length v.roots = omega (arith, low) in
     let addr : addr_of r.k < 2 ^ 48 = omega arith in
-    fault_twice v r.k f (outside_none v r.k (tables_here v r.k s subject)) (led_contents (walk v) (look v) r.k (λ kind. s.led (subject_of r.k) (addr_of r.k) kind subject addr)) r.here
+    fault_twice v r.k f (outside_none v r.k (tables_here v r.k s subject)) (led_contents (walk v) (expected_walk v) r.k (λ kind. s.led (subject_of r.k) (addr_of r.k) kind subject addr)) r.here
 
 pub unsound_if : (v : Tables) (o : Option TableFault) → o ≡ table_fault v → IfSome o (λ f. AreSound v → f.kind ≡ Twice)
 unsound_if v None h = tt

@@ -8,12 +8,12 @@ use Rattle.ept_check.proofs.Knowns.{moves}
 use Rattle.ept_check.proofs.Pieces.{contents_same, piece_none}
 use Rattle.ept_check.proofs.Sizes.{far_addr, subject_on}
 use Rattle.ept_check.specs.Entries.{pages}
-use Rattle.ept_check.specs.Faults.{contents, fault_at, table_fault}
+use Rattle.ept_check.specs.Faults.{contents, table_fault_at, table_fault}
 use Rattle.ept_check.specs.Known.{IsBefore, Known, Reads, come}
-use Rattle.ept_check.specs.Pieces.{IsApart, led}
+use Rattle.ept_check.specs.Pieces.{HasNoEdgeBetween, led_by_entry}
 use Rattle.ept_check.specs.Search.{first_from}
-use Rattle.ept_check.specs.Sound.{AreWindows}
-use Rattle.ept_check.specs.Tables.{Tables, addr_of, look, subject_of}
+use Rattle.ept_check.specs.Sound.{AreSubjectWindows}
+use Rattle.ept_check.specs.Tables.{Tables, addr_of, expected_walk, subject_of}
 use Rattle.ept_check.specs.declared.types.TableFault.{TableFault}
 use Rattle.ept_emit.specs.Emitted.{translation, translation_in, window_at}
 use Rattle.ept_emit.specs.declared.window.Window.{Window}
@@ -29,11 +29,11 @@ told ws q kind = translation ws (addr_of q) kind
 module _ (there : ℕ → Bool) (ws : List Window) (level e rights first : ℕ) where
   -- what is found at a position, against them
   abbrev found_in : ℕ → Option TableFault
-  found_in q = contents (led there level e rights) (told ws) q
+  found_in q = contents (led_by_entry there level e rights) (told ws) q
 
   -- without a fault at an address there is none up to where the next piece begins
   pub piece_step : (at addr next : ℕ) → addr ≡ addr_of at → level ≤ 3 → first % pages level ≡ 0 → first ≤ at → at < first + pages level
-      → AreWindows there ws → All (IsApart addr next) ws → addr < next → next ≤ addr + 4096 * (first + pages level - at) → found_in at ≡ None
+      → AreSubjectWindows there ws → All (HasNoEdgeBetween addr next) ws → addr < next → next ≤ addr + 4096 * (first + pages level - at) → found_in at ≡ None
       → first_from found_in first (at - first) ≡ None → first_from found_in first (at + (next - addr) / 4096 - first) ≡ None
   piece_step at addr next same a b c d fine apart more near here before =
       let n = (next - addr) / 4096 in
@@ -42,13 +42,13 @@ module _ (there : ℕ → Bool) (ws : List Window) (level e rights first : ℕ) 
       (none_from found_in at n (λ k ge lt.
       let inside : k < first + pages level = omega (arith, lt, few, d) in
       let far = far_addr level first at k a b c ge inside in
-      piece_none there ws level e rights first at k next a b c ge inside fine (subst (λ x. All (IsApart x next) ws) same apart) (omega (arith, far, lt, ge, more, same)) here))
+      piece_none there ws level e rights first at k next a b c ge inside fine (subst (λ x. All (HasNoEdgeBetween x next) ws) same apart) (omega (arith, far, lt, ge, more, same)) here))
 
   -- the window that is found is the one to ask
   pub piece_here : (at addr : ℕ) (window : Option Window) → addr ≡ addr_of at → window ≡ window_at ws addr
-      → contents (led there level e rights) (λ q kind. translation_in window (addr_of q) kind) at ≡ found_in at
+      → contents (led_by_entry there level e rights) (λ q kind. translation_in window (addr_of q) kind) at ≡ found_in at
   piece_here at addr window same is =
-      contents_same (led there level e rights) (led there level e rights) (λ q kind. translation_in window (addr_of q) kind) (told ws) at (λ kind. refl)
+      contents_same (led_by_entry there level e rights) (led_by_entry there level e rights) (λ q kind. translation_in window (addr_of q) kind) (told ws) at (λ kind. refl)
       (λ kind. ap (λ o. translation_in o (addr_of at) kind) (is ∙ ap (window_at ws) same))
 
   -- before the first position there is none
@@ -70,9 +70,9 @@ module _ (there : ℕ → Bool) (ws : List Window) (level e rights first : ℕ) 
 
 -- the windows of a subject are those of each position of an entry
 pub told_here : (v : Tables) (l e r x : ℕ) (ws : List Window) → l ≤ 3 → x % pages l ≡ 0 → slice_index_or v.windows (subject_of x) [] ≡ ws
-    → first_from (contents (led v.there l e r) (told ws)) x (pages l) ≡ first_from (contents (led v.there l e r) (look v)) x (pages l)
-told_here v l e r x ws a b is = same_from (contents (led v.there l e r) (told ws)) (contents (led v.there l e r) (look v)) x (pages l) (λ p ge lt.
-    contents_same (led v.there l e r) (led v.there l e r) (told ws) (look v) p (λ kind. refl) (λ kind.
+    → first_from (contents (led_by_entry v.there l e r) (told ws)) x (pages l) ≡ first_from (contents (led_by_entry v.there l e r) (expected_walk v)) x (pages l)
+told_here v l e r x ws a b is = same_from (contents (led_by_entry v.there l e r) (told ws)) (contents (led_by_entry v.there l e r) (expected_walk v)) x (pages l) (λ p ge lt.
+    contents_same (led_by_entry v.there l e r) (led_by_entry v.there l e r) (told ws) (expected_walk v) p (λ kind. refl) (λ kind.
     sym (ap (λ s. translation (slice_index_or v.windows s []) (addr_of p) kind) (sym (subject_on l x x p a b (omega arith) ge lt)) ∙ ap (λ vs. translation vs (addr_of p) kind) is)))
 
 -- ---- all subjects
@@ -98,15 +98,15 @@ unfolding come
 root_here v subject = let e : 2 ^ 36 * subject / 2 ^ 36 ≡ subject = omega arith in ap (λ n. Some (slice_index v.roots n, 7)) e
 
 -- the fault of all tables is the first of their positions
-fault_is : (v : Tables) → table_fault v ≡ first_from (fault_at v) 0 (2 ^ 36 * length v.roots)
+fault_is : (v : Tables) → table_fault v ≡ first_from (table_fault_at v) 0 (2 ^ 36 * length v.roots)
 unfolding table_fault
-fault_is v = in_below (fault_at v) (2 ^ 36 * length v.roots)
+fault_is v = in_below (table_fault_at v) (2 ^ 36 * length v.roots)
 
 -- a fault of a subject behind subjects without one is the first
-pub subject_found : (v : Tables) (subject : ℕ) (x : TableFault) → subject < length v.roots → first_from (fault_at v) 0 (2 ^ 36 * subject) ≡ None
-    → first_from (fault_at v) (2 ^ 36 * subject) (2 ^ 36) ≡ Some x → Some x ≡ table_fault v
+pub subject_found : (v : Tables) (subject : ℕ) (x : TableFault) → subject < length v.roots → first_from (table_fault_at v) 0 (2 ^ 36 * subject) ≡ None
+    → first_from (table_fault_at v) (2 ^ 36 * subject) (2 ^ 36) ≡ Some x → Some x ≡ table_fault v
 subject_found v subject x l none some =
-    sym (fault_is v ∙ later_found (fault_at v) 0 (2 ^ 36 * subject) (2 ^ 36) (2 ^ 36 * length v.roots) (2 ^ 36 * subject) x (omega (arith, l)) (omega arith) none some)
+    sym (fault_is v ∙ later_found (table_fault_at v) 0 (2 ^ 36 * subject) (2 ^ 36) (2 ^ 36 * length v.roots) (2 ^ 36 * subject) x (omega (arith, l)) (omega arith) none some)
 
 -- no fault in a subject more
 pub subject_none : (f : ℕ → Option TableFault) (subject : ℕ) → first_from f 0 (2 ^ 36 * subject) ≡ None → first_from f (2 ^ 36 * subject) (2 ^ 36) ≡ None
@@ -129,8 +129,8 @@ subject_known v seen subject q l e h =
     (λ p m t r b. inl (elim b [ inl x ↦ omega (arith, x, next) | inr x ↦ let same = x.0 in omega (arith, same, next) ]))
 
 -- where no subject has a fault there is none
-pub all_none : (v : Tables) (subject : ℕ) → subject ≡ length v.roots → first_from (fault_at v) 0 (2 ^ 36 * subject) ≡ None → None ≡ table_fault v
-all_none v subject e none = sym (fault_is v ∙ ap (λ n. first_from (fault_at v) 0 (2 ^ 36 * n)) (sym e) ∙ none)
+pub all_none : (v : Tables) (subject : ℕ) → subject ≡ length v.roots → first_from (table_fault_at v) 0 (2 ^ 36 * subject) ≡ None → None ≡ table_fault v
+all_none v subject e none = sym (fault_is v ∙ ap (λ n. first_from (table_fault_at v) 0 (2 ^ 36 * n)) (sym e) ∙ none)
 
 -- of no subject there is none
 pub start_here : (f : ℕ → Option TableFault) → first_from f 0 0 ≡ None

@@ -2,7 +2,7 @@
 use Rattle.std.specs.Prelude.{ℕ, suc, ◌*◌, ◌/◌, ◌^◌, ◌==◌, ◌&&◌, not, Bool, true, false, List, [], ◌∷◌, length, Option, Some, None}
 use Rattle.std.specs.List.{list_any}
 use Rattle.ept_check.specs.Search.{when}
-use Rattle.ept_check.specs.Tables.{Tables, addr_of, addresses, look, subject_of, table_read, walk}
+use Rattle.ept_check.specs.Tables.{Tables, addr_of, addresses, expected_walk, subject_of, table_read, walk}
 use Rattle.ept_check.specs.declared.types.TableFault.{TableFault}
 use Rattle.ept_check.specs.declared.types.FaultKind.{FaultKind}
 use Rattle.ept_check.specs.declared.types.FaultKind.TheVariants.{Lacks, Leak, Outside, Twice}
@@ -70,18 +70,18 @@ is_lack walked told = list_any (λ kind. not (is_at (walked kind)) && not (same 
 
 -- ---- in order
 
-abbrev pub fault : FaultKind → ℕ → TableFault
-fault kind q = record { kind = kind; subject = subject_of q; addr = addr_of q }
+abbrev pub table_fault_of_kind : FaultKind → ℕ → TableFault
+table_fault_of_kind kind q = record { kind = kind; subject = subject_of q; addr = addr_of q }
 
 -- of where accesses are led, against where the windows lead them
 abbrev pub contents : (ℕ → AccessKind → Walk) → (ℕ → AccessKind → Walk) → ℕ → Option TableFault
 contents walked told q =
-    first_of (when (is_leak (walked q) (told q)) (fault Leak q) ∷ when (is_lack (walked q) (told q)) (fault Lacks q) ∷ [])
+    first_of (when (is_leak (walked q) (told q)) (table_fault_of_kind Leak q) ∷ when (is_lack (walked q) (told q)) (table_fault_of_kind Lacks q) ∷ [])
 
-unfoldable pub fault_at : Tables → ℕ → Option TableFault
-fault_at v q =
-    first_of (when (is_outside v q) (fault Outside q) ∷ when (is_twice v q) (fault Twice q) ∷ contents (walk v) (look v) q ∷ [])
+unfoldable pub table_fault_at : Tables → ℕ → Option TableFault
+table_fault_at v q =
+    first_of (when (is_outside v q) (table_fault_of_kind Outside q) ∷ when (is_twice v q) (table_fault_of_kind Twice q) ∷ contents (walk v) (expected_walk v) q ∷ [])
 
 -- subject by subject, and for each its guest pages ascending, each by its tests in order
 unfoldable pub table_fault : Tables → Option TableFault
-table_fault v = first_in (fault_at v) (numbers_below (2 ^ 36 * length v.roots))
+table_fault v = first_in (table_fault_at v) (numbers_below (2 ^ 36 * length v.roots))

@@ -37,7 +37,7 @@ pub record IsReadBefore (v : Tables) (t x q l : ℕ) : Type 0 where
   pub before : IsBefore p m x q l
 
 -- one path: the level, and the subject and the address above the table
-pub record IsOnePath (p m q l : ℕ) : Type 0 where
+pub record IsSameWalkPath (p m q l : ℕ) : Type 0 where
   pub level : m ≡ l
   pub above : p / pages (suc m) ≡ q / pages (suc m)
 
@@ -45,5 +45,5 @@ pub record IsOnePath (p m q l : ℕ) : Type 0 where
 pub record Known (v : Tables) (seen : ℕ → Bool) (x q l : ℕ) : Type 0 where
   pub only : (t : ℕ) → seen t ≡ true → IsReadBefore v t x q l
   pub all : (p m t : ℕ) → Reads v p m t → IsBefore p m x q l → seen t ≡ true
-  pub apart : (p m o n t : ℕ) → Reads v p m t → Reads v o n t → IsBefore p m x q l → IsBefore o n x q l → IsOnePath p m o n
+  pub apart : (p m o n t : ℕ) → Reads v p m t → Reads v o n t → IsBefore p m x q l → IsBefore o n x q l → IsSameWalkPath p m o n
   pub tables : (t : ℕ) → seen t ≡ true → v.is_table t ≡ true

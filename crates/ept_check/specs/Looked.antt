@@ -7,12 +7,12 @@ use Rattle.ept_check.specs.declared.looked.Entering.TheVariants.{Again, Now, Out
 use Rattle.ept_check.specs.declared.looked.Looked.{Looked}
 
 -- the mark that stands beside a number
-abbrev pub marked : List ℕ → List Bool → ℕ → Bool
-marked (n ∷ ns) (b ∷ bs) t = ((n == t) && b) || marked ns bs t
-marked ns bs t = false
+abbrev pub is_number_marked : List ℕ → List Bool → ℕ → Bool
+is_number_marked (n ∷ ns) (b ∷ bs) t = ((n == t) && b) || is_number_marked ns bs t
+is_number_marked ns bs t = false
 
 abbrev pub is_entered : List ℕ → Looked → ℕ → Bool
-is_entered pages looked t = marked pages looked.entered.items t
+is_entered pages looked t = is_number_marked pages looked.entered.items t
 
 -- how many tables are left
 abbrev pub left : Looked → ℕ

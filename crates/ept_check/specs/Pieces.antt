@@ -11,15 +11,15 @@ use Rattle.muen_num.specs.Access.{kind_bit}
 use Rattle.muen_num.specs.declared.access.AccessKind.{AccessKind}
 
 -- where an entry that references no table leads the positions for which it stands
-abbrev pub led : (ℕ → Bool) → ℕ → ℕ → ℕ → ℕ → AccessKind → Walk
-led there level e rights q kind = ended there level e (addr_of q) (kind_bit kind) rights
+abbrev pub led_by_entry : (ℕ → Bool) → ℕ → ℕ → ℕ → ℕ → AccessKind → Walk
+led_by_entry there level e rights q kind = ended there level e (addr_of q) (kind_bit kind) rights
 
 -- from this table on, the walk for an address reads outside the tables
 unfoldable pub leaves : (ℕ → ℕ → Option ℕ) → (ℕ → Bool) → ℕ → ℕ → ℕ → Bool
 leaves entry is_table addr level t = list_any (λ at. not (is_table (at / 4096))) (addresses_from entry addr level t)
 
 -- the window neither begins nor ends between two addresses
-pub record IsApart (low high : ℕ) (w : Window) : Type 0 where
+pub record HasNoEdgeBetween (low high : ℕ) (w : Window) : Type 0 where
   pub begins : (w.guest ≤ low) ⊎ (high ≤ w.guest)
   pub ends : (w.guest + w.size ≤ low) ⊎ (high ≤ w.guest + w.size)
 

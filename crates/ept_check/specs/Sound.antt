@@ -1,7 +1,7 @@
 -- When tables are sound: by what is looked up for every address.
 use Rattle.std.specs.Prelude.{◌≡◌, ℕ, ◌+◌, ◌*◌, ◌/◌, ◌%◌, ◌^◌, ◌<◌, ◌≤◌, Bool, true, List, length, slice_index}
 use Rattle.std.specs.List.{All, AllPairs}
-use Rattle.ept_check.specs.Known.{IsOnePath, Reads}
+use Rattle.ept_check.specs.Known.{IsSameWalkPath, Reads}
 use Rattle.ept_check.specs.Tables.{Tables, look_at, walk_at}
 use Rattle.muen_num.specs.Numbers.{is_among}
 use Rattle.ept_check.specs.declared.types.SubjectTables.{SubjectTables}
@@ -20,7 +20,7 @@ pub record AreSound (v : Tables) : Type 0 where
 -- no table is read on two paths
 abbrev pub HasOnePathPerTable : Tables → Type 0
 HasOnePathPerTable v =
-    (p m q l t : ℕ) → p < 2 ^ 36 * length v.roots → q < 2 ^ 36 * length v.roots → Reads v p m t → Reads v q l t → IsOnePath p m q l
+    (p m q l t : ℕ) → p < 2 ^ 36 * length v.roots → q < 2 ^ 36 * length v.roots → Reads v p m t → Reads v q l t → IsSameWalkPath p m q l
 
 -- ---- what is given
 
@@ -41,7 +41,7 @@ abbrev pub AreApart : List Window → Type 0
 AreApart ws = AllPairs (λ a b. a.guest + a.size ≤ b.guest) ws
 
 -- the windows of a subject
-pub record AreWindows (there : ℕ → Bool) (ws : List Window) : Type 0 where
+pub record AreSubjectWindows (there : ℕ → Bool) (ws : List Window) : Type 0 where
   pub whole : All IsWhole ws
   pub pages : All (HasPages there) ws
   pub apart : AreApart ws
@@ -56,5 +56,5 @@ pub record AreTables (m : List Page) (pages : List ℕ) : Type 0 where
 -- so it is with the windows of each subject
 pub record CanBeChecked (m : List Page) (pages : List ℕ) (subjects : List SubjectTables) : Type 0 where
   pub tables : AreTables m pages
-  pub windows : All (λ s. AreWindows (is_there m) s.windows) subjects
+  pub windows : All (λ s. AreSubjectWindows (is_there m) s.windows) subjects
   pub few : length subjects ≤ 2 ^ 20

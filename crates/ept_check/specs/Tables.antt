@@ -59,8 +59,8 @@ look_at v subject addr kind = translation (slice_index_or v.windows subject []) 
 abbrev pub walk : Tables → ℕ → AccessKind → Walk
 walk v q kind = walk_at v (subject_of q) (addr_of q) kind
 
-abbrev pub look : Tables → ℕ → AccessKind → Walk
-look v q kind = look_at v (subject_of q) (addr_of q) kind
+abbrev pub expected_walk : Tables → ℕ → AccessKind → Walk
+expected_walk v q kind = look_at v (subject_of q) (addr_of q) kind
 
 -- ---- what a walk reads
 

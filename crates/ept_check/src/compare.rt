@@ -1,10 +1,10 @@
 //! Where an entry that references no table leads accesses, against the windows.
 ghost use Rattle.std.specs.Prelude.{◌≡◌, ◌%◌, ◌^◌, ◌<◌, ◌&&◌, not, IfSome};
 ghost use Rattle.ept_check.specs.Entries.{pages};
-ghost use Rattle.ept_check.specs.Faults.{contents, fault, is_at, same};
-ghost use Rattle.ept_check.specs.Pieces.{Holds, led};
+ghost use Rattle.ept_check.specs.Faults.{contents, table_fault_of_kind, is_at, same};
+ghost use Rattle.ept_check.specs.Pieces.{Holds, led_by_entry};
 ghost use Rattle.ept_check.specs.Search.{first_from};
-ghost use Rattle.ept_check.specs.Sound.{AreWindows};
+ghost use Rattle.ept_check.specs.Sound.{AreSubjectWindows};
 ghost use Rattle.ept_check.specs.Tables.{addr_of};
 ghost use Rattle.ept_emit.specs.Emitted.{translation, translation_in};
 ghost use Rattle.machine_layout.specs.Memory.{is_there};
@@ -31,7 +31,7 @@ pub(crate) fn addr_of(position: u64) -> u64
 
 /// The fault of this kind at a position.
 pub(crate) fn fault(kind: FaultKind, position: u64) -> TableFault
-    ensures { result ≡ fault kind position }
+    ensures { result ≡ table_fault_of_kind kind position }
 {
     TableFault {
         kind,
@@ -83,7 +83,7 @@ fn compare_at<E: Entries>(
 ) -> Option<TableFault>
     requires level { level < 4 }
     requires window { IfSome window (Holds (addr_of at)) }
-    ensures { result ≡ contents (led (is_there (E.pages entries.now)) level entry rights) (λ q kind. translation_in window (addr_of q) kind) at }
+    ensures { result ≡ contents (led_by_entry (is_there (E.pages entries.now)) level entry rights) (λ q kind. translation_in window (addr_of q) kind) at }
 {
     let addr = addr_of(at);
     let walked_read = ended(
@@ -138,11 +138,11 @@ pub(crate) fn compare<E: Entries>(
     rights: u64,
     first: u64,
 ) -> Option<TableFault>
-    requires windows { AreWindows (is_there (E.pages entries.now)) windows.now }
+    requires windows { AreSubjectWindows (is_there (E.pages entries.now)) windows.now }
     requires level { level < 4 }
     requires first { first % pages level ≡ 0 }
     requires small { first < 2 ^ 60 }
-    ensures { result ≡ first_from (contents (led (is_there (E.pages entries.now)) level entry rights) (λ q kind. translation windows.now (addr_of q) kind)) first (pages level) }
+    ensures { result ≡ first_from (contents (led_by_entry (is_there (E.pages entries.now)) level entry rights) (λ q kind. translation windows.now (addr_of q) kind)) first (pages level) }
 {
     let end = first + pages(level);
     let mut at = first;

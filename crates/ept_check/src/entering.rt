@@ -1,7 +1,7 @@
 //! The first fault of tables.
 ghost use Rattle.std.specs.Prelude.{◌≡◌, ℕ, suc, ◌+◌, ◌-◌, ◌*◌, ◌%◌, ◌^◌, ◌<◌, ◌≤◌, Some, None, true, false, length, vec_len, IfOk, IfSome};
 ghost use Rattle.ept_check.specs.Entries.{pages};
-ghost use Rattle.ept_check.specs.Faults.{fault_at, table_fault};
+ghost use Rattle.ept_check.specs.Faults.{table_fault_at, table_fault};
 ghost use Rattle.ept_check.specs.Known.{Known, come};
 ghost use Rattle.ept_check.specs.Looked.{is_entered, left};
 ghost use Rattle.ept_check.specs.Pieces.{leaves};
@@ -70,7 +70,7 @@ fn enter<E: Entries>(
     requires last { table.first + pages (suc table.level) ≤ 2 ^ 36 * length subjects.now }
     requires at { come (tables_in (E.pages entries.old) tables.now subjects.now) table.first (3 - table.level) table.level ≡ Some (table.page, table.rights) }
     requires known { Known (tables_in (E.pages entries.old) tables.now subjects.now) (is_entered tables.now looked.old) table.first table.first (suc table.level) }
-    ensures found { result ≡ first_from (fault_at (tables_in (E.pages entries.old) tables.now subjects.now)) table.first (pages (suc table.level)) }
+    ensures found { result ≡ first_from (table_fault_at (tables_in (E.pages entries.old) tables.now subjects.now)) table.first (pages (suc table.level)) }
     ensures known { result ≡ None → Known (tables_in (E.pages entries.old) tables.now subjects.now) (is_entered tables.now looked.new) (table.first + pages (suc table.level)) table.first table.level }
     ensures long { vec_len looked.new.entered ≡ length tables.now }
     ensures pages { E.pages entries.new ≡ E.pages entries.old }
@@ -116,7 +116,7 @@ fn follow<E: Entries>(
     requires there { is_there (E.pages entries.old) table.page ≡ true }
     requires at { come (tables_in (E.pages entries.old) tables.now subjects.now) table.first (3 - table.level) table.level ≡ Some (table.page, table.rights) }
     requires known { Known (tables_in (E.pages entries.old) tables.now subjects.now) (is_entered tables.now looked.old) (table.first + i * pages table.level) table.first table.level }
-    ensures found { result ≡ first_from (fault_at (tables_in (E.pages entries.old) tables.now subjects.now)) (table.first + i * pages table.level) (pages table.level) }
+    ensures found { result ≡ first_from (table_fault_at (tables_in (E.pages entries.old) tables.now subjects.now)) (table.first + i * pages table.level) (pages table.level) }
     ensures known { result ≡ None → Known (tables_in (E.pages entries.old) tables.now subjects.now) (is_entered tables.now looked.new) (table.first + i * pages table.level + pages table.level) table.first table.level }
     ensures long { vec_len looked.new.entered ≡ length tables.now }
     ensures pages { E.pages entries.new ≡ E.pages entries.old }

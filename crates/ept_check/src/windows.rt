@@ -1,6 +1,6 @@
 //! Windows: which has a guest address, up to where that stays so, and where it leads.
 ghost use Rattle.std.specs.Prelude.{◌≡◌, ◌+◌, ◌%◌, ◌^◌, ◌<◌, ◌≤◌, nat_le, All, IfSome};
-ghost use Rattle.ept_check.specs.Pieces.{Holds, IsApart};
+ghost use Rattle.ept_check.specs.Pieces.{Holds, HasNoEdgeBetween};
 ghost use Rattle.ept_check.specs.Sound.{AreApart, IsWhole};
 ghost use Rattle.ept_emit.specs.Emitted.{translation_in, window_at};
 ghost use Rattle.ept_emit.specs.Searches.{IsPast};
@@ -37,7 +37,7 @@ pub(crate) fn piece_from(windows: &[Window], addr: u64, limit: u64) -> Piece
     requires pages { limit % 4096 ≡ 0 }
     ensures window { result.window ≡ window_at windows.now addr }
     ensures holds { IfSome result.window (Holds addr) }
-    ensures apart { All (IsApart addr result.end) windows.now }
+    ensures apart { All (HasNoEdgeBetween addr result.end) windows.now }
     ensures some { addr < result.end }
     ensures near { result.end ≤ limit }
     ensures pages { result.end % 4096 ≡ 0 }

@@ -4,9 +4,9 @@ use Rattle.std.specs.List.{find, list_any}
 use Rattle.std.proofs.lemmas.Bool.{cases_Bool}
 use Rattle.ept_emit.specs.declared.window.GuestRange.{GuestRange}
 use Rattle.ept_emit.specs.declared.window.Window.{Window}
-use Rattle.ept_emit.specs.Pages.{count, one, is_taken, range_of, ranges_of, touches, ept_pages}
+use Rattle.ept_emit.specs.Pages.{count, one, is_taken, guest_range_of, ranges_of, touches, ept_pages}
 use Rattle.machine_layout.specs.Walks.{entry_size}
-use Rattle.ept_emit.specs.Entries.{window_on}
+use Rattle.ept_emit.specs.Entries.{window_touching}
 use Rattle.ept_emit.specs.Needs.{needs}
 
 pub count_add : (p : ℕ → Bool) (lo a b : ℕ) → count p lo (a + b) ≡ count p lo a + count p (lo + a) b
@@ -29,16 +29,16 @@ needs_one : (ws : List Window) (l e : ℕ) → needs ws (suc l) e 1 ≡ one (is_
 unfolding needs count
 needs_one ws l e = let z : e + 0 ≡ e = omega arith in rw z (omega arith)
 
-any_found : (p : GuestRange → Bool) (ws : List Window) (w : Window) → find (λ w. p (range_of w)) ws ≡ Some w → list_any p (ranges_of ws) ≡ true
+any_found : (p : GuestRange → Bool) (ws : List Window) (w : Window) → find (λ w. p (guest_range_of w)) ws ≡ Some w → list_any p (ranges_of ws) ≡ true
 any_found p [] w h = absurd cc
 any_found p (x ∷ ws) w h =
-    elim (cases_Bool (p (range_of x))) [
+    elim (cases_Bool (p (guest_range_of x))) [
       | inl t ↦ rw t refl
       | inr f ↦ let e = rw f at h in rw f (any_found p ws w e)
     ]
 
 -- an entry that references a table is one of those counted
-pub needs_at : (ws : List Window) (l e : ℕ) (w : Window) → l ≢ 0 → window_on ws (entry_size l * e) (entry_size l) ≡ Some w → needs ws l e 1 ≡ 1 + needs ws (l - 1) (512 * e) 512
+pub needs_at : (ws : List Window) (l e : ℕ) (w : Window) → l ≢ 0 → window_touching ws (entry_size l * e) (entry_size l) ≡ Some w → needs ws l e 1 ≡ 1 + needs ws (l - 1) (512 * e) 512
 needs_at ws zero e w ne some = absurd (ne refl)
 needs_at ws (suc l) e w ne some =
     let f : suc l - 1 ≡ l = omega arith in

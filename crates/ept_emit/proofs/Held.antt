@@ -15,7 +15,7 @@ use Rattle.policy_types.specs.Rights.{allows, rights_bits}
 use Rattle.policy_types.specs.declared.rights.Rights.{Rights}
 use Rattle.policy_types.specs.declared.rights.Rights.TheVariants.{R, Rw, Rx, Rwx}
 use Rattle.ept_emit.specs.Entries.{IsEmittable, type_of, word_at}
-use Rattle.ept_emit.specs.Emitted.{HasAddresses, HasTables, IsGreatestSize, IsReadBy, eptp_of, translation, translation_in, window_at}
+use Rattle.ept_emit.specs.Emitted.{HasWindowPages, HasTables, IsGreatestSize, IsReadBy, eptp_of, translation, translation_in, window_at}
 use Rattle.machine_layout.specs.Reads.{Reads}
 use Rattle.ept_emit.specs.Tables.{AreNumbered, Below}
 use Rattle.ept_emit.proofs.Addresses.{IsRead, met, read}
@@ -78,7 +78,7 @@ module _ (m : List Page) (at n total : ℕ) (out : List ℕ) (ws : List Window) 
   bounded : at / 4096 + n ≤ 2 ^ 28
   bounded = omega arith
 
-  pub walk_held : (addr : ℕ) (kind : AccessKind) → addr < 2 ^ 48 → HasAddresses m ws → walk_of m (eptp_of at) addr kind ≡ translation ws addr kind
+  pub walk_held : (addr : ℕ) (kind : AccessKind) → addr < 2 ^ 48 → HasWindowPages m ws → walk_of m (eptp_of at) addr kind ≡ translation ws addr kind
   walk_held addr kind lt addresses =
       ap (λ t. walk_from (entry_of m) (is_there m) addr (kind_bit kind) 3 t 7) (root_is at page)
       ∙ (walk_written (entry_of m) (is_there m) (word_at out) (at / 4096) 1 n ws addr (kind_bit kind) bounded entries ok addresses 3 0 some (numbered.written addr lt)

@@ -5,8 +5,8 @@ use Rattle.std.proofs.Math.Nat.{div-div-eq-div-mul, mul-div_cancel, mul-le-mul_l
 use Rattle.ept_emit.specs.declared.window.Window.{Window}
 use Rattle.machine_layout.specs.Walks.{entry_size}
 use Rattle.policy_types.specs.declared.rights.Rights.{Rights}
-use Rattle.ept_emit.specs.Entries.{is_whole, leaf_entry, table_entry, window_on}
-use Rattle.ept_emit.specs.Tables.{IsWritten, Below, IsReference, IsReached, AreNumbered, child}
+use Rattle.ept_emit.specs.Entries.{is_whole, leaf_entry, table_entry, window_touching}
+use Rattle.ept_emit.specs.Tables.{IsWritten, Below, IsReference, IsTableReached, AreNumbered, child}
 use Rattle.ept_emit.proofs.EntryBits.{rights_small}
 use Rattle.ept_emit.proofs.Found.{span_some, around}
 use Rattle.ept_emit.proofs.Written.{Under, Meets, word_of, window_of, written_from, below_parts, below_from, below_lowest, below_lower, stands_none, stands_leaf, stands_table, leads_none, leads_leaf, leads_to, leads_from, keeps, below_keeps, below_within}
@@ -45,11 +45,11 @@ none_below pointers out base used ws l k P written none =
       ascending = λ g l2 k2 j i a b c d. absurd (none g l2 k2 a b);
     }
 
-pub numbered_free : (pointers : Rights) (out : ℕ → ℕ) (base used : ℕ) (ws : List Window) (l k e : ℕ) → out (512 * k + e % 512) ≡ 0 → window_on ws (entry_size l * e) (entry_size l) ≡ None → AreNumbered pointers out base used used ws l k (InEntry l e)
+pub numbered_free : (pointers : Rights) (out : ℕ → ℕ) (base used : ℕ) (ws : List Window) (l k e : ℕ) → out (512 * k + e % 512) ≡ 0 → window_touching ws (entry_size l * e) (entry_size l) ≡ None → AreNumbered pointers out base used used ws l k (InEntry l e)
 numbered_free pointers out base used ws l k e at none =
     none_below pointers out base used ws l k (InEntry l e) (λ g within. written_from pointers out base used used ws l k g (stands_none pointers (Under pointers out base used used ws l g) base used used l (g / entry_size l) (word_of out l k g) (window_of ws l g) (rw within none) (rw within at))) (λ g l2 k2 within b. below_none out base ws l k g l2 k2 (rw within none) b)
 
-pub numbered_leaf : (pointers : Rights) (out : ℕ → ℕ) (base used : ℕ) (ws : List Window) (l k e : ℕ) (w : Window) → out (512 * k + e % 512) ≡ leaf_entry w l e → window_on ws (entry_size l * e) (entry_size l) ≡ Some w → is_whole w l e ≡ true → AreNumbered pointers out base used used ws l k (InEntry l e)
+pub numbered_leaf : (pointers : Rights) (out : ℕ → ℕ) (base used : ℕ) (ws : List Window) (l k e : ℕ) (w : Window) → out (512 * k + e % 512) ≡ leaf_entry w l e → window_touching ws (entry_size l * e) (entry_size l) ≡ Some w → is_whole w l e ≡ true → AreNumbered pointers out base used used ws l k (InEntry l e)
 numbered_leaf pointers out base used ws l k e w at some whole =
     none_below pointers out base used ws l k (InEntry l e) (λ g within. written_from pointers out base used used ws l k g (stands_leaf pointers (Under pointers out base used used ws l g) base used used l (g / entry_size l) (word_of out l k g) (window_of ws l g) w (rw within some) (rw within whole) (rw within at))) (λ g l2 k2 within b. below_leaf out base ws l k g l2 k2 w (rw within some) (rw within whole) b)
 
@@ -81,7 +81,7 @@ table_entry_of l e g h =
 first_address : (l e : ℕ) → entry_size l * e / entry_size l ≡ e
 first_address l e = let m : entry_size l * e ≡ e * entry_size l = omega arith in let some : 0 < entry_size l = omega (arith, span_some l) in ap (λ n. n / entry_size l) m ∙ mul-div_cancel e {n = entry_size l} some
 
-module _ (pointers : Rights) (out : ℕ → ℕ) (base used top : ℕ) (ws : List Window) (l k e : ℕ) (w : Window) (at : out (512 * k + e % 512) ≡ table_entry pointers (base + used)) (some : window_on ws (entry_size (suc l) * e) (entry_size (suc l)) ≡ Some w) (part : is_whole w (suc l) e ≡ false) (more : used < top) (below : AreNumbered pointers out base (used + 1) top ws l used (InTable l e)) where
+module _ (pointers : Rights) (out : ℕ → ℕ) (base used top : ℕ) (ws : List Window) (l k e : ℕ) (w : Window) (at : out (512 * k + e % 512) ≡ table_entry pointers (base + used)) (some : window_touching ws (entry_size (suc l) * e) (entry_size (suc l)) ≡ Some w) (part : is_whole w (suc l) e ≡ false) (more : used < top) (below : AreNumbered pointers out base (used + 1) top ws l used (InTable l e)) where
   abbrev Deep : ℕ → ℕ → ℕ → ℕ → Type 0
   Deep g l2 k2 c = Meets out base ws l c g l2 k2
 
@@ -122,7 +122,7 @@ module _ (pointers : Rights) (out : ℕ → ℕ) (base used top : ℕ) (ws : Lis
         ]
       ]
 
-  table_reached : (k2 : ℕ) → used ≤ k2 → k2 < top → IsReached out base ws (suc l) k (InEntry (suc l) e) k2
+  table_reached : (k2 : ℕ) → used ≤ k2 → k2 < top → IsTableReached out base ws (suc l) k (InEntry (suc l) e) k2
   table_reached k2 a b =
       elim (cases_eq k2 used) [
         | inl same ↦
@@ -135,7 +135,7 @@ module _ (pointers : Rights) (out : ℕ → ℕ) (base used top : ℕ) (ws : Lis
             record { addr = r.addr; depth = r.depth; within = within; below = up r.addr r.depth k2 within (inr r.below) }
       ]
 
-  table_order : (h l2 j k2 : ℕ) → InEntry (suc l) e h → Below out base ws (suc l) k h l2 k2 → used ≤ j → j ≤ k2 → IsReached out base ws (suc l) k (λ g. InEntry (suc l) e g × (g ≤ h)) j
+  table_order : (h l2 j k2 : ℕ) → InEntry (suc l) e h → Below out base ws (suc l) k h l2 k2 → used ≤ j → j ≤ k2 → IsTableReached out base ws (suc l) k (λ g. InEntry (suc l) e g × (g ≤ h)) j
   table_order h l2 j k2 a b c d =
       elim (cases_eq j used) [
         | inl same ↦
@@ -210,7 +210,7 @@ module _ (pointers : Rights) (out new : ℕ → ℕ) (base used top result : ℕ
         ]
       ]
 
-  both_reached : (k2 : ℕ) → used ≤ k2 → k2 < result → IsReached new base ws l k R k2
+  both_reached : (k2 : ℕ) → used ≤ k2 → k2 < result → IsTableReached new base ws l k R k2
   both_reached k2 a b =
       elim (cases_lt k2 top) [
         | inr high ↦
@@ -221,7 +221,7 @@ module _ (pointers : Rights) (out new : ℕ → ℕ) (base used top result : ℕ
             record { addr = r.addr; depth = r.depth; within = left r.addr r.within; below = new_below r.addr r.depth k2 r.within r.below }
       ]
 
-  both_order : (h l2 j k2 : ℕ) → R h → Below new base ws l k h l2 k2 → used ≤ j → j ≤ k2 → IsReached new base ws l k (λ g. R g × (g ≤ h)) j
+  both_order : (h l2 j k2 : ℕ) → R h → Below new base ws l k h l2 k2 → used ≤ j → j ≤ k2 → IsTableReached new base ws l k (λ g. R g × (g ≤ h)) j
   both_order h l2 j k2 a b c d =
       elim (split h a) [
         | inl p ↦
@@ -293,7 +293,7 @@ whole_table pointers out base used top ws l k p i all old =
 pub span_up : (l : ℕ) → l ≢ 0 → entry_size (suc (l - 1)) ≡ entry_size l
 span_up l ne = let e : suc (l - 1) ≡ l = omega arith in ap entry_size e
 
-pub numbered_table_at : (pointers : Rights) (out : ℕ → ℕ) (base used top : ℕ) (ws : List Window) (l k e : ℕ) (w : Window) → l ≢ 0 → out (512 * k + e % 512) ≡ table_entry pointers (base + used) → window_on ws (entry_size l * e) (entry_size l) ≡ Some w → is_whole w l e ≡ false → used < top → AreNumbered pointers out base (used + 1) top ws (l - 1) used (InTable (l - 1) e) → AreNumbered pointers out base used top ws l k (InEntry l e)
+pub numbered_table_at : (pointers : Rights) (out : ℕ → ℕ) (base used top : ℕ) (ws : List Window) (l k e : ℕ) (w : Window) → l ≢ 0 → out (512 * k + e % 512) ≡ table_entry pointers (base + used) → window_touching ws (entry_size l * e) (entry_size l) ≡ Some w → is_whole w l e ≡ false → used < top → AreNumbered pointers out base (used + 1) top ws (l - 1) used (InTable (l - 1) e) → AreNumbered pointers out base used top ws l k (InEntry l e)
 numbered_table_at pointers out base used top ws zero k e w ne at some part more below = absurd (ne refl)
 numbered_table_at pointers out base used top ws (suc l) k e w ne at some part more below =
     let f : suc l - 1 ≡ l = omega arith in

@@ -12,7 +12,7 @@ use Rattle.machine_layout.specs.declared.walk.Walk.TheVariants.{At, Violation, M
 use Rattle.machine_layout.specs.Walks.{bits_of, entry_size, index_at, reads, leaf_end, walk_from, is_present, is_misconfigured, is_leaf, end_entry_size, end_entry, goes_on}
 use Rattle.policy_types.specs.Rights.{rights_bits}
 use Rattle.policy_types.specs.declared.rights.Rights.TheVariants.{Rwx}
-use Rattle.ept_emit.specs.Entries.{IsEmittable, is_whole, leaf_entry, level_of, type_of, window_on}
+use Rattle.ept_emit.specs.Entries.{IsEmittable, is_whole, leaf_entry, level_of, type_of, window_touching}
 use Rattle.ept_emit.specs.Tables.{IsWritten, child}
 use Rattle.ept_emit.specs.Emitted.{window_at, IsInside, IsGreatestSize}
 use Rattle.ept_emit.proofs.EntryBits.{maps_rights, maps_type, maps_address, maps_leaf, maps_present, maps_fine, rights_odd, rights_small, type_small, reads_free, reads_page, reads_table, goes_page, goes_table}
@@ -55,7 +55,7 @@ fits_at w (suc l) e ok a b h =
       ends = p.2;
     }
 
-pub fits : (ws : List Window) (l e : ℕ) (w : Window) → All IsEmittable ws → window_on ws (entry_size l * e) (entry_size l) ≡ Some w → is_whole w l e ≡ true → Fits w l e
+pub fits : (ws : List Window) (l e : ℕ) (w : Window) → All IsEmittable ws → window_touching ws (entry_size l * e) (entry_size l) ≡ Some w → is_whole w l e ≡ true → Fits w l e
 fits ws l e w all some whole =
     let p = first_touched ws (entry_size l * e) (entry_size l) w some in
     fits_at w l e (All_on IsEmittable ws (entry_size l * e) (entry_size l) w all some) p.0 p.1 whole

@@ -4,8 +4,8 @@ use Rattle.std.proofs.lemmas.Bool.{cases_Bool}
 use Rattle.ept_emit.specs.declared.window.Window.{Window}
 use Rattle.machine_layout.specs.Walks.{entry_size}
 use Rattle.policy_types.specs.declared.rights.Rights.{Rights}
-use Rattle.ept_emit.specs.Entries.{is_whole, leaf_entry, window_on}
-use Rattle.ept_emit.specs.Tables.{IsWritten, Below, Stands, Leads, IsReference, child}
+use Rattle.ept_emit.specs.Entries.{is_whole, leaf_entry, window_touching}
+use Rattle.ept_emit.specs.Tables.{IsWritten, Below, EntryFitsWindow, Leads, IsReference, child}
 
 -- ---- one form for all levels
 
@@ -18,14 +18,14 @@ abbrev pub word_of : (ℕ → ℕ) → ℕ → ℕ → ℕ → ℕ
 word_of out l k g = out (512 * k + g / entry_size l % 512)
 
 abbrev pub window_of : List Window → ℕ → ℕ → Option Window
-window_of ws l g = window_on ws (entry_size l * (g / entry_size l)) (entry_size l)
+window_of ws l g = window_touching ws (entry_size l * (g / entry_size l)) (entry_size l)
 
-pub written_parts : (pointers : Rights) (out : ℕ → ℕ) (base lo hi : ℕ) (ws : List Window) (l k g : ℕ) → IsWritten pointers out base lo hi ws l k g → Stands pointers (Under pointers out base lo hi ws l g) base lo hi l (g / entry_size l) (word_of out l k g) (window_of ws l g)
+pub written_parts : (pointers : Rights) (out : ℕ → ℕ) (base lo hi : ℕ) (ws : List Window) (l k g : ℕ) → IsWritten pointers out base lo hi ws l k g → EntryFitsWindow pointers (Under pointers out base lo hi ws l g) base lo hi l (g / entry_size l) (word_of out l k g) (window_of ws l g)
 unfolding IsWritten
 written_parts pointers out base lo hi ws zero k g h = h
 written_parts pointers out base lo hi ws (suc l) k g h = h
 
-pub written_from : (pointers : Rights) (out : ℕ → ℕ) (base lo hi : ℕ) (ws : List Window) (l k g : ℕ) → Stands pointers (Under pointers out base lo hi ws l g) base lo hi l (g / entry_size l) (word_of out l k g) (window_of ws l g) → IsWritten pointers out base lo hi ws l k g
+pub written_from : (pointers : Rights) (out : ℕ → ℕ) (base lo hi : ℕ) (ws : List Window) (l k g : ℕ) → EntryFitsWindow pointers (Under pointers out base lo hi ws l g) base lo hi l (g / entry_size l) (word_of out l k g) (window_of ws l g) → IsWritten pointers out base lo hi ws l k g
 unfolding IsWritten
 written_from pointers out base lo hi ws zero k g h = h
 written_from pointers out base lo hi ws (suc l) k g h = h
@@ -47,22 +47,22 @@ below_lowest out base ws k g l2 k2 h = h
 
 -- ---- by the window
 
-pub stands_none : (pointers : Rights) (deeper : ℕ → Type 0) (base lo hi l e word : ℕ) (o : Option Window) → o ≡ None → word ≡ 0 → Stands pointers deeper base lo hi l e word o
+pub stands_none : (pointers : Rights) (deeper : ℕ → Type 0) (base lo hi l e word : ℕ) (o : Option Window) → o ≡ None → word ≡ 0 → EntryFitsWindow pointers deeper base lo hi l e word o
 stands_none pointers deeper base lo hi l e word o none h = rw none h
 
-pub stands_leaf : (pointers : Rights) (deeper : ℕ → Type 0) (base lo hi l e word : ℕ) (o : Option Window) (w : Window) → o ≡ Some w → is_whole w l e ≡ true → word ≡ leaf_entry w l e → Stands pointers deeper base lo hi l e word o
+pub stands_leaf : (pointers : Rights) (deeper : ℕ → Type 0) (base lo hi l e word : ℕ) (o : Option Window) (w : Window) → o ≡ Some w → is_whole w l e ≡ true → word ≡ leaf_entry w l e → EntryFitsWindow pointers deeper base lo hi l e word o
 stands_leaf pointers deeper base lo hi l e word o w some whole h = rw some (rw whole h)
 
-pub stands_table : (pointers : Rights) (deeper : ℕ → Type 0) (base lo hi l e word : ℕ) (o : Option Window) (w : Window) → o ≡ Some w → is_whole w l e ≡ false → IsReference pointers base lo hi word → deeper (child base word) → Stands pointers deeper base lo hi l e word o
+pub stands_table : (pointers : Rights) (deeper : ℕ → Type 0) (base lo hi l e word : ℕ) (o : Option Window) (w : Window) → o ≡ Some w → is_whole w l e ≡ false → IsReference pointers base lo hi word → deeper (child base word) → EntryFitsWindow pointers deeper base lo hi l e word o
 stands_table pointers deeper base lo hi l e word o w some whole r h = rw some (rw whole (r, h))
 
-pub table_of : (pointers : Rights) (deeper : ℕ → Type 0) (base lo hi l e word : ℕ) (o : Option Window) (w : Window) → o ≡ Some w → is_whole w l e ≡ false → Stands pointers deeper base lo hi l e word o → IsReference pointers base lo hi word × deeper (child base word)
+pub table_of : (pointers : Rights) (deeper : ℕ → Type 0) (base lo hi l e word : ℕ) (o : Option Window) (w : Window) → o ≡ Some w → is_whole w l e ≡ false → EntryFitsWindow pointers deeper base lo hi l e word o → IsReference pointers base lo hi word × deeper (child base word)
 table_of pointers deeper base lo hi l e word o w some whole h = let a = rw some at h in rw whole at a
 
-pub leaf_of : (pointers : Rights) (deeper : ℕ → Type 0) (base lo hi l e word : ℕ) (o : Option Window) (w : Window) → o ≡ Some w → is_whole w l e ≡ true → Stands pointers deeper base lo hi l e word o → word ≡ leaf_entry w l e
+pub leaf_of : (pointers : Rights) (deeper : ℕ → Type 0) (base lo hi l e word : ℕ) (o : Option Window) (w : Window) → o ≡ Some w → is_whole w l e ≡ true → EntryFitsWindow pointers deeper base lo hi l e word o → word ≡ leaf_entry w l e
 leaf_of pointers deeper base lo hi l e word o w some whole h = let a = rw some at h in rw whole at a
 
-pub none_of : (pointers : Rights) (deeper : ℕ → Type 0) (base lo hi l e word : ℕ) (o : Option Window) → o ≡ None → Stands pointers deeper base lo hi l e word o → word ≡ 0
+pub none_of : (pointers : Rights) (deeper : ℕ → Type 0) (base lo hi l e word : ℕ) (o : Option Window) → o ≡ None → EntryFitsWindow pointers deeper base lo hi l e word o → word ≡ 0
 none_of pointers deeper base lo hi l e word o none h = rw none at h
 
 pub leads_none : (deeper : ℕ → Type 0) (c l e : ℕ) (o : Option Window) → o ≡ None → Leads deeper c l e o → ⊥
@@ -104,7 +104,7 @@ reference_wide pointers base lo hi lo2 hi2 word below above r =
       high = omega (arith, r.high);
     }
 
-keeps_entry : (pointers : Rights) (base lo hi lo2 hi2 l e word : ℕ) (old new : ℕ → Type 0) (o : Option Window) → lo2 ≤ lo → hi ≤ hi2 → ((c : ℕ) → lo ≤ c → c < hi → old c → new c) → Stands pointers old base lo hi l e word o → Stands pointers new base lo2 hi2 l e word o
+keeps_entry : (pointers : Rights) (base lo hi lo2 hi2 l e word : ℕ) (old new : ℕ → Type 0) (o : Option Window) → lo2 ≤ lo → hi ≤ hi2 → ((c : ℕ) → lo ≤ c → c < hi → old c → new c) → EntryFitsWindow pointers old base lo hi l e word o → EntryFitsWindow pointers new base lo2 hi2 l e word o
 keeps_entry pointers base lo hi lo2 hi2 l e word old new None below above deeper = λ h. h
 keeps_entry pointers base lo hi lo2 hi2 l e word old new (Some w) below above deeper =
     elim (cases_Bool (is_whole w l e)) [

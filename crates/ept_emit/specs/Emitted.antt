@@ -55,8 +55,8 @@ abbrev pub HasTables : List Page → ℕ → List ℕ → Type 0
 HasTables m at bytes = (k : ℕ) → 4096 * k < length bytes → page_of m (at / 4096 + k) ≡ Some (take 4096 (drop (4096 * k) bytes))
 
 -- each page that a window leads to is there
-abbrev pub HasAddresses : List Page → List Window → Type 0
-HasAddresses m ws = All (λ w. (k : ℕ) → w.address ≤ 4096 * k → 4096 * k < w.address + w.size → is_there m k ≡ true) ws
+abbrev pub HasWindowPages : List Page → List Window → Type 0
+HasWindowPages m ws = All (λ w. (k : ℕ) → w.address ≤ 4096 * k → 4096 * k < w.address + w.size → is_there m k ≡ true) ws
 
 -- some walk for an address up to a last one reads the table in this page
 pub record IsReadBy (m : List Page) (eptp last page : ℕ) : Type 0 where
@@ -70,7 +70,7 @@ pub record IsReadBy (m : List Page) (eptp last page : ℕ) : Type 0 where
 -- a walk leads each access where the windows do
 abbrev pub AreTranslating : List Window → ℕ → List ℕ → Type 0
 AreTranslating ws at tables =
-    (m : List Page) (addr : ℕ) (kind : AccessKind) → HasTables m at tables → HasAddresses m ws → addr < 2 ^ 48
+    (m : List Page) (addr : ℕ) (kind : AccessKind) → HasTables m at tables → HasWindowPages m ws → addr < 2 ^ 48
     → walk_of m (eptp_of at) addr kind ≡ translation ws addr kind
 
 -- a walk reads nothing but the tables

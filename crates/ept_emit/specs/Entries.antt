@@ -5,7 +5,7 @@ use Rattle.std.specs.List.{find}
 use Rattle.ept_emit.specs.declared.window.Leaf.{Leaf}
 use Rattle.ept_emit.specs.declared.window.Leaf.TheVariants.{Small, Large, Huge}
 use Rattle.ept_emit.specs.declared.window.Window.{Window}
-use Rattle.ept_emit.specs.Pages.{range_of, touches}
+use Rattle.ept_emit.specs.Pages.{guest_range_of, touches}
 use Rattle.machine_layout.specs.Memory.{le_number}
 use Rattle.machine_layout.specs.Walks.{entry_size}
 use Rattle.policy_types.specs.Rights.{rights_bits}
@@ -49,8 +49,8 @@ abbrev pub table_entry : Rights → ℕ → ℕ
 table_entry pointers page = 4096 * page + rights_bits pointers
 
 -- the window that holds one of the n addresses from lo on, the first of them
-abbrev pub window_on : List Window → ℕ → ℕ → Option Window
-window_on ws lo n = find (λ w. touches (range_of w) lo n) ws
+abbrev pub window_touching : List Window → ℕ → ℕ → Option Window
+window_touching ws lo n = find (λ w. touches (guest_range_of w) lo n) ws
 
 -- the word of 8 bytes in tables that lie in one run of bytes: entry i of table k is word 512 * k + i
 abbrev pub word_at : List ℕ → ℕ → ℕ

@@ -6,11 +6,11 @@ use Rattle.ept_emit.specs.declared.window.GuestRange.{GuestRange}
 use Rattle.ept_emit.specs.declared.window.Window.{Window}
 
 -- the guest addresses of a window: what it shows, and how, is nothing to how many tables there are
-abbrev pub range_of : Window → GuestRange
-range_of w = record { guest = w.guest; size = w.size }
+abbrev pub guest_range_of : Window → GuestRange
+guest_range_of w = record { guest = w.guest; size = w.size }
 
 abbrev pub ranges_of : List Window → List GuestRange
-ranges_of ws = map range_of ws
+ranges_of ws = map guest_range_of ws
 
 -- some byte of the range is one of the n from lo on
 abbrev pub touches : GuestRange → ℕ → ℕ → Bool

@@ -1,7 +1,7 @@
 //! Which window has an address of an entry.
 ghost use Rattle.std.specs.Prelude.{◌≡◌, ◌+◌, ◌*◌, ◌^◌, ◌<◌, ◌≤◌, All, IfSome};
 ghost use Rattle.ept_emit.specs.Pages.{AreApart, ranges_of};
-ghost use Rattle.ept_emit.specs.Entries.{IsEmittable, window_on};
+ghost use Rattle.ept_emit.specs.Entries.{IsEmittable, window_touching};
 ghost use Rattle.ept_emit.specs.Searches.{IsPast};
 ghost use Rattle.machine_layout.specs.Walks.{entry_size};
 
@@ -34,7 +34,7 @@ pub(crate) fn window_on(windows: &[Window], level: u32, entry: u64) -> Option<Wi
     requires apart { AreApart (ranges_of windows.now) }
     requires level { level < 4 }
     requires small { entry_size level * entry < 2 ^ 48 }
-    ensures value { result ≡ window_on windows.now (entry_size level * entry) (entry_size level) }
+    ensures value { result ≡ window_touching windows.now (entry_size level * entry) (entry_size level) }
     ensures emittable { IfSome result IsEmittable }
     ensures touched { IfSome result (λ w. entry_size level * entry < w.guest + w.size) }
 {

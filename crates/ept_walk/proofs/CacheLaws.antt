@@ -13,8 +13,8 @@ use Rattle.machine_layout.specs.Walks.{entry_address, leaf_end, walk_of, address
 use Rattle.machine_layout.specs.Same.{SameOutside}
 use Rattle.machine_layout.specs.declared.walk.Walk.TheVariants.{At, Violation, Misconfigured}
 use Rattle.machine_layout.proofs.WalkLaws.{same_walks, same_addresses, walks_elsewhere_stay}
-use Rattle.ept_walk.specs.Ends.{judged, moved, IsEntryOf}
-use Rattle.ept_walk.specs.Held.{time_of, is_unchanged, is_fresh, KeptBy, ChangedBy, Stands, AllStand, slot_index, matching, looked_up, IsApart, IsTouched, KeepsUntouched}
+use Rattle.ept_walk.specs.Ends.{judged, offset_walk, IsEntryOf}
+use Rattle.ept_walk.specs.Held.{time_of, is_unchanged, is_fresh, KeptBy, ChangedBy, Stands, AllStand, slot_index, matching, looked_up, IsUntouched, IsTouched, KeepsUntouched}
 use Rattle.ept_walk.specs.declared.cached.Slot.{Slot}
 use Rattle.ept_walk.specs.declared.trace.End.{End}
 use Rattle.ept_walk.specs.declared.trace.End.TheVariants.{Leads}
@@ -77,7 +77,7 @@ module _ (m : List Page) (slots : List (Option Slot)) (changed : List ℕ) (all 
       let frame : (4096 * s.frame + addr % 4096) / 4096 ≡ s.frame = omega arith in
       let there : is_there m ((4096 * s.frame + addr % 4096) / 4096) ≡ true = ap (is_there m) frame ∙ stands.there in
       walk_in_page m eptp addr kind
-      ∙ (ap (moved (addr % 4096)) at
+      ∙ (ap (offset_walk (addr % 4096)) at
       ∙ (sym (leaf_end_moved (is_there m) addr (4096 * s.page) (kind_bit kind) s.rights (4096 * s.frame) (addr % 4096) (omega arith) (omega arith)) ∙ ap (λ t. cond (eqb (bit_and s.rights (kind_bit kind)) (kind_bit kind)) (cond t (At (4096 * s.frame + addr % 4096)) Misconfigured) (Violation s.rights)) there))
 
   pub hit_violation : (kind : AccessKind) (want : ℕ) → want ≡ kind_bit kind → bit_and s.rights want ≢ want → Violation s.rights ≡ walk_of m eptp addr kind
@@ -90,8 +90,8 @@ module _ (m : List Page) (slots : List (Option Slot)) (changed : List ℕ) (all 
 
 -- ---- what is answered anew
 
-pub miss : (m : List Page) (eptp addr : ℕ) (kind : AccessKind) (e : End) → walk_of m eptp (4096 * (addr / 4096)) kind ≡ judged (is_there m) (4096 * (addr / 4096)) (kind_bit kind) e → walk_of m eptp addr kind ≡ moved (addr % 4096) (judged (is_there m) (4096 * (addr / 4096)) (kind_bit kind) e)
-miss m eptp addr kind e h = walk_in_page m eptp addr kind ∙ ap (moved (addr % 4096)) h
+pub miss : (m : List Page) (eptp addr : ℕ) (kind : AccessKind) (e : End) → walk_of m eptp (4096 * (addr / 4096)) kind ≡ judged (is_there m) (4096 * (addr / 4096)) (kind_bit kind) e → walk_of m eptp addr kind ≡ offset_walk (addr % 4096) (judged (is_there m) (4096 * (addr / 4096)) (kind_bit kind) e)
+miss m eptp addr kind e h = walk_in_page m eptp addr kind ∙ ap (offset_walk (addr % 4096)) h
 
 pub miss_leads : (m : List Page) (eptp addr : ℕ) (kind : AccessKind) (t : Target) → t.address % 4096 ≡ 0 → walk_of m eptp (4096 * (addr / 4096)) kind ≡ judged (is_there m) (4096 * (addr / 4096)) (kind_bit kind) (Leads t) → walk_of m eptp addr kind ≡ leaf_end (is_there m) addr (kind_bit kind) t.rights (t.address + addr % 4096)
 miss_leads m eptp addr kind t even h =
@@ -218,7 +218,7 @@ module _ (changed : List ℕ) (first last time : ℕ) (long : length changed ≡
       ]
 
 -- an entry that is touched is in the first or in the last page of the bytes
-apart_by_pages : (at n last table index q : ℕ) → q ≡ entry_address table index → index < 512 → n ≤ 4096 → last ≡ at / 4096 + (at % 4096 + (n - 1)) / 4096 → table ≢ at / 4096 → table ≢ last → IsApart at n q
+apart_by_pages : (at n last table index q : ℕ) → q ≡ entry_address table index → index < 512 → n ≤ 4096 → last ≡ at / 4096 + (at % 4096 + (n - 1)) / 4096 → table ≢ at / 4096 → table ≢ last → IsUntouched at n q
 apart_by_pages at n last table index q is few most l not_first not_last =
     elim (cases_lt at (q + 8)) [
       | inr below ↦ inl (omega arith)
@@ -240,7 +240,7 @@ module _ (at n last clock : ℕ) (changed : List ℕ) (s : Slot) (long : length 
   was_fresh : is_fresh changed s ≡ true
   was_fresh = all_unchanged changed s (λ level h. (was level h).unchanged)
 
-  is_apart : (q : ℕ) → IsEntryOf s.tables q → IsApart at n q
+  is_apart : (q : ℕ) → IsEntryOf s.tables q → IsUntouched at n q
   is_apart q e =
       let w = was e.level e.within in apart_by_pages at n last (get_or s.tables e.level 0) e.index q e.is e.few most l w.not_first w.not_last
 
@@ -256,7 +256,7 @@ same_leaf_end : (old new : List Page) (at n : ℕ) → SameOutside at n old new 
 same_leaf_end old new at n same addr want rights address =
     ap (λ t. cond (eqb (bit_and rights want) want) (cond t (At address) Misconfigured) (Violation rights)) (same.there (address / 4096))
 
-untouched_stands : (at n : ℕ) (old new : List Page) (s : Slot) → SameOutside at n old new → ((q : ℕ) → IsEntryOf s.tables q → IsApart at n q) → Stands old s → Stands new s
+untouched_stands : (at n : ℕ) (old new : List Page) (s : Slot) → SameOutside at n old new → ((q : ℕ) → IsEntryOf s.tables q → IsUntouched at n q) → Stands old s → Stands new s
 untouched_stands at n old new s same apart h =
     let entries = walks_elsewhere_stay at n old new s.eptp (4096 * s.page) same (λ k d l. apart _ (h.tables k d l)) in
     record {
@@ -276,7 +276,7 @@ not_held : (o : Option Slot) → ((s : Slot) → o ≡ Some s → ⊥) → is_so
 not_held None h = refl
 not_held (Some s) h = absurd (h s refl)
 
-not_both : (at n q : ℕ) → IsTouched at n q → IsApart at n q → ⊥
+not_both : (at n q : ℕ) → IsTouched at n q → IsUntouched at n q → ⊥
 not_both at n q touched (inl h) = omega arith
 not_both at n q touched (inr h) = omega arith
 

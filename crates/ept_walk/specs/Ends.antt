@@ -13,10 +13,10 @@ judged there addr want Invalid = Misconfigured
 judged there addr want (Leads t) = leaf_end there addr want t.rights t.address
 
 -- the walk for an address that is so many bytes later in the same page
-abbrev pub moved : ℕ → Walk → Walk
-moved offset (At address) = At (address + offset)
-moved offset (Violation rights) = Violation rights
-moved offset Misconfigured = Misconfigured
+abbrev pub offset_walk : ℕ → Walk → Walk
+offset_walk offset (At address) = At (address + offset)
+offset_walk offset (Violation rights) = Violation rights
+offset_walk offset Misconfigured = Misconfigured
 
 -- they lead to the first byte of a page, if anywhere
 abbrev pub LeadsToPage : End → Type 0

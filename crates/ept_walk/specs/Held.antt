@@ -63,8 +63,8 @@ looked_up slots changed eptp page =
 -- ---- changes of n bytes from there on
 
 -- no byte of the entry is among them
-abbrev pub IsApart : ℕ → ℕ → ℕ → Type 0
-IsApart at n q = (q + 8 ≤ at) ⊎ (at + n ≤ q)
+abbrev pub IsUntouched : ℕ → ℕ → ℕ → Type 0
+IsUntouched at n q = (q + 8 ≤ at) ⊎ (at + n ≤ q)
 
 -- a byte of the entry is among them
 pub record IsTouched (at n q : ℕ) : Type 0 where
@@ -78,7 +78,7 @@ pub record IsTouched (at n q : ℕ) : Type 0 where
 pub record WasUntouched (at n : ℕ) (slots : List (Option Slot)) (changed : List ℕ) (i : ℕ) (s : Slot) : Type 0 where
   pub kept : slice_index_or slots i None ≡ Some s
   pub fresh : is_fresh changed s ≡ true
-  pub apart : (q : ℕ) → IsEntryOf s.tables q → IsApart at n q
+  pub apart : (q : ℕ) → IsEntryOf s.tables q → IsUntouched at n q
 
 abbrev pub KeepsUntouched : ℕ → ℕ → List (Option Slot) → List ℕ → List (Option Slot) → List ℕ → Type 0
 KeepsUntouched at n slots changed slots' changed' =

@@ -2,7 +2,7 @@
 use Rattle.std.proofs.Common.{◌≡◌, ℕ, suc, ◌+◌, ◌<◌, true, List, [], ◌∷◌, length, map, Some, None, refl, sym, ap, subst, ◌∙◌, arith}
 use Rattle.std.specs.Prelude.{option_map, slice_get, IfSome}
 use Rattle.std.specs.List.{AllZip, enumerate_from, list_all}
-use Rattle.event_emit.specs.ByIndex.{AreFew, RouteFew, device_part, device_parts, has_name, irq_part, irq_target, port_span, window_parts}
+use Rattle.event_emit.specs.ByIndex.{DeviceRoutesFew, RouteFew, device_part, device_parts, has_name, irq_part, route_irq_target, port_span, window_parts}
 use Rattle.image_soundness.specs.TablesOf.{AreDevices, IsDevice, IsIrq, irq_named, span_ends}
 use Rattle.image_pack.specs.ImageConditions.{IsReached}
 use Rattle.event_emit.proofs.EntriesReach.{few_subjects, route_found}
@@ -24,7 +24,7 @@ module _ (r : Resolution) (names : list_all has_name r.subjects ≡ true) (lawfu
     irq_is index i at = record {
       name = refl;
       granted = route_found r names lawful routes device index d i are is at;
-      target = option_map-option_map (irq_named r) irq_target (route_for routes device index) ∙ are.each device index d i is at;
+      target = option_map-option_map (irq_named r) route_irq_target (route_for routes device index) ∙ are.each device index d i is at;
     }
 
     irqs_are : (from : ℕ) (irqs : List Irq) → ((k : ℕ) (i : Irq) → slice_get irqs k ≡ Some i → slice_get d.irqs (from + k) ≡ Some i)
@@ -48,12 +48,12 @@ module _ (r : Resolution) (names : list_all has_name r.subjects ≡ true) (lawfu
     route_few : RouteFew routes device (length d.irqs)
     route_few irq l =
         let at = there d.irqs irq l in
-        elim (route_for routes device irq) as (λ o. IsReached (length r.subjects) (option_map irq_target o) → IfSome o (λ t. t.subject < 256)) [
+        elim (route_for routes device irq) as (λ o. IsReached (length r.subjects) (option_map route_irq_target o) → IfSome o (λ t. t.subject < 256)) [
           | None ↦ λ _. tt
           | Some t ↦ λ h. let there = h.0 in let few = few_subjects r names lawful in omega (arith, there, few)
         ] (route_found r names lawful routes device irq d at.0 are is at.1)
 
-  pub are_few : AreFew routes r.devices
+  pub are_few : DeviceRoutesFew routes r.devices
   are_few device d is = route_few device d is
 
   -- ---- all devices

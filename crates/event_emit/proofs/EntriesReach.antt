@@ -6,7 +6,7 @@ use Rattle.std.specs.List.{find, list_all}
 use Rattle.std.proofs.lemmas.Bool.{and_from, and_parts, leb-true, ltb-true}
 use Rattle.std.proofs.lemmas.List.{length-map}
 use Rattle.std.proofs.lemmas.List.Folds.{list_all-map}
-use Rattle.event_emit.specs.ByIndex.{event_part, has_letters, has_name, irq_target}
+use Rattle.event_emit.specs.ByIndex.{event_part, has_letters, has_name, route_irq_target}
 use Rattle.image_soundness.specs.TablesOf.{IsEntry}
 use Rattle.image_pack.specs.ImageConditions.{IsReached}
 use Rattle.event_emit.proofs.KeptEvents.{irq_reaches, is_raised, is_routed, raised_reaches}
@@ -78,7 +78,7 @@ module _ (r : Resolution) (names : list_all has_name r.subjects ≡ true) (lawfu
         | Some e ↦ λ h. entry_reaches e h
       ] (ap (λ o. option_map_or is_raised o true) same ∙ raised_reaches (source_of r) source_names (rules_of lawful).rule_6 (rules_of lawful).rule_15 (subject_named r s) way)
 
-  route_reaches : (t : Route) → is_routed (target_named r t.subject (Some t.vector)) ≡ true → IsReached (length r.subjects) (Some (irq_target t))
+  route_reaches : (t : Route) → is_routed (target_named r t.subject (Some t.vector)) ≡ true → IsReached (length r.subjects) (Some (route_irq_target t))
   route_reaches t h =
       let parts = and_parts (has_letters (name_at (map (λ s. s.name) r.subjects) t.subject)) (is_free t.vector) h in
       let free = and_parts (nat_le FIRST_VECTOR t.vector) (nat_le t.vector LAST_VECTOR) parts.1 in
@@ -87,9 +87,9 @@ module _ (r : Resolution) (names : list_all has_name r.subjects ≡ true) (lawfu
 
   -- the route of an interrupt
   pub route_found : (routes : List Route) (device irq : ℕ) (d : Device) (i : Irq) → AreRoutes r routes → slice_get r.devices device ≡ Some d → slice_get d.irqs irq ≡ Some i
-      → IsReached (length r.subjects) (option_map irq_target (route_for routes device irq))
+      → IsReached (length r.subjects) (option_map route_irq_target (route_for routes device irq))
   route_found routes device irq d i are is in_it =
-      elim (route_for routes device irq) as (λ o. option_map_or is_routed (option_map (λ (t : Route). target_named r t.subject (Some t.vector)) o) true ≡ true → IsReached (length r.subjects) (option_map irq_target o)) [
+      elim (route_for routes device irq) as (λ o. option_map_or is_routed (option_map (λ (t : Route). target_named r t.subject (Some t.vector)) o) true ≡ true → IsReached (length r.subjects) (option_map route_irq_target o)) [
         | None ↦ λ _. tt
         | Some t ↦ λ h. route_reaches t h
       ] (ap (λ o. option_map_or is_routed o true) (are.each device irq d i is in_it) ∙ irq_reaches (source_of r) source_names (rules_of lawful).rule_6 (rules_of lawful).rule_15 d.name i.name)

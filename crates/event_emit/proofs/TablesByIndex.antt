@@ -5,7 +5,7 @@ use Rattle.std.specs.List.{All, AllZip, find, list_all}
 use Rattle.std.proofs.lemmas.List.{get_or-map, length-map}
 use Rattle.std.proofs.lemmas.List.Elements.{All-cons}
 use Rattle.std.proofs.lemmas.Option.{get_or_from_slice_get}
-use Rattle.event_emit.specs.ByIndex.{ReachFew, entry_at, event_part, has_name, has_way, source_way, table_of, tables_of}
+use Rattle.event_emit.specs.ByIndex.{ReachFew, event_part_for_way, event_part, has_name, has_way, source_way, event_table_of, event_tables_of}
 use Rattle.event_emit.specs.Tables.{AreTables}
 use Rattle.image_soundness.specs.TablesOf.{IsEntry, IsTable, part_raised}
 use Rattle.event_emit.specs.declared.event_tables.EventTables.{EventTables}
@@ -30,23 +30,23 @@ at_number f many n d l =
     ∙ ap f (get_or_from_slice_get (numbers_below many) n n 0 (number_at many n l))
 
 module _ (r : Resolution) (names : list_all has_name r.subjects ≡ true) (lawful : IsLawful (source_of r)) (s : Subject) (g : Grants) (are : AreGrantsOf r s g) where
-  entry_is : (way : Way) → IsEntry (length r.subjects) (entry_at g.events way)
+  entry_is : (way : Way) → IsEntry (length r.subjects) (event_part_for_way g.events way)
   entry_is way = entry_found r names lawful g.events s (source_way way) (are.events (source_way way))
 
-  is_table : (way : ℕ → Way) → IsTable r s (λ n. source_way (way n)) (table_of g.events way)
-  unfolding table_of
+  is_table : (way : ℕ → Way) → IsTable r s (λ n. source_way (way n)) (event_table_of g.events way)
+  unfolding event_table_of
   is_table way = record {
-    many = length-map (numbers_below MOST_CALLS) (λ n. entry_at g.events (way n)) ∙ length_numbers MOST_CALLS;
+    many = length-map (numbers_below MOST_CALLS) (λ n. event_part_for_way g.events (way n)) ∙ length_numbers MOST_CALLS;
     entries = λ k d l.
-        let many : length (map (λ n. entry_at g.events (way n)) (numbers_below MOST_CALLS)) ≡ MOST_CALLS = length-map (numbers_below MOST_CALLS) (λ n. entry_at g.events (way n)) ∙ length_numbers MOST_CALLS in
-        subst (IsEntry (length r.subjects)) (sym (at_number (λ n. entry_at g.events (way n)) MOST_CALLS k d (subst (λ m. k < m) many l))) (entry_is (way k));
+        let many : length (map (λ n. event_part_for_way g.events (way n)) (numbers_below MOST_CALLS)) ≡ MOST_CALLS = length-map (numbers_below MOST_CALLS) (λ n. event_part_for_way g.events (way n)) ∙ length_numbers MOST_CALLS in
+        subst (IsEntry (length r.subjects)) (sym (at_number (λ n. event_part_for_way g.events (way n)) MOST_CALLS k d (subst (λ m. k < m) many l))) (entry_is (way k));
     raises = λ n l.
-        ap (option_map (part_raised r)) (at_number (λ n. entry_at g.events (way n)) MOST_CALLS n None l)
+        ap (option_map (part_raised r)) (at_number (λ n. event_part_for_way g.events (way n)) MOST_CALLS n None l)
         ∙ option_map-option_map (part_raised r) event_part (find (has_way (way n)) g.events)
         ∙ are.events (source_way (way n));
   }
 
-  tables_are : AreTables r s (tables_of g)
+  tables_are : AreTables r s (event_tables_of g)
   tables_are = record { calls = is_table Call; traps = is_table Trap }
 
   reach_few : ReachFew g.events
@@ -59,13 +59,13 @@ module _ (r : Resolution) (names : list_all has_name r.subjects ≡ true) (lawfu
 -- ---- of all subjects
 
 module _ (r : Resolution) (names : list_all has_name r.subjects ≡ true) (lawful : IsLawful (source_of r)) where
-  each_are : (subjects : List Subject) (grants : List Grants) → AllZip (AreGrantsOf r) subjects grants → AllZip (AreTables r) subjects (map tables_of grants)
+  each_are : (subjects : List Subject) (grants : List Grants) → AllZip (AreGrantsOf r) subjects grants → AllZip (AreTables r) subjects (map event_tables_of grants)
   each_are [] [] h = tt
   each_are [] (g ∷ gs) h = absurd h
   each_are (s ∷ ss) [] h = absurd h
   each_are (s ∷ ss) (g ∷ gs) h = (tables_are r names lawful s g h.0, each_are ss gs h.1)
 
-  pub are_tables : (grants : List Grants) (tables : List EventTables) → AreGrants r grants → tables ≡ map tables_of grants → AllZip (AreTables r) r.subjects tables
+  pub are_tables : (grants : List Grants) (tables : List EventTables) → AreGrants r grants → tables ≡ map event_tables_of grants → AllZip (AreTables r) r.subjects tables
   are_tables grants tables h is = subst (AllZip (AreTables r) r.subjects) (sym is) (each_are r.subjects grants h)
 
   each_few : (subjects : List Subject) (grants : List Grants) → AllZip (AreGrantsOf r) subjects grants → All (λ g. ReachFew g.events) grants

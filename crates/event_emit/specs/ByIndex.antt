@@ -49,16 +49,16 @@ abbrev pub event_part : EventEntry → EventPart
 event_part e = record { mode = e.mode; target = e.target; vector = e.vector }
 
 -- the first of these entries for a way
-abbrev pub entry_at : List EventEntry → Way → Option EventPart
-entry_at entries way = option_map event_part (find (has_way way) entries)
+abbrev pub event_part_for_way : List EventEntry → Way → Option EventPart
+event_part_for_way entries way = option_map event_part (find (has_way way) entries)
 
 -- for each number the entry of its way
-unfoldable pub table_of : List EventEntry → (ℕ → Way) → List (Option EventPart)
-table_of entries way = map (λ n. entry_at entries (way n)) (numbers_below MOST_CALLS)
+unfoldable pub event_table_of : List EventEntry → (ℕ → Way) → List (Option EventPart)
+event_table_of entries way = map (λ n. event_part_for_way entries (way n)) (numbers_below MOST_CALLS)
 
 -- what a subject with these grants raises by calls and by traps
-abbrev pub tables_of : Grants → EventTables
-tables_of g = record { calls = table_of g.events Call; traps = table_of g.events Trap }
+abbrev pub event_tables_of : Grants → EventTables
+event_tables_of g = record { calls = event_table_of g.events Call; traps = event_table_of g.events Trap }
 
 -- the index of the subject that each way reaches fits
 abbrev pub ReachFew : List EventEntry → Type 0
@@ -75,12 +75,12 @@ unfoldable pub window_parts : ℕ → ℕ → List WindowPart
 window_parts first count = map (λ k. record { span = first + k }) (numbers_below count)
 
 -- whom a route reaches, as an image has it
-abbrev pub irq_target : Route → IrqTarget
-irq_target t = record { subject = t.subject; vector = t.vector }
+abbrev pub route_irq_target : Route → IrqTarget
+route_irq_target t = record { subject = t.subject; vector = t.vector }
 
 -- an interrupt with its index, of the device at an index
 abbrev pub irq_part : List Route → ℕ → ℕ × Irq → IrqPart
-irq_part routes device (index, i) = record { name = i.name; target = option_map irq_target (route_for routes device index) }
+irq_part routes device (index, i) = record { name = i.name; target = option_map route_irq_target (route_for routes device index) }
 
 -- the interrupts of the device at an index
 abbrev pub irq_parts : List Route → ℕ → List Irq → List IrqPart
@@ -105,5 +105,5 @@ abbrev pub RouteFew : List Route → ℕ → ℕ → Type 0
 RouteFew routes device irqs = (irq : ℕ) → irq < irqs → IfSome (route_for routes device irq) (λ t. t.subject < 2 ^ 8)
 
 -- the same of the interrupts of each device
-abbrev pub AreFew : List Route → List Device → Type 0
-AreFew routes devices = (index : ℕ) (d : Device) → slice_get devices index ≡ Some d → RouteFew routes index (length d.irqs)
+abbrev pub DeviceRoutesFew : List Route → List Device → Type 0
+DeviceRoutesFew routes devices = (index : ℕ) (d : Device) → slice_get devices index ≡ Some d → RouteFew routes index (length d.irqs)

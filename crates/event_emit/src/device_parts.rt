@@ -1,8 +1,8 @@
 //! The devices of a policy, as an image has them.
 ghost use Rattle.std.specs.Prelude.{◌≡◌, ◌+◌, ◌<◌, ◌^◌, true, length, map, option_map, IfOk, IfSome};
 ghost use Rattle.std.specs.List.{list_all, sum_by};
-ghost use Rattle.event_emit.specs.ByIndex.{AreFew, RouteFew, device_part, device_parts, irq_parts, irq_target, port_span, window_parts};
-ghost use Rattle.event_emit.specs.Named.{AreNamed, is_named};
+ghost use Rattle.event_emit.specs.ByIndex.{DeviceRoutesFew, RouteFew, device_part, device_parts, irq_parts, route_irq_target, port_span, window_parts};
+ghost use Rattle.event_emit.specs.Named.{AreNamed, is_named_device};
 ghost use Rattle.image_soundness.specs.TablesOf.{AreDevices};
 ghost use Rattle.expand_grants.specs.ByIndex.{fits_device, fits_ports};
 ghost use Rattle.expand_grants.specs.Grants.{route_for};
@@ -53,7 +53,7 @@ fn window_parts(alloc: Global, first: u16, count: usize) -> Result<Seq<WindowPar
 
 fn irq_target(route: &Route) -> IrqTarget
     requires { route.now.subject < 2 ^ 8 }
-    ensures { result ≡ irq_target route.now }
+    ensures { result ≡ route_irq_target route.now }
 {
     IrqTarget {
         subject: route.subject as u8,
@@ -73,7 +73,7 @@ fn route_for(routes: &[Route], device: usize, irq: usize) -> Option<&Route>
 // Whom the interrupt at an index of the device at an index reaches.
 fn target_of(routes: &[Route], device: usize, irq: usize) -> Option<IrqTarget>
     requires { IfSome (route_for routes.now device irq) (λ t. t.subject < 2 ^ 8) }
-    ensures { result ≡ option_map irq_target (route_for routes.now device irq) }
+    ensures { result ≡ option_map route_irq_target (route_for routes.now device irq) }
 {
     let route = route_for(routes, device, irq)?;
     Some(irq_target(route))
@@ -135,7 +135,7 @@ fn device_part(
     requires routes { RouteFew routes.now index (length device.now.irqs) }
     requires spans { first + length device.now.memory < 2 ^ 16 }
     ensures part { IfOk result (λ part. part ≡ device_part routes.now index first device.now) }
-    ensures named { IfOk result (λ _. is_named device.now ≡ true) }
+    ensures named { IfOk result (λ _. is_named_device device.now ≡ true) }
 {
     let ports = port_spans(alloc, device.io_ports.items())?;
     let windows = window_parts(alloc, first, device.memory.len())?;
@@ -152,10 +152,10 @@ fn device_parts(
     devices: &[Device],
 ) -> Result<Seq<DevicePart>, NoMemory>
     requires ports { list_all fits_device devices.now ≡ true }
-    requires routes { AreFew routes.now devices.now }
+    requires routes { DeviceRoutesFew routes.now devices.now }
     requires spans { first + sum_by (λ d. length d.memory) devices.now < 2 ^ 16 }
     ensures parts { IfOk result (λ parts. parts ≡ device_parts routes.now 0 first devices.now) }
-    ensures named { IfOk result (λ _. list_all is_named devices.now ≡ true) }
+    ensures named { IfOk result (λ _. list_all is_named_device devices.now ≡ true) }
 {
     let mut parts = Seq::new(alloc);
     let mut next = first;

@@ -1,7 +1,7 @@
 //! The tables of events of subjects.
 ghost use Rattle.std.specs.Prelude.{◌≡◌, ◌<◌, ◌^◌, map, option_map, IfOk, IfSome};
 ghost use Rattle.std.specs.List.{All, AllZip, find};
-ghost use Rattle.event_emit.specs.ByIndex.{ReachFew, entry_at, event_part, has_way, table_of, tables_of};
+ghost use Rattle.event_emit.specs.ByIndex.{ReachFew, event_part_for_way, event_part, has_way, event_table_of, event_tables_of};
 ghost use Rattle.event_emit.specs.Tables.{AreTables};
 ghost use Rattle.expand_grants.specs.declared.granted.Way.TheVariants.{Call, Trap};
 
@@ -51,17 +51,17 @@ fn entry_for(entries: &[EventEntry], way: Way) -> Option<&EventEntry>
 // The event that these entries have for a way.
 fn entry_at(entries: &[EventEntry], way: Way) -> Option<EventPart>
     requires { IfSome (find (has_way way) entries.now) (λ e. e.target < 2 ^ 8) }
-    ensures { result ≡ entry_at entries.now way }
+    ensures { result ≡ event_part_for_way entries.now way }
 {
     let entry = entry_for(entries, way)?;
     Some(event_part(entry))
 }
 
 // What these entries raise by calls, by their numbers.
-#[tactic(auto, unfolding(crate::specs::ByIndex::table_of))]
+#[tactic(auto, unfolding(crate::specs::ByIndex::event_table_of))]
 fn calls(alloc: Global, entries: &[EventEntry]) -> Result<Seq<Option<EventPart>>, NoMemory>
     requires { ReachFew entries.now }
-    ensures { IfOk result (λ table. table ≡ table_of entries.now Call) }
+    ensures { IfOk result (λ table. table ≡ event_table_of entries.now Call) }
 {
     let mut table = Seq::new(alloc);
     for number in 0..MOST_CALLS as u8 {
@@ -71,10 +71,10 @@ fn calls(alloc: Global, entries: &[EventEntry]) -> Result<Seq<Option<EventPart>>
 }
 
 // What they raise by traps, by their exit reasons.
-#[tactic(auto, unfolding(crate::specs::ByIndex::table_of))]
+#[tactic(auto, unfolding(crate::specs::ByIndex::event_table_of))]
 fn traps(alloc: Global, entries: &[EventEntry]) -> Result<Seq<Option<EventPart>>, NoMemory>
     requires { ReachFew entries.now }
-    ensures { IfOk result (λ table. table ≡ table_of entries.now Trap) }
+    ensures { IfOk result (λ table. table ≡ event_table_of entries.now Trap) }
 {
     let mut table = Seq::new(alloc);
     for reason in 0..MOST_CALLS as u8 {
@@ -86,7 +86,7 @@ fn traps(alloc: Global, entries: &[EventEntry]) -> Result<Seq<Option<EventPart>>
 // The tables of a subject with these grants.
 fn tables_of(alloc: Global, grants: &Grants) -> Result<EventTables, NoMemory>
     requires { ReachFew grants.now.events }
-    ensures { IfOk result (λ tables. tables ≡ tables_of grants.now) }
+    ensures { IfOk result (λ tables. tables ≡ event_tables_of grants.now) }
 {
     Ok(EventTables {
         calls: calls(alloc, grants.events.items())?,
@@ -96,7 +96,7 @@ fn tables_of(alloc: Global, grants: &Grants) -> Result<EventTables, NoMemory>
 
 fn all_tables(alloc: Global, grants: &[Grants]) -> Result<Seq<EventTables>, NoMemory>
     requires { All (λ g. ReachFew g.events) grants.now }
-    ensures { IfOk result (λ tables. tables ≡ map tables_of grants.now) }
+    ensures { IfOk result (λ tables. tables ≡ map event_tables_of grants.now) }
 {
     let mut tables = Seq::new(alloc);
     for granted in grants {

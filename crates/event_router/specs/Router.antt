@@ -33,25 +33,25 @@ abbrev pub pends : Option ℕ → ℕ → List (List Bool) → List (List Bool)
 pends None subject sets = sets
 pends (Some v) subject sets = change_at subject (with_vector v) sets
 
-abbrev pub pends_now : ℕ → Option ℕ → RouterState → RouterState
-pends_now subject vector r = record r { pending_now = pends vector subject r.pending_now }
+abbrev pub router_pends_now : ℕ → Option ℕ → RouterState → RouterState
+router_pends_now subject vector r = record r { pending_now = pends vector subject r.pending_now }
 
-abbrev pub pends_later : ℕ → Option ℕ → RouterState → RouterState
-pends_later subject vector r = record r { pending_later = pends vector subject r.pending_later }
+abbrev pub router_pends_later : ℕ → Option ℕ → RouterState → RouterState
+router_pends_later subject vector r = record r { pending_later = pends vector subject r.pending_later }
 
 -- the subject becomes the active member of its group
-abbrev pub with_active : Option ℕ → ℕ → List ℕ → List ℕ
-with_active None subject active = active
-with_active (Some g) subject active = change_at g (λ _. subject) active
+abbrev pub with_active_member : Option ℕ → ℕ → List ℕ → List ℕ
+with_active_member None subject active = active
+with_active_member (Some g) subject active = change_at g (λ _. subject) active
 
 abbrev pub hands_over : ℕ → RouterState → RouterState
-hands_over subject r = record r { active = with_active (slice_get r.groups subject) subject r.active }
+hands_over subject r = record r { active = with_active_member (slice_get r.groups subject) subject r.active }
 
 abbrev pub raised_as : EventMode → ℕ → Option ℕ → RouterState → RouterState
-raised_as Asap target vector r = pends_now target vector r
-raised_as Async target vector r = pends_later target vector r
-raised_as Own target vector r = pends_now target vector r
-raised_as Switch target vector r = hands_over target (pends_now target vector r)
+raised_as Asap target vector r = router_pends_now target vector r
+raised_as Async target vector r = router_pends_later target vector r
+raised_as Own target vector r = router_pends_now target vector r
+raised_as Switch target vector r = hands_over target (router_pends_now target vector r)
 
 abbrev pub raised : EventPart → RouterState → RouterState
 raised e r = raised_as e.mode e.target e.vector r

@@ -2,7 +2,7 @@
 ghost use Rattle.std.specs.Prelude.{◌≡◌, slice_get, map, Some, IfOk, option_map};
 ghost use Rattle.muen_num.specs.ListChange.{change_at};
 ghost use Rattle.event_router.specs.Vectors.{no_vectors, with_vector, without_vector};
-ghost use Rattle.event_router.specs.Router.{started, pends, pends_now, with_active, raised, delivered_by, deliverable, taken};
+ghost use Rattle.event_router.specs.Router.{started, pends, router_pends_now, with_active_member, raised, delivered_by, deliverable, taken};
 
 use crate::vectors::{VectorSet, delivered};
 use image_pack::{EventPart, GroupPart, SubjectPart};
@@ -74,7 +74,7 @@ fn activate(active: &mut [u8], group: usize, subject: u8)
 }
 
 fn hand_over(active: &mut [u8], groups: &[u8], subject: u8)
-    ensures { active.new ≡ with_active (slice_get groups.now subject) subject active.old }
+    ensures { active.new ≡ with_active_member (slice_get groups.now subject) subject active.old }
 {
     if let Some(group) = groups.get(subject as usize) {
         activate(active, *group as usize, subject);
@@ -127,7 +127,7 @@ impl Router {
     /// An interrupt of a device is raised: its vector is pending at the subject, deliverable at any
     /// turn.
     pub fn raise_irq(&mut self, subject: u8, vector: u8)
-        ensures { self.new ≡ pends_now subject (Some vector) self.old }
+        ensures { self.new ≡ router_pends_now subject (Some vector) self.old }
     {
         put(&mut self.pending_now, subject as usize, vector);
     }

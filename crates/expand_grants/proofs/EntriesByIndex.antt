@@ -23,7 +23,7 @@ use Rattle.policy_lawful.specs.Views.{channel_end_named, channel_ends_of}
 use Rattle.policy_lawful.specs.declared.view.IndexedEnd.{IndexedEnd}
 use Rattle.policy_lawful.proofs.EndsByIndex.{ends_by_index, ends_in_range}
 use Rattle.expand_grants.specs.Grants.{entry_raised, is_way, raised_named}
-use Rattle.expand_grants.specs.Raising.{all_readers, all_targets, call_entry, channel_end_entry, entries_of, entry, first_reached, source_entry, way_of, writer_call}
+use Rattle.expand_grants.specs.Raising.{all_readers, all_targets, call_entry, channel_end_entry, event_entries_of, entry, first_reached, source_entry, granted_way_of, writer_call}
 use Rattle.expand_grants.specs.declared.granted.EventEntry.{EventEntry}
 use Rattle.expand_grants.specs.declared.granted.Way.{Way}
 use Rattle.expand_grants.specs.declared.granted.Way.TheVariants.{Call}
@@ -36,7 +36,7 @@ use Rattle.expand_grants.proofs.TargetsByIndex.{event_by_index, some_target}
 -- ---- ways
 
 -- an entry has the way of its source
-pub way_same : (way of : SourceWay) → is_way way (way_of of) ≡ same_way of way
+pub way_same : (way of : SourceWay) → is_way way (granted_way_of of) ≡ same_way of way
 way_same (SourceCall m) (SourceCall n) = equal_turned m n
 way_same (SourceCall m) (SourceTrap n) = refl
 way_same (SourceTrap m) (SourceCall n) = refl
@@ -71,12 +71,12 @@ module _ (way : SourceWay) where
     source_found lawful =
         found_filtered (λ (e : NamedSource). same_way e.way way) source_named (source_entry r.events (all_targets r.subjects)) of_way (λ e. named_event (source_of r) e.event) (raised_named r)
         (λ e. nat_lt e.event (length r.events))
-        (λ e ok. entry_way (way_of e.way) (same_way e.way way) (way_same way e.way) (slice_get r.events e.event) (first_reached (all_targets r.subjects) e.event))
+        (λ e ok. entry_way (granted_way_of e.way) (same_way e.way way) (way_same way e.way) (slice_get r.events e.event) (first_reached (all_targets r.subjects) e.event))
         (λ e ok hit.
         let l = ltb-true e.event (length r.events) ok in
         let at = there r.events e.event l in
-        entry_some (way_of e.way) at.0 (slice_get r.events e.event) (first_reached (all_targets r.subjects) e.event) at.1 (some_target r q e.event l lawful))
-        (λ e ok hit. event_by_index r q e.event (ltb-true e.event (length r.events) ok) (way_of e.way))
+        entry_some (granted_way_of e.way) at.0 (slice_get r.events e.event) (first_reached (all_targets r.subjects) e.event) at.1 (some_target r q e.event l lawful))
+        (λ e ok hit. event_by_index r q e.event (ltb-true e.event (length r.events) ok) (granted_way_of e.way))
         s.sources (and_parts _ _ (and_parts _ _ (and_parts _ _ in_range).0).0).1
 
     -- ---- ends of channels
@@ -161,7 +161,7 @@ channel_ends_met r k s q lawful at in_range =
 
 -- the entries of a subject tell for each way the event that it raises
 pub events_by_index : (r : Resolution) (k : ℕ) (s : Subject) → IsResolved r → offence_6 (source_of r) ≡ None → offence_12 (source_of r) ≡ None → slice_get r.subjects k ≡ Some s → subject_in_range r s ≡ true
-    → (way : SourceWay) → entry_raised r (entries_of r s) way ≡ event_of (source_of r) (subject_named r s) way
+    → (way : SourceWay) → entry_raised r (event_entries_of r s) way ≡ event_of (source_of r) (subject_named r s) way
 unfolding event_of
 events_by_index r k s q lawful_6 lawful_12 at in_range way =
     let by_source = filter_map (source_entry r.events (all_targets r.subjects)) s.sources in

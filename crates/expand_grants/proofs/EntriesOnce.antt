@@ -22,7 +22,7 @@ use Rattle.policy_lawful.specs.source.Subject.{Subject as NamedSubject}
 use Rattle.policy_lawful.specs.Views.{channel_end_named, channel_ends_of}
 use Rattle.policy_lawful.proofs.EndsByIndex.{ends_by_index}
 use Rattle.expand_grants.specs.Grants.{is_way}
-use Rattle.expand_grants.specs.Raising.{all_readers, all_targets, channel_end_entry, entries_of, first_reached, source_entry, way_of}
+use Rattle.expand_grants.specs.Raising.{all_readers, all_targets, channel_end_entry, event_entries_of, first_reached, source_entry, granted_way_of}
 use Rattle.expand_grants.specs.declared.granted.EventEntry.{EventEntry}
 use Rattle.expand_grants.proofs.Counted.{counted_some, distinct_once, fewer_items, none_passes, uncounted}
 use Rattle.expand_grants.proofs.EntriesByIndex.{channel_end_way, entry_way, way_same}
@@ -115,14 +115,14 @@ module _ (r : Resolution) (q : IsResolved r) (s : Subject) (in_range : subject_i
   by_sources : count_by of_way (filter_map (source_entry r.events (all_targets r.subjects)) s.sources) ≤ count_by (λ (e : NamedSource). same_way e.way way) (map (source_named r) s.sources)
   by_sources =
       fewer_items (λ (e : NamedSource). same_way e.way way) (source_named r) (source_entry r.events (all_targets r.subjects)) of_way
-      (λ e. entry_way way (way_of e.way) (same_way e.way way) (way_same way e.way) (slice_get r.events e.event) (first_reached (all_targets r.subjects) e.event)) s.sources
+      (λ e. entry_way way (granted_way_of e.way) (same_way e.way way) (way_same way e.way) (slice_get r.events e.event) (first_reached (all_targets r.subjects) e.event)) s.sources
 
   by_ends : count_by of_way (filter_map (channel_end_entry r.channels (all_readers r)) (channel_ends_of r s)) ≤ count_by (λ (e : ChannelEnd). writes_by e e.role way) (map (channel_end_named r) (channel_ends_of r s))
   by_ends =
       fewer_items (λ (e : ChannelEnd). writes_by e e.role way) (channel_end_named r) (channel_end_entry r.channels (all_readers r)) of_way
       (λ e. channel_end_way way r q s in_range e e.role e.call (writes_by (channel_end_named r e) e.role way) refl) (channel_ends_of r s)
 
-  entries_few : keeps_14 r (subject_named r s) ≡ true → count_by of_way (entries_of r s) ≤ 1
+  entries_few : keeps_14 r (subject_named r s) ≡ true → count_by of_way (event_entries_of r s) ≤ 1
   entries_few keeps =
       let own = filter_map (source_entry r.events (all_targets r.subjects)) s.sources in
       let theirs = filter_map (channel_end_entry r.channels (all_readers r)) (channel_ends_of r s) in
@@ -136,6 +136,6 @@ module _ (r : Resolution) (q : IsResolved r) (s : Subject) (in_range : subject_i
 
 -- the entries of a subject have each way once at most
 pub entries_once : (r : Resolution) (k : ℕ) (s : Subject) → IsResolved r → offence_14 (source_of r) ≡ None → offence_15 (source_of r) ≡ None → slice_get r.subjects k ≡ Some s → subject_in_range r s ≡ true
-    → (way : SourceWay) → count_by (λ e. is_way way e.way) (entries_of r s) ≤ 1
+    → (way : SourceWay) → count_by (λ e. is_way way e.way) (event_entries_of r s) ≤ 1
 entries_once r k s q lawful_14 lawful_15 at in_range way =
     entries_few r q s in_range way (passes_at (λ s. keeps_14 r (subject_named r s)) r.subjects k s (all_14 r q lawful_14 lawful_15) at)

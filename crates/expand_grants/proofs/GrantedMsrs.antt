@@ -4,7 +4,7 @@ use Rattle.std.specs.Prelude.{◌&&◌, ◌||◌, nat_le, nat_lt, if◌then◌el
 use Rattle.std.specs.List.{flat_map, list_any}
 use Rattle.std.proofs.lemmas.Bool.Decides.{nat_tests}
 use Rattle.std.proofs.lemmas.List.Folds.{list_any-append}
-use Rattle.expand_grants.specs.Resources.{Msr, msr_grant, msrs_in}
+use Rattle.expand_grants.specs.Resources.{Msr, msr_grant, each_msr_in}
 use Rattle.muen_num.proofs.Lists.{list_any-map}
 use Rattle.muen_num.specs.Range.{numbers_below}
 use Rattle.policy_lawful.specs.MsrGrants.{allows, has_msr, is_granted as is_msr_granted}
@@ -39,16 +39,16 @@ in_range : (start end index : ℕ) → (nat_le start index && nat_lt index (star
 in_range start end index = grind (arith, nat_tests)
 
 -- that of one range
-pub one_range : (x : Msrs) (index : ℕ) (write : Bool) → list_any (λ (m : Msr). (m.index == index) && (if write then m.write else m.read)) (msrs_in x) ≡ (has_msr (msr_grant x) index && allows (msr_grant x) write)
+pub one_range : (x : Msrs) (index : ℕ) (write : Bool) → list_any (λ (m : Msr). (m.index == index) && (if write then m.write else m.read)) (each_msr_in x) ≡ (has_msr (msr_grant x) index && allows (msr_grant x) write)
 one_range x index write =
     let ok : Bool = if write then x.rights.write else x.rights.read in
     list_any-map (λ (m : Msr). (m.index == index) && (if write then m.write else m.read)) (λ k. record { index = x.start + k; read = x.rights.read; write = x.rights.write }) (numbers_below (x.end + 1 - x.start))
     ∙ numbered x.start index ok (x.end + 1 - x.start)
     ∙ ap (λ b. b && ok) (in_range x.start x.end index)
 
-pub msr_granted : (ranges : List Msrs) (index : ℕ) (write : Bool) → list_any (λ (m : Msr). (m.index == index) && (if write then m.write else m.read)) (flat_map msrs_in ranges) ≡ is_msr_granted (map msr_grant ranges) index write
+pub msr_granted : (ranges : List Msrs) (index : ℕ) (write : Bool) → list_any (λ (m : Msr). (m.index == index) && (if write then m.write else m.read)) (flat_map each_msr_in ranges) ≡ is_msr_granted (map msr_grant ranges) index write
 unfolding is_msr_granted
 msr_granted [] index write = refl
 msr_granted (x ∷ xs) index write =
-    list_any-append (λ (m : Msr). (m.index == index) && (if write then m.write else m.read)) (msrs_in x) (flat_map msrs_in xs)
+    list_any-append (λ (m : Msr). (m.index == index) && (if write then m.write else m.read)) (each_msr_in x) (flat_map each_msr_in xs)
     ∙ ap₂ (λ a b. a || b) (one_range x index write) (msr_granted xs index write)

@@ -23,7 +23,7 @@ use Rattle.policy_lawful.specs.source.Device.{Device}
 use Rattle.policy_lawful.specs.source.Ports.{Ports}
 use Rattle.policy_lawful.proofs.WindowsByIndex.{subject_parts}
 use Rattle.expand_grants.specs.ByIndex.{fits_device, fits_ports, range_at, ranges_at}
-use Rattle.expand_grants.specs.Resources.{device_ranges, port_ranges_of, range_of}
+use Rattle.expand_grants.specs.Resources.{device_ranges, port_ranges_of, port_range_of}
 use Rattle.expand_grants.proofs.Mapped.{filter_maps_same, flat_maps_same}
 
 -- ---- by name or by index
@@ -36,13 +36,13 @@ module _ (r : Resolution) (q : IsResolved r) where
 
   -- the range at an index of a device that is there
   range_by_index : (device index : ℕ) (d : Device) → slice_get r.devices device ≡ Some d → nat_lt index (length (map (λ m. m.name) d.io_ports)) ≡ true
-      → option_map range_of (find (λ x. bytes_eq x.name (name_at (map (λ m. m.name) d.io_ports) index)) d.io_ports) ≡ range_at r.devices device index
+      → option_map port_range_of (find (λ x. bytes_eq x.name (name_at (map (λ m. m.name) d.io_ports) index)) d.io_ports) ≡ range_at r.devices device index
   unfolding source_of
   range_by_index device index d is l =
       let many : length (map (λ m. m.name) d.io_ports) ≡ length d.io_ports = length-map d.io_ports (λ m. m.name) in
       let here : index < length (map (λ m. m.name) d.io_ports) = ltb-true index (length (map (λ m. m.name) d.io_ports)) l in
-      ap (option_map range_of) (found_at_index (λ x. x.name) d.io_ports index (parts_unique (source_of r) device d q.names is).io_ports (omega (arith, many, here)))
-      ∙ ap (option_and_then (λ d. option_map range_of (slice_get d.io_ports index))) (sym is)
+      ap (option_map port_range_of) (found_at_index (λ x. x.name) d.io_ports index (parts_unique (source_of r) device d q.names is).io_ports (omega (arith, many, here)))
+      ∙ ap (option_and_then (λ d. option_map port_range_of (slice_get d.io_ports index))) (sym is)
 
   -- the ranges of a use of a device
   pub ranges_by_index : (used : DeviceUse) → device_in_range r used ≡ true → device_ranges (source_of r) (device_named r used) ≡ ranges_at r.devices used
@@ -55,13 +55,13 @@ module _ (r : Resolution) (q : IsResolved r) where
       let at = there r.devices used.device l in
       let names : device_part r (λ x. map (λ m. m.name) x.io_ports) used.device ≡ map (λ m. m.name) at.0.io_ports = ap (λ o. option_map_or (λ (x : Device). map (λ m. m.name) x.io_ports) o []) at.1 in
       let found = device_found used.device l ∙ at.1 in
-      filter_maps_same (λ name. option_and_then (λ (x : Device). option_map range_of (find (λ x. bytes_eq x.name name) x.io_ports)) (find (λ x. bytes_eq x.name (device_named r used).device) r.devices))
+      filter_maps_same (λ name. option_and_then (λ (x : Device). option_map port_range_of (find (λ x. bytes_eq x.name name) x.io_ports)) (find (λ x. bytes_eq x.name (device_named r used).device) r.devices))
       (name_at (device_part r (λ x. map (λ m. m.name) x.io_ports) used.device))
       (range_at r.devices used.device)
       (λ i. nat_lt i (length (device_part r (λ x. map (λ m. m.name) x.io_ports) used.device)))
       (λ i small.
-      ap (option_and_then (λ (x : Device). option_map range_of (find (λ y. bytes_eq y.name (name_at (device_part r (λ x. map (λ m. m.name) x.io_ports) used.device) i)) x.io_ports))) found
-      ∙ ap (λ ns. option_map range_of (find (λ y. bytes_eq y.name (name_at ns i)) at.0.io_ports)) names
+      ap (option_and_then (λ (x : Device). option_map port_range_of (find (λ y. bytes_eq y.name (name_at (device_part r (λ x. map (λ m. m.name) x.io_ports) used.device) i)) x.io_ports))) found
+      ∙ ap (λ ns. option_map port_range_of (find (λ y. bytes_eq y.name (name_at ns i)) at.0.io_ports)) names
       ∙ range_by_index used.device i at.0 at.1 (sym (ap (λ ns. nat_lt i (length ns)) names) ∙ small))
       used.io_ports c.1
 

@@ -21,7 +21,7 @@ use Rattle.policy_lawful.proofs.KeptAddresses.{addresses_kept}
 use Rattle.policy_lawful.specs.Views.{view_extent, views_of}
 use Rattle.policy_lawful.specs.declared.view.View.{View}
 use Rattle.policy_lawful.proofs.ExtentsByIndex.{extents_by_index}
-use Rattle.expand_grants.specs.Grants.{is_lower}
+use Rattle.expand_grants.specs.Grants.{is_lower_view}
 use Rattle.expand_grants.specs.Kept.{same_guest}
 use Rattle.expand_grants.specs.Ordered.{in_order}
 use Rattle.expand_grants.proofs.Elements.{none_there}
@@ -54,10 +54,10 @@ module _ {X : Type 0} (same : X → X → Bool) where
 -- ---- windows that are sorted
 
 -- what is sorted by guest addresses that differ is in their order
-pub sorted_is : (xs ys : List View) → IsDistinct same_guest xs → IsPermutation xs ys → IsNonDecreasingBy (λ v. v.guest) ys → ys ≡ in_order is_lower xs
+pub sorted_is : (xs ys : List View) → IsDistinct same_guest xs → IsPermutation xs ys → IsNonDecreasingBy (λ v. v.guest) ys → ys ≡ in_order is_lower_view xs
 sorted_is xs ys distinct moved rising =
     let apart = pairs_of same_guest ys (IsDistinct-IsPermutation same_guest (λ a b. equal_turned a.guest b.guest) xs ys moved distinct) in
-    sym (ordered_is is_lower xs ys moved
+    sym (ordered_is is_lower_view xs ys moved
     (λ i j d l m. lower (get_or ys i d).guest (get_or ys j d).guest (rising i j d (omega (arith, l)) m) (apart i j d l m)))
 
 -- ---- windows of a lawful policy

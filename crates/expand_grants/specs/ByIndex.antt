@@ -1,7 +1,7 @@
 -- What is granted to a subject by the indexes of a resolved policy, and numbers that fit.
 use Rattle.std.specs.Prelude.{ℕ, ◌^◌, ◌&&◌, Bool, List, map, slice_get, nat_lt, Option, option_map, option_and_then}
 use Rattle.std.specs.List.{enumerate_from, filter_map, flat_map, list_all}
-use Rattle.expand_grants.specs.Resources.{range_of}
+use Rattle.expand_grants.specs.Resources.{port_range_of}
 use Rattle.expand_grants.specs.declared.granted.Route.{Route}
 use Rattle.policy_lawful.specs.resources.PortRange.{PortRange}
 use Rattle.policy_lawful.specs.declared.resolved.DeviceUse.{DeviceUse}
@@ -15,7 +15,7 @@ use Rattle.policy_lawful.specs.source.Ports.{Ports}
 
 -- the range at an index of the device at an index
 abbrev pub range_at : List Device → ℕ → ℕ → Option PortRange
-range_at devices device index = option_and_then (λ d. option_map range_of (slice_get d.io_ports index)) (slice_get devices device)
+range_at devices device index = option_and_then (λ d. option_map port_range_of (slice_get d.io_ports index)) (slice_get devices device)
 
 -- the ranges that a use of a device names
 abbrev pub ranges_at : List Device → DeviceUse → List PortRange

@@ -22,8 +22,8 @@ use Rattle.policy_lawful.specs.declared.view.View.{View}
 -- ---- views
 
 -- by guest address
-abbrev pub is_lower : View → View → Bool
-is_lower a b = nat_le a.guest b.guest
+abbrev pub is_lower_view : View → View → Bool
+is_lower_view a b = nat_le a.guest b.guest
 
 -- ---- events
 
@@ -47,7 +47,7 @@ entry_raised r entries way = option_map (raised_named r) (find (λ e. is_way way
 
 pub record AreGrantsOf (r : Resolution) (s : Subject) (g : Grants) : Type 0 where
   -- its windows, by guest address
-  pub views : g.views ≡ in_order is_lower (views_of r s)
+  pub views : g.views ≡ in_order is_lower_view (views_of r s)
   pub ports : g.ports ≡ port_ranges_of (source_of r) (subject_named r s)
   pub msrs : g.msrs ≡ map msr_grant s.msrs
   -- for each way the event that the policy has for it

@@ -3,7 +3,7 @@ use Rattle.std.specs.Prelude.{◌≡◌, ◌≤◌, ◌==◌, Bool, true}
 use Rattle.std.specs.List.{IsDistinct, count_by, flat_map, list_all}
 use Rattle.expand_grants.specs.ByIndex.{fits_msrs, ranges_at}
 use Rattle.expand_grants.specs.Grants.{entry_raised, is_way}
-use Rattle.expand_grants.specs.Raising.{entries_of, fits_channel_ends, fits_sources}
+use Rattle.expand_grants.specs.Raising.{event_entries_of, fits_channel_ends, fits_sources}
 use Rattle.expand_grants.specs.Resources.{port_ranges_of}
 use Rattle.policy_lawful.specs.Resolution.{Resolution, source_of, subject_named}
 use Rattle.policy_lawful.specs.declared.resolved.Subject.{Subject}
@@ -22,5 +22,5 @@ pub record IsKept (r : Resolution) (s : Subject) : Type 0 where
   pub msrs : list_all fits_msrs s.msrs ≡ true
   pub sources : fits_sources s ≡ true
   pub ends : fits_channel_ends r s ≡ true
-  pub events : (way : SourceWay) → entry_raised r (entries_of r s) way ≡ event_of (source_of r) (subject_named r s) way
-  pub once : (way : SourceWay) → count_by (λ e. is_way way e.way) (entries_of r s) ≤ 1
+  pub events : (way : SourceWay) → entry_raised r (event_entries_of r s) way ≡ event_of (source_of r) (subject_named r s) way
+  pub once : (way : SourceWay) → count_by (λ e. is_way way e.way) (event_entries_of r s) ≤ 1

@@ -50,16 +50,16 @@ first_reached list index = find (λ x. x.by == index) list
 
 -- ---- events that are raised
 
-abbrev pub way_of : SourceWay → Way
-way_of (SourceCall n) = Call n
-way_of (SourceTrap n) = Trap n
+abbrev pub granted_way_of : SourceWay → Way
+granted_way_of (SourceCall n) = Call n
+granted_way_of (SourceTrap n) = Trap n
 
 abbrev pub entry : Way → EventMode → Reached → EventEntry
 entry way mode x = record { way = way; mode = mode; target = x.subject; vector = x.vector }
 
 -- by a source
 abbrev pub source_entry : List Event → List Reached → EventSource → Option EventEntry
-source_entry events targets s = option_and_then (λ e. option_map (entry (way_of s.way) e.mode) (first_reached targets s.event)) (slice_get events s.event)
+source_entry events targets s = option_and_then (λ e. option_map (entry (granted_way_of s.way) e.mode) (first_reached targets s.event)) (slice_get events s.event)
 
 -- by a call of an end of a channel
 abbrev pub call_entry : List Channel → List Reached → ℕ → ℕ → Option EventEntry
@@ -75,8 +75,8 @@ abbrev pub channel_end_entry : List Channel → List Reached → IndexedEnd → 
 channel_end_entry channels readers e = option_and_then (call_entry channels readers e.channel) (writer_call e e.role)
 
 -- by the sources of a subject, then by its ends of channels
-abbrev pub entries_of : Resolution → Subject → List EventEntry
-entries_of r s =
+abbrev pub event_entries_of : Resolution → Subject → List EventEntry
+event_entries_of r s =
     filter_map (source_entry r.events (all_targets r.subjects)) s.sources
     ++ filter_map (channel_end_entry r.channels (all_readers r)) (channel_ends_of r s)
 

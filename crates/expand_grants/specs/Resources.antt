@@ -15,13 +15,13 @@ use Rattle.policy_lawful.specs.PortRanges.{has_port}
 
 -- ---- ports
 
-abbrev pub range_of : Ports → PortRange
-range_of x = record { start = x.start; end = x.end }
+abbrev pub port_range_of : Ports → PortRange
+port_range_of x = record { start = x.start; end = x.end }
 
 -- the ranges of a device that a use of it names
 abbrev pub device_ranges : Source → DeviceUse → List PortRange
 device_ranges p d =
-    filter_map (λ name. option_and_then (λ x. option_map range_of (find (λ r. bytes_eq r.name name) x.io_ports))
+    filter_map (λ name. option_and_then (λ x. option_map port_range_of (find (λ r. bytes_eq r.name name) x.io_ports))
     (find (λ x. bytes_eq x.name d.device) p.devices))
     d.io_ports
 
@@ -49,12 +49,12 @@ pub record Msr : Type 0 where
   pub read : Bool
   pub write : Bool
 
-abbrev pub msrs_in : Msrs → List Msr
-msrs_in m = map (λ k. record { index = m.start + k; read = m.rights.read; write = m.rights.write }) (numbers_below (m.end + 1 - m.start))
+abbrev pub each_msr_in : Msrs → List Msr
+each_msr_in m = map (λ k. record { index = m.start + k; read = m.rights.read; write = m.rights.write }) (numbers_below (m.end + 1 - m.start))
 
 -- the MSRs that are granted to a subject, in the grants' order, ascending in each range
 unfoldable pub msrs_of : Subject → List Msr
-msrs_of s = flat_map msrs_in s.msrs
+msrs_of s = flat_map each_msr_in s.msrs
 
 -- the MSR is granted for reads, or for writes
 abbrev pub is_granted : List Msr → ℕ → Bool → Bool

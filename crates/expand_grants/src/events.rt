@@ -1,7 +1,7 @@
 //! The events that a subject raises.
 ghost use Rattle.std.specs.Prelude.{◌≡◌, ◌++◌, true, slice_get, Some, IfOk};
 ghost use Rattle.std.specs.List.{filter_map, list_all};
-ghost use Rattle.expand_grants.specs.Raising.{all_readers, all_targets, call_entry, channel_end_entry, entries_of, entry, fits_channel_end, fits_channel_ends, fits_source, fits_sources, fits_way, source_entry, way_of, writer_call};
+ghost use Rattle.expand_grants.specs.Raising.{all_readers, all_targets, call_entry, channel_end_entry, event_entries_of, entry, fits_channel_end, fits_channel_ends, fits_source, fits_sources, fits_way, source_entry, granted_way_of, writer_call};
 
 use crate::append::push_some;
 use crate::granted::{EventEntry, Way};
@@ -14,7 +14,7 @@ use std::alloc::Global;
 
 fn way_of(way: SourceWay) -> Way
     requires { fits_way way ≡ true }
-    ensures { result ≡ way_of way }
+    ensures { result ≡ granted_way_of way }
 {
     match way {
         SourceWay::Call(number) => Way::Call(number as u8),
@@ -132,7 +132,7 @@ pub(crate) fn entries_of(
     requires ends { fits_channel_ends policy.now subject.now ≡ true }
     requires targets { targets.now ≡ all_targets policy.now.subjects }
     requires readers { readers.now ≡ all_readers policy.now }
-    ensures { IfOk result (λ entries. entries ≡ entries_of policy.now subject.now) }
+    ensures { IfOk result (λ entries. entries ≡ event_entries_of policy.now subject.now) }
 {
     let mut entries = Vec::new(alloc);
     add_sources(

@@ -2,7 +2,7 @@
 ghost use Rattle.std.specs.Prelude.{◌≡◌, ◌++◌, true, IfOk};
 ghost use Rattle.std.specs.List.{flat_map, list_all};
 ghost use Rattle.expand_grants.specs.ByIndex.{fits_device, fits_ports, range_at, ranges_at};
-ghost use Rattle.expand_grants.specs.Resources.{range_of};
+ghost use Rattle.expand_grants.specs.Resources.{port_range_of};
 
 use crate::append::push_some;
 use muen_num::{NoMemory, Seq};
@@ -13,7 +13,7 @@ use std::alloc::Global;
 
 fn range(ports: &Ports) -> PortRange
     requires { fits_ports ports.now ≡ true }
-    ensures { result ≡ range_of ports.now }
+    ensures { result ≡ port_range_of ports.now }
 {
     PortRange {
         start: ports.start as u16,

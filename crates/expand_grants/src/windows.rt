@@ -2,7 +2,7 @@
 ghost use Rattle.std.specs.Prelude.{◌≡◌, IfOk};
 ghost use Rattle.std.specs.List.{IsDistinct};
 ghost use Rattle.std.specs.List.Sorted.{IsNonDecreasingBy, IsPermutation};
-ghost use Rattle.expand_grants.specs.Grants.{is_lower};
+ghost use Rattle.expand_grants.specs.Grants.{is_lower_view};
 ghost use Rattle.expand_grants.specs.Kept.{same_guest};
 ghost use Rattle.expand_grants.specs.Ordered.{in_order};
 
@@ -26,7 +26,7 @@ fn rising(alloc: Global, views: &[View]) -> Result<Vec<View>, NoMemory>
 #[tactic(auto, using(crate::proofs::WindowsInOrder::sorted_is))]
 pub(crate) fn in_order(alloc: Global, views: &[View]) -> Result<Seq<View>, NoMemory>
     requires { IsDistinct same_guest views.now }
-    ensures { IfOk result (λ ordered. ordered ≡ in_order is_lower views.now) }
+    ensures { IfOk result (λ ordered. ordered ≡ in_order is_lower_view views.now) }
 {
     let rising = rising(alloc, views)?;
     Ok(Seq::of(rising))

@@ -5,7 +5,7 @@ use Rattle.std.proofs.lemmas.Bool.{and_parts, leb-true, ltb-true}
 use Rattle.std.proofs.lemmas.List.Elements.{All-from_recursion, All-map}
 use Rattle.std.proofs.lemmas.List.Sorted.{All-permutation, IsPermutation-map}
 use Rattle.ept_emit.specs.Pages.{IsMapped, ept_pages}
-use Rattle.expand_grants.specs.Grants.{is_lower}
+use Rattle.expand_grants.specs.Grants.{is_lower_view}
 use Rattle.expand_grants.specs.Ordered.{in_order}
 use Rattle.expand_grants.proofs.Ordered.{in_order_permutes}
 use Rattle.expand_kernel.specs.ByIndex.{CanMap, view_range, view_ranges}
@@ -60,13 +60,13 @@ distinct_views (v ∷ vs) h = (
 )
 
 -- views of which the rules hold, in order
-can_map_in_order : (vs : List View) → list_all (λ e. is_guest e.address e.size) (map view_extent vs) ≡ true → first_overlap (map view_extent vs) ≡ None → CanMap (in_order is_lower vs)
+can_map_in_order : (vs : List View) → list_all (λ e. is_guest e.address e.size) (map view_extent vs) ≡ true → first_overlap (map view_extent vs) ≡ None → CanMap (in_order is_lower_view vs)
 unfolding first_overlap
 can_map_in_order vs guests none =
     let all : All IsRange vs = All-from_recursion IsRange vs (ranges vs guests) in
-    let ys = in_order is_lower vs in
+    let ys = in_order is_lower_view vs in
     record {
-      mapped = All-map IsMapped view_range ys (All-permutation IsRange vs ys (in_order_permutes is_lower vs) all);
+      mapped = All-map IsMapped view_range ys (All-permutation IsRange vs ys (in_order_permutes is_lower_view vs) all);
       apart = pairs_mapped view_range (λ a b. a.guest + a.size ≤ b.guest) ys
           (before_in_order (λ v. v.guest) (λ v. v.size) vs (distinct_views vs (pairs_at overlapping (map view_extent vs) none)) (λ k d l. (all k d l).some));
     }
@@ -76,16 +76,16 @@ can_map_in_order vs guests none =
 module _ (r : Resolution) (q : IsResolved r) (s : Subject) (in_range : subject_in_range r s ≡ true) where
   -- its windows are as rules 4 and 5 say
   pub can_map_views : list_all (λ e. is_guest e.address e.size) (window_extents (source_of r) (subject_named r s)) ≡ true
-      → first_overlap (window_extents (source_of r) (subject_named r s)) ≡ None → CanMap (in_order is_lower (views_of r s))
+      → first_overlap (window_extents (source_of r) (subject_named r s)) ≡ None → CanMap (in_order is_lower_view (views_of r s))
   can_map_views guests none =
       let same = extents_by_index r s q in_range in
       can_map_in_order (views_of r s) (sym (ap (list_all (λ e. is_guest e.address e.size)) same) ∙ guests) (sym (ap first_overlap same) ∙ none)
 
   -- in order or not, by name or by index
-  pub pages_of_views : ept_pages (view_ranges (in_order is_lower (views_of r s))) ≡ ept_pages (map window_range (windows_of (source_of r) (subject_named r s)))
+  pub pages_of_views : ept_pages (view_ranges (in_order is_lower_view (views_of r s))) ≡ ept_pages (map window_range (windows_of (source_of r) (subject_named r s)))
   pages_of_views =
       let vs = views_of r s in
       let named : map window_range (windows_of (source_of r) (subject_named r s)) ≡ view_ranges vs =
       ap (map window_range) (windows_by_index r s q in_range) ∙ map-map window_range (view_window r s.name) vs in
-      sym (pages_permuted (view_ranges vs) (view_ranges (in_order is_lower vs)) (IsPermutation-map view_range vs (in_order is_lower vs) (in_order_permutes is_lower vs)))
+      sym (pages_permuted (view_ranges vs) (view_ranges (in_order is_lower_view vs)) (IsPermutation-map view_range vs (in_order is_lower_view vs) (in_order_permutes is_lower_view vs)))
       ∙ sym (λ i. ept_pages (named i))

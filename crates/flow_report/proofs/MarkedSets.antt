@@ -7,15 +7,15 @@ use Rattle.std.proofs.lemmas.Bool.Decides.{same_from_decides}
 use Rattle.policy_lawful.specs.source.Source.{Source}
 use Rattle.policy_lawful.specs.source.Subject.{Subject}
 use Rattle.policy_flows.specs.Flows.{IsLeastClosed, closure_of, flows_to, is_member, rounds}
-use Rattle.flow_report.specs.Marks.{after_rounds, round, touches}
-use Rattle.flow_report.specs.Sets.{AreFlows, AreLeastClosed, marked, members_of}
+use Rattle.flow_report.specs.Marks.{after_rounds, round, have_common_mark}
+use Rattle.flow_report.specs.Sets.{AreFlows, AreLeastClosed, marked_elements, members_of}
 use Rattle.policy_flows.proofs.UniqueSubjects.{HasUniqueNames}
 use Rattle.policy_flows.proofs.Closures.{after_by_test, after_in, after_some, closure_after, closure_is_least, joins, members_after, test_after}
 use Rattle.muen_num.proofs.Members.{In, any_agree, map_agree}
 
 -- ---- marks that are a test's
 
-touches_by : {X : Type 0} (test flows : X → Bool) (xs : List X) → touches (map test xs) (map flows xs) ≡ list_any (λ x. test x && flows x) xs
+touches_by : {X : Type 0} (test flows : X → Bool) (xs : List X) → have_common_mark (map test xs) (map flows xs) ≡ list_any (λ x. test x && flows x) xs
 touches_by test flows [] = refl
 touches_by test flows (x ∷ xs) = ap (λ b. (test x && flows x) || b) (touches_by test flows xs)
 
@@ -26,15 +26,15 @@ map_zip h f g (x ∷ xs) = ap (λ ys. h (f x, g x) ∷ ys) (map_zip h f g xs)
 -- a round on the marks of a test
 round_by : {X : Type 0} (test : X → Bool) (flows : X → X → Bool) (xs : List X) → round (map (λ u. map (flows u) xs) xs) (map test xs) ≡ map (λ u. test u || list_any (λ s. test s && flows u s) xs) xs
 round_by test flows xs =
-    map_zip (λ x. x.0 || touches (map test xs) x.1) test (λ u. map (flows u) xs) xs
-    ∙ map_agree (λ u. test u || touches (map test xs) (map (flows u) xs)) (λ u. test u || list_any (λ s. test s && flows u s) xs) xs (λ u _. ap (λ b. test u || b) (touches_by test (flows u) xs))
+    map_zip (λ x. x.0 || have_common_mark (map test xs) x.1) test (λ u. map (flows u) xs) xs
+    ∙ map_agree (λ u. test u || have_common_mark (map test xs) (map (flows u) xs)) (λ u. test u || list_any (λ s. test s && flows u s) xs) xs (λ u _. ap (λ b. test u || b) (touches_by test (flows u) xs))
 
 -- the names that are marked
-marked_by : {X Y : Type 0} (test : X → Bool) (f : X → Y) (xs : List X) → marked (map test xs) (map f xs) ≡ map f (filter test xs)
-unfolding marked
+marked_by : {X Y : Type 0} (test : X → Bool) (f : X → Y) (xs : List X) → marked_elements (map test xs) (map f xs) ≡ map f (filter test xs)
+unfolding marked_elements
 marked_by test f [] = refl
 marked_by test f (x ∷ xs) =
-    elim (test x) as (λ b. marked (b ∷ map test xs) (f x ∷ map f xs) ≡ map f (cond b (x ∷ filter test xs) (filter test xs))) [
+    elim (test x) as (λ b. marked_elements (b ∷ map test xs) (f x ∷ map f xs) ≡ map f (cond b (x ∷ filter test xs) (filter test xs))) [
       | true ↦ ap (λ ys. f x ∷ ys) (marked_by test f xs)
       | false ↦ marked_by test f xs
     ]

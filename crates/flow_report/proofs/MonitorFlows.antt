@@ -16,14 +16,14 @@ use Rattle.policy_lawful.specs.source.Monitor.{Monitor as NamedMonitor}
 use Rattle.policy_lawful.proofs.WindowsByIndex.{subject_parts}
 use Rattle.policy_flows.specs.Flows.{by_change, by_plan, by_sight}
 use Rattle.muen_num.proofs.Members.{any_agree, passes_in}
-use Rattle.flow_report.specs.ByIndex.{is_chooser, subject_changed}
+use Rattle.flow_report.specs.ByIndex.{is_frame_chooser, subject_changed}
 use Rattle.muen_num.specs.Numbers.{is_among}
 use Rattle.flow_report.proofs.IndexesOfSubjects.{At, any_filter_map, is_in_range, same_subject}
 
 abbrev monitor_named : Resolution → Monitor → NamedMonitor
 monitor_named r m = record { subject = name_at (subject_names r) m.subject; virtual_address = m.virtual_address; rights = m.rights }
 
-pub plan_same : (r : Resolution) (u : Subject) → by_plan (source_of r) (subject_named r u) ≡ is_chooser r.scheduling.tau0 u.name
+pub plan_same : (r : Resolution) (u : Subject) → by_plan (source_of r) (subject_named r u) ≡ is_frame_chooser r.scheduling.tau0 u.name
 unfolding source_of
 plan_same r u = refl
 

@@ -11,8 +11,8 @@ use Rattle.policy_lawful.specs.source.Subject.{Subject as NamedSubject}
 use Rattle.policy_flows.specs.Flows.{closure_of}
 use Rattle.muen_num.proofs.Members.{In}
 use Rattle.flow_report.specs.FlowText.{flow_line, flow_text_of}
-use Rattle.flow_report.specs.Sets.{AreFlows, marked, members_of}
-use Rattle.flow_report.specs.TextByIndex.{line_at, line_end, line_start, lines_text, member_at, member_text, members_text}
+use Rattle.flow_report.specs.Sets.{AreFlows, marked_elements, members_of}
+use Rattle.flow_report.specs.TextByIndex.{flow_line_at, line_end, line_start, lines_text, member_at, member_text, members_text}
 use Rattle.flow_report.proofs.IndexesOfSubjects.{at_number}
 
 -- ---- the members of a set
@@ -20,24 +20,24 @@ use Rattle.flow_report.proofs.IndexesOfSubjects.{at_number}
 abbrev spaced : List (List ℕ) → List ℕ
 spaced names = flat_map (λ m. codes " " ++ m) names
 
-marked_none : {X : Type 0} (bs : List Bool) → marked {X = X} bs [] ≡ []
-unfolding marked
+marked_none : {X : Type 0} (bs : List Bool) → marked_elements {X = X} bs [] ≡ []
+unfolding marked_elements
 marked_none [] = refl
 marked_none (b ∷ bs) = refl
 
 -- the first of those from an index on, and the others
-member_first : (n : ℕ) (set : List Bool) (name : List ℕ) (names : List (List ℕ)) → spaced (marked (drop n set) (name ∷ names)) ≡ member_text (slice_index_or set n false) name ++ spaced (marked (drop (suc n) set) names)
-unfolding marked
+member_first : (n : ℕ) (set : List Bool) (name : List ℕ) (names : List (List ℕ)) → spaced (marked_elements (drop n set) (name ∷ names)) ≡ member_text (slice_index_or set n false) name ++ spaced (marked_elements (drop (suc n) set) names)
+unfolding marked_elements
 member_first zero [] name names = refl
 member_first zero (true ∷ bs) name names = refl
 member_first zero (false ∷ bs) name names = refl
 member_first (suc n) [] name names = refl
 member_first (suc n) (b ∷ bs) name names = member_first n bs name names
 
-members_from : (n : ℕ) (set : List Bool) (xs : List Subject) → flat_map (member_at set) (enumerate_from n xs) ≡ spaced (marked (drop n set) (map (λ s. s.name) xs))
+members_from : (n : ℕ) (set : List Bool) (xs : List Subject) → flat_map (member_at set) (enumerate_from n xs) ≡ spaced (marked_elements (drop n set) (map (λ s. s.name) xs))
 members_from n set [] = ap spaced (sym (marked_none (drop n set)))
 members_from n set (x ∷ xs) =
-    ap (λ text. member_text (slice_index_or set n false) x.name ++ text) (members_from (n + 1) set xs ∙ ap (λ k. spaced (marked (drop k set) (map (λ s. s.name) xs))) (add-one n))
+    ap (λ text. member_text (slice_index_or set n false) x.name ++ text) (members_from (n + 1) set xs ∙ ap (λ k. spaced (marked_elements (drop k set) (map (λ s. s.name) xs))) (add-one n))
     ∙ sym (member_first n set x.name (map (λ s. s.name) xs))
 
 pub members_same : (set : List Bool) (xs : List Subject) → flat_map (member_at set) (enumerate_from 0 xs) ≡ members_text set xs
@@ -67,20 +67,20 @@ unfolding line_start line_end
 line_is name members = refl
 
 module _ (r : Resolution) (sets : List (List Bool)) (flows : AreFlows (source_of r) sets) where
-  line_same : (x : ℕ × Subject) → slice_get r.subjects x.0 ≡ Some x.1 → line_at r.subjects sets x ≡ flow_line x.1.name (closure_of (source_of r) x.1.name)
+  line_same : (x : ℕ × Subject) → slice_get r.subjects x.0 ≡ Some x.1 → flow_line_at r.subjects sets x ≡ flow_line x.1.name (closure_of (source_of r) x.1.name)
   unfolding source_of
   line_same (k, s) at =
       let here : slice_get (source_of r).subjects k ≡ Some (subject_named r s) = slice_get-map (subject_named r) r.subjects k ∙ ap (option_map (subject_named r)) at in
       let members : members_of (source_of r) (slice_index_or sets k []) ≡ closure_of (source_of r) s.name =
       same_image (members_of (source_of r)) (λ (t : NamedSubject). closure_of (source_of r) t.name) sets (source_of r).subjects k (subject_named r s) [] flows here in
-      line_is s.name (marked (slice_index_or sets k []) (subject_names r))
-      ∙ ap (λ names. flow_line s.name (marked (slice_index_or sets k []) names)) (sym (names_of_subjects r))
+      line_is s.name (marked_elements (slice_index_or sets k []) (subject_names r))
+      ∙ ap (λ names. flow_line s.name (marked_elements (slice_index_or sets k []) names)) (sym (names_of_subjects r))
       ∙ ap (flow_line s.name) members
 
   pub text_same : lines_text r.subjects sets ≡ flow_text_of (source_of r)
   unfolding flow_text_of source_of
   text_same =
       let line : NamedSubject → List ℕ = λ s. flow_line s.name (closure_of (source_of r) s.name) in
-      flat_agree (line_at r.subjects sets) (λ x. line (subject_named r x.1)) (enumerate_from 0 r.subjects) (λ x i. line_same x (at_number r.subjects x i))
+      flat_agree (flow_line_at r.subjects sets) (λ x. line (subject_named r x.1)) (enumerate_from 0 r.subjects) (λ x i. line_same x (at_number r.subjects x i))
       ∙ sym (flat_numbered (λ s. line (subject_named r s)) 0 r.subjects)
       ∙ sym (flat_map-map line (subject_named r) r.subjects)

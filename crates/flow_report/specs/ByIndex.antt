@@ -62,8 +62,8 @@ abbrev pub subject_changed : Monitor → Option ℕ
 subject_changed m = if allows m.rights Write then Some m.subject else None
 
 -- the subject of this name chooses the major frames
-abbrev pub is_chooser : Option Tau0 → List ℕ → Bool
-is_chooser o name = option_map_or (λ t. bytes_eq t.subject name) o false
+abbrev pub is_frame_chooser : Option Tau0 → List ℕ → Bool
+is_frame_chooser o name = option_map_or (λ t. bytes_eq t.subject name) o false
 
 -- ---- contacts
 
@@ -75,7 +75,7 @@ contacts_of r (index, s) = record {
   changes = filter_map region_changed (views_of r s);
   maps = filter_map (λ v. region_shown v.shows) (views_of r s);
   reaches = filter_map (λ e. reached_by r.subjects s.sources e.way) s.sources;
-  chooses = is_chooser r.scheduling.tau0 s.name;
+  chooses = is_frame_chooser r.scheduling.tau0 s.name;
   watches = map (λ m. m.subject) s.monitors;
   alters = filter_map subject_changed s.monitors;
 }

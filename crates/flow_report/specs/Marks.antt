@@ -6,12 +6,12 @@ use Rattle.flow_report.specs.ByIndex.{rows_of}
 use Rattle.flow_report.specs.declared.contacts.Contacts.{Contacts}
 
 -- an index is marked in both
-abbrev pub touches : List Bool → List Bool → Bool
-touches marks row = list_any (λ x. x.0 && x.1) (zip marks row)
+abbrev pub have_common_mark : List Bool → List Bool → Bool
+have_common_mark marks row = list_any (λ x. x.0 && x.1) (zip marks row)
 
 -- the marks, and those whose rows touch them
 abbrev pub round : List (List Bool) → List Bool → List Bool
-round rows marks = map (λ x. x.0 || touches marks x.1) (zip marks rows)
+round rows marks = map (λ x. x.0 || have_common_mark marks x.1) (zip marks rows)
 
 -- after so many rounds
 unfoldable pub after_rounds : List (List Bool) → List Bool → ℕ → List Bool

@@ -6,15 +6,15 @@ use Rattle.policy_flows.specs.Flows.{IsLeastClosed, closure_of}
 use Rattle.proof_isolation.specs.TwoSystems.{DependOnMembersAlone}
 
 -- those elements whose index is marked
-unfoldable pub marked : {X : Type 0} → List Bool → List X → List X
-marked [] xs = []
-marked (b ∷ bs) [] = []
-marked (true ∷ bs) (x ∷ xs) = x ∷ marked bs xs
-marked (false ∷ bs) (x ∷ xs) = marked bs xs
+unfoldable pub marked_elements : {X : Type 0} → List Bool → List X → List X
+marked_elements [] xs = []
+marked_elements (b ∷ bs) [] = []
+marked_elements (true ∷ bs) (x ∷ xs) = x ∷ marked_elements bs xs
+marked_elements (false ∷ bs) (x ∷ xs) = marked_elements bs xs
 
 -- the subjects, by name, of a set of indexes
 abbrev pub members_of : Source → List Bool → List (List ℕ)
-members_of p set = marked set (map (λ s. s.name) p.subjects)
+members_of p set = marked_elements set (map (λ s. s.name) p.subjects)
 
 -- for each subject the closed set
 abbrev pub AreFlows : Source → List (List Bool) → Type 0

@@ -3,7 +3,7 @@ ghost use Rattle.std.specs.Prelude.{◌≡◌, ◌==◌, map, slice_get, Some, I
 ghost use Rattle.std.specs.List.{filter_map, list_any};
 ghost use Rattle.policy_lawful.specs.Resolution.{IsResolved};
 ghost use Rattle.policy_lawful.specs.Events.{same_way};
-ghost use Rattle.flow_report.specs.ByIndex.{all_contacts_of, channel_read, channel_written, contacts_of, event_by, first_target, flows_between, is_chooser, reached_by, region_changed, region_shown, subject_changed};
+ghost use Rattle.flow_report.specs.ByIndex.{all_contacts_of, channel_read, channel_written, contacts_of, event_by, first_target, flows_between, is_frame_chooser, reached_by, region_changed, region_shown, subject_changed};
 ghost use Rattle.muen_num.specs.Numbers.{is_among, share};
 
 use muen_num::{AccessKind, Name, NoMemory, Seq};
@@ -125,7 +125,7 @@ fn subject_changed(monitor: &Monitor) -> Option<usize>
 }
 
 fn is_chooser(tau0: &Option<Tau0>, name: &Name) -> bool
-    ensures { result ≡ is_chooser tau0.now name.now }
+    ensures { result ≡ is_frame_chooser tau0.now name.now }
 {
     match tau0 {
         None => false,

@@ -2,7 +2,7 @@
 ghost use Rattle.std.specs.Prelude.{◌≡◌, map, IfOk};
 ghost use Rattle.policy_lawful.specs.Resolution.{source_of};
 ghost use Rattle.flow_report.specs.ByIndex.{flows_between, rows_of};
-ghost use Rattle.flow_report.specs.Marks.{after_rounds, alone_marked, round, sets_after, touches};
+ghost use Rattle.flow_report.specs.Marks.{after_rounds, alone_marked, round, sets_after, have_common_mark};
 ghost use Rattle.flow_report.specs.Sets.{AreApart, AreFlows, AreLeastClosed};
 
 use crate::contacts::{Contacts, all_contacts, flows_between};
@@ -57,7 +57,7 @@ fn rows(alloc: Global, all_contacts: &[Contacts]) -> Result<Vec<Seq<bool>>, NoMe
 
 // Whether some index is marked in both.
 fn touches(marks: &[bool], row: &[bool]) -> bool
-    ensures { result ≡ touches marks.now row.now }
+    ensures { result ≡ have_common_mark marks.now row.now }
 {
     marks.iter().zip(row).any(|(mark, flows)| *mark && *flows)
 }

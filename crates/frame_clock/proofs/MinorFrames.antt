@@ -3,7 +3,7 @@ use Rattle.std.proofs.Common.{◌≡◌, ℕ, ◌-◌, ◌∙◌, List, [], Opti
 use Rattle.std.specs.Prelude.{slice_get, option_map, option_and_then, unwrap_or}
 use Rattle.std.specs.List.{flat_map}
 use Rattle.std.proofs.lemmas.Option.{slice_get-map, unwrap_or-slice_get}
-use Rattle.frame_clock.specs.Plan.{frame_of, frames_in}
+use Rattle.frame_clock.specs.Plan.{frame_of_minor, frames_in}
 use Rattle.frame_clock.specs.Slot.{Slot, frame_slots}
 use Rattle.frame_clock.specs.declared.plan.Major.{Major}
 use Rattle.frame_clock.specs.declared.plan.Minor.{Minor}
@@ -31,14 +31,14 @@ pub no_major : (p : Plan) (cpu : ℕ) (at : FrameAt) (tick : ℕ) → slice_get 
 no_major p cpu at tick is = sym (by_major p cpu at tick None is)
 
 -- the minor frames of a CPU; none of a CPU that isn't there
-frames_are : (m : Major) (cpu : ℕ) (o : Option (List Minor)) → slice_get m.cpus cpu ≡ o → frames_at cpu m ≡ map frame_of (unwrap_or o [])
-frames_are m cpu o is = ap (map frame_of) (sym (unwrap_or-slice_get m.cpus cpu []) ∙ ap (λ x. unwrap_or x []) is)
+frames_are : (m : Major) (cpu : ℕ) (o : Option (List Minor)) → slice_get m.cpus cpu ≡ o → frames_at cpu m ≡ map frame_of_minor (unwrap_or o [])
+frames_are m cpu o is = ap (map frame_of_minor) (sym (unwrap_or-slice_get m.cpus cpu []) ∙ ap (λ x. unwrap_or x []) is)
 
-by_cpu : (p : Plan) (cpu : ℕ) (at : FrameAt) (tick : ℕ) (m : Major) (o : Option (List Minor)) → slice_get p.majors at.major ≡ Some m → slice_get m.cpus cpu ≡ o → slot_in (frames_in p cpu) at tick ≡ slot_of_frames at tick (map frame_of (unwrap_or o []))
+by_cpu : (p : Plan) (cpu : ℕ) (at : FrameAt) (tick : ℕ) (m : Major) (o : Option (List Minor)) → slice_get p.majors at.major ≡ Some m → slice_get m.cpus cpu ≡ o → slot_in (frames_in p cpu) at tick ≡ slot_of_frames at tick (map frame_of_minor (unwrap_or o []))
 by_cpu p cpu at tick m o is fs = by_major p cpu at tick (Some m) is ∙ ap (slot_of_frames at tick) (frames_are m cpu o fs)
 
 pub no_cpu : (p : Plan) (cpu : ℕ) (at : FrameAt) (tick : ℕ) (m : Major) → slice_get p.majors at.major ≡ Some m → slice_get m.cpus cpu ≡ None → None ≡ slot_in (frames_in p cpu) at tick
 no_cpu p cpu at tick m is none = sym (by_cpu p cpu at tick m None is none)
 
-pub in_frames_there : (p : Plan) (cpu : ℕ) (at : FrameAt) (tick : ℕ) (m : Major) (fs : List Minor) → slice_get p.majors at.major ≡ Some m → slice_get m.cpus cpu ≡ Some fs → slice_get (flat_map (frame_slots at.major) (map frame_of fs)) (tick - at.start) ≡ slot_in (frames_in p cpu) at tick
+pub in_frames_there : (p : Plan) (cpu : ℕ) (at : FrameAt) (tick : ℕ) (m : Major) (fs : List Minor) → slice_get p.majors at.major ≡ Some m → slice_get m.cpus cpu ≡ Some fs → slice_get (flat_map (frame_slots at.major) (map frame_of_minor fs)) (tick - at.start) ≡ slot_in (frames_in p cpu) at tick
 in_frames_there p cpu at tick m fs is found = sym (by_cpu p cpu at tick m (Some fs) is found)

@@ -11,7 +11,7 @@ use Rattle.std.proofs.lemmas.Option.{slice_get-map, slice_get_within}
 use Rattle.muen_num.specs.Frame.{Frame}
 use Rattle.muen_num.specs.Range.{numbers_below}
 use Rattle.muen_num.specs.declared.limits.TheConstants.{MOST_CPUS, MOST_MAJOR_FRAMES, MOST_MINOR_FRAMES, MOST_TICKS}
-use Rattle.frame_clock.specs.Plan.{frame_of, cpus_of, is_group_on, is_minor, is_cpu, is_major, is_plan}
+use Rattle.frame_clock.specs.Plan.{frame_of_minor, cpus_of, is_group_on, is_minor, is_cpu, is_major, is_plan}
 use Rattle.frame_clock.specs.Slot.{Slot, frame_slots, slots_from}
 use Rattle.frame_clock.specs.declared.plan.GroupPart.{GroupPart}
 use Rattle.frame_clock.specs.declared.plan.Minor.{Minor}
@@ -86,7 +86,7 @@ later_major major m ms k =
 
 -- the minor frames of a CPU in a major frame
 abbrev pub frames_at : ℕ → Major → List Frame
-frames_at cpu m = map frame_of (slice_index_or m.cpus cpu [])
+frames_at cpu m = map frame_of_minor (slice_index_or m.cpus cpu [])
 
 pub record HasFrames (groups : List GroupPart) (ticks cpu : ℕ) (frames : List Minor) : Type 0 where
   pub some : 0 < length frames
@@ -185,10 +185,10 @@ frames_there groups cpus m cpu h l =
 
 -- ---- the ticks of a valid plan
 
-minor_ticks : (fs : List Minor) → ticks_of (map frame_of fs) ≡ sum_by (λ f. f.ticks) fs
+minor_ticks : (fs : List Minor) → ticks_of (map frame_of_minor fs) ≡ sum_by (λ f. f.ticks) fs
 minor_ticks [] = refl
 minor_ticks (f ∷ fs) =
-    sum_by-cons (λ (g : Frame). g.ticks) (frame_of f) (map frame_of fs)
+    sum_by-cons (λ (g : Frame). g.ticks) (frame_of_minor f) (map frame_of_minor fs)
     ∙ ap (λ n. f.ticks + n) (minor_ticks fs)
     ∙ sym (sum_by-cons (λ (g : Minor). g.ticks) f fs)
 

@@ -18,8 +18,8 @@ next_major count major (Some pick) = if nat_lt pick count then pick else major
 next_major count major None = if nat_lt (major + 1) count then major + 1 else 0
 
 -- how many ticks each major frame has
-abbrev pub ticks_of_majors : Plan → List ℕ
-ticks_of_majors p = map (λ m. m.ticks) p.majors
+abbrev pub ticks_of_plan_majors : Plan → List ℕ
+ticks_of_plan_majors p = map (λ m. m.ticks) p.majors
 
 abbrev pub frame_by_ticks : ℕ → FrameAt → Option ℕ → ℕ → Option ℕ → FrameAt
 frame_by_ticks count at pick tick None = at

@@ -11,12 +11,12 @@ use Rattle.frame_clock.specs.declared.plan.Plan.{Plan}
 
 -- ---- the frames of a CPU
 
-abbrev pub frame_of : Minor → Frame
-frame_of f = record { group = f.group; ticks = f.ticks }
+abbrev pub frame_of_minor : Minor → Frame
+frame_of_minor f = record { group = f.group; ticks = f.ticks }
 
 -- the minor frames of a CPU, in each of the major frames
 unfoldable pub frames_in : Plan → ℕ → List (List Frame)
-frames_in p cpu = map (λ m. map frame_of (slice_index_or m.cpus cpu [])) p.majors
+frames_in p cpu = map (λ m. map frame_of_minor (slice_index_or m.cpus cpu [])) p.majors
 
 -- how many CPUs it plans
 abbrev pub cpus_in : List Major → ℕ

@@ -2,7 +2,7 @@
 ghost use Rattle.std.specs.Prelude.{◌≡◌, ◌<◌, map, option_map, slice_get};
 ghost use Rattle.frame_clock.specs.Plan.{frames_in};
 ghost use Rattle.frame_clock.specs.FrameSlot.{slot_of};
-ghost use Rattle.frame_clock.specs.Frames.{next_major, frame_at_tick, slot_in, ticks_of_majors, first_frame};
+ghost use Rattle.frame_clock.specs.Frames.{next_major, frame_at_tick, slot_in, ticks_of_plan_majors, first_frame};
 
 use crate::{FrameSlot, Major, Minor, Plan, in_frames};
 use muen_num::Seq;
@@ -67,7 +67,7 @@ fn next_major(count: usize, major: usize, pick: Option<u8>) -> usize
 /// frame begins. That is the one that is picked, by its number, and the same one again where
 /// there is no such; where nothing is picked it is the one behind it, and the first behind the last.
 pub fn advance(p: &Plan, at: FrameAt, pick: Option<u8>, tick: u32) -> FrameAt
-    ensures { result ≡ frame_at_tick (ticks_of_majors p.now) at pick tick }
+    ensures { result ≡ frame_at_tick (ticks_of_plan_majors p.now) at pick tick }
 {
     let majors = p.majors.items();
     let ticks = match ticks_of(majors, at.major) {

@@ -11,7 +11,7 @@ mod plan;
 
 ghost use Rattle.std.specs.Prelude.{◌≡◌, map, option_map, slice_get};
 ghost use Rattle.std.specs.List.{flat_map};
-ghost use Rattle.frame_clock.specs.Plan.{frame_of};
+ghost use Rattle.frame_clock.specs.Plan.{frame_of_minor};
 ghost use Rattle.frame_clock.specs.Slot.{frame_slots};
 ghost use Rattle.frame_clock.specs.FrameSlot.{slot_of};
 
@@ -33,7 +33,7 @@ pub struct FrameSlot {
 
 // The slot at a tick of a major frame, of a CPU with these minor frames in it. None behind them.
 fn in_frames(frames: &[Minor], major: usize, tick: u32) -> Option<FrameSlot>
-    ensures { slice_get (flat_map (frame_slots major) (map frame_of frames.now)) tick ≡ option_map slot_of result }
+    ensures { slice_get (flat_map (frame_slots major) (map frame_of_minor frames.now)) tick ≡ option_map slot_of result }
 {
     let mut rest = tick;
     for frame in frames {

@@ -19,7 +19,7 @@ use Rattle.region_alloc.proofs.HasRoom.{has_room}
 use Rattle.region_alloc.specs.Placement.{no_room, placement_of}
 use Rattle.generated_system.proofs.Room.{IsSmall, small_placed}
 use Rattle.generated_system.proofs.Shapes.{below_four}
-use Rattle.generated_system.specs.System.{block, channel, code_of, code_region, first_ticks_for, generated_system, subject, subjects_on, system_with}
+use Rattle.generated_system.specs.System.{generated_block, channel, code_of, code_region, first_ticks_for, generated_system, subject, subjects_on, system_with}
 use Rattle.muen_num.specs.Range.{numbers_below}
 
 -- ---- the tables of a subject
@@ -172,7 +172,7 @@ unfolding placement_of
 room_for cpus first code known =
     let p : Source = system_with cpus first code in
     let small = All-from_recursion IsSmall (regions_of p) (small_regions cpus first code known) in
-    let places = small_placed block (regions_of p) (refl, refl) small (known.few first code) in
+    let places = small_placed generated_block (regions_of p) (refl, refl) small (known.few first code) in
     has_room p places.addresses places.is
 
 pub generated_room : (n : ℕ) → no_room (generated_system n) ≡ None

@@ -11,7 +11,7 @@ use Rattle.record_text.specs.Reading.{all_ascii}
 use Rattle.record_text.specs.declared.fault.RecordFault.TheVariants.{NotAscii}
 use Rattle.record_text.specs.Parts.{lines_of, parts_of}
 use Rattle.record_text.specs.Words.{words_of}
-use Rattle.generated_system.specs.RecordText.{line_of, with_line_feed}
+use Rattle.generated_system.specs.RecordText.{words_line, with_line_feed}
 use Rattle.muen_num.proofs.Lists.{each_from}
 
 -- ---- parts
@@ -71,14 +71,14 @@ digits_word ds h = each_from is_ascii_digit is_visible digit_visible ds h
 
 -- ---- a line
 
-pub words_back : (kind : List ℕ) (words : List (List ℕ)) → list_all is_word (kind ∷ words) ≡ true → words_of (line_of kind words) ≡ kind ∷ words
+pub words_back : (kind : List ℕ) (words : List (List ℕ)) → list_all is_word (kind ∷ words) ≡ true → words_of (words_line kind words) ≡ kind ∷ words
 unfolding words_of
 words_back kind [] h =
     let parts = and_parts (is_word kind) true h in
     ap (parts_of 32) (append-nil kind) ∙ part_alone 32 kind (each_from is_visible (λ c. not (c == 32)) visible_clear kind parts.0)
 words_back kind (word ∷ words) h =
     let parts = and_parts (is_word kind) (list_all is_word (word ∷ words)) h in
-    part_then 32 kind (line_of word words) (each_from is_visible (λ c. not (c == 32)) visible_clear kind parts.0)
+    part_then 32 kind (words_line word words) (each_from is_visible (λ c. not (c == 32)) visible_clear kind parts.0)
     ∙ ap (λ ws. kind ∷ ws) (words_back word words parts.1)
 
 further_plain : (words : List (List ℕ)) → list_all is_word words ≡ true → is_plain (flat_map (λ word. 32 ∷ word) words) ≡ true
@@ -88,7 +88,7 @@ further_plain (word ∷ words) h =
     list_all-append is_printed word (flat_map (λ word. 32 ∷ word) words)
     ∙ and_from (is_plain word) (is_plain (flat_map (λ word. 32 ∷ word) words)) (each_from is_visible is_printed visible_printed word parts.0) (further_plain words parts.1)
 
-pub line_plain : (kind : List ℕ) (words : List (List ℕ)) → list_all is_word (kind ∷ words) ≡ true → is_plain (line_of kind words) ≡ true
+pub line_plain : (kind : List ℕ) (words : List (List ℕ)) → list_all is_word (kind ∷ words) ≡ true → is_plain (words_line kind words) ≡ true
 line_plain kind words h =
     let parts = and_parts (is_word kind) (list_all is_word words) h in
     list_all-append is_printed kind (flat_map (λ word. 32 ∷ word) words)

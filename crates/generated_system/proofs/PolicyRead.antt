@@ -24,7 +24,7 @@ use Rattle.std.proofs.lemmas.Str.{is_utf8-from_IsUtf8}
 use Rattle.generated_system.proofs.CodeBytes.{code_bytes}
 use Rattle.generated_system.proofs.Shapes.{below_eight}
 use Rattle.generated_system.specs.PolicyValue.{block_value, channel_value, device_value, devices_value, frames_value, generated_value, group_value, list, minor_frame_value, reader_value, region_value, scheduling_value, subject_value, system_value, whole_device_value, window_value, writer_value}
-use Rattle.generated_system.specs.System.{block, channel, channel_name, code_of, code_region, cpus_for, device, devices_of_subject, first_ticks_for, frames, generated_system, group, group_name, minor_frame, one_before, reads_from, region_name, scheduling_with, subject, subject_name, subjects_on, system_with, whole_device, writes_to}
+use Rattle.generated_system.specs.System.{generated_block, channel, channel_name, code_of, code_region, cpus_for, device, devices_of_subject, first_ticks_for, generated_cpu_frames, generated_system, group, group_name, generated_minor_frame, one_before, reads_from_channel, region_name, scheduling_with, subject, generated_subject_name, subjects_on, system_with, whole_device, writes_to}
 
 -- ---- names
 
@@ -36,9 +36,9 @@ channel_named : (i : ℕ) → i < 8 → read_name (string (channel_name i)) ≡ 
 unfolding read_name is_name digits
 channel_named = below_eight (λ i. read_name (string (channel_name i)) ≡ Ok (channel_name i)) refl refl refl refl refl refl refl refl
 
-subject_named : (i : ℕ) → i < 8 → read_name (string (subject_name i)) ≡ Ok (subject_name i)
+subject_named : (i : ℕ) → i < 8 → read_name (string (generated_subject_name i)) ≡ Ok (generated_subject_name i)
 unfolding read_name is_name digits
-subject_named = below_eight (λ i. read_name (string (subject_name i)) ≡ Ok (subject_name i)) refl refl refl refl refl refl refl refl
+subject_named = below_eight (λ i. read_name (string (generated_subject_name i)) ≡ Ok (generated_subject_name i)) refl refl refl refl refl refl refl refl
 
 group_named : (i : ℕ) → i < 8 → read_name (string (group_name i)) ≡ Ok (group_name i)
 unfolding read_name is_name digits
@@ -78,7 +78,7 @@ writer_read : (i : ℕ) → i < 8 → read_object table.channel_use (writer_valu
 unfolding writer_value read_object table.channel_use read_known description read_required read_if_present read_number read_role
 writer_read i less = rw (channel_named i less) refl
 
-reader_read : (i : ℕ) → i < 8 → read_object table.channel_use (reader_value i) ≡ Ok (reads_from i)
+reader_read : (i : ℕ) → i < 8 → read_object table.channel_use (reader_value i) ≡ Ok (reads_from_channel i)
 unfolding reader_value read_object table.channel_use read_known description read_required read_if_present read_number read_role
 reader_read i less = rw (channel_named i less) refl
 
@@ -127,43 +127,43 @@ subject_read cpus i less before =
     rw (
       subject_named i less,
       one_read (read_object table.mapping) (window_value i) (record { region = region_name i; virtual_address = 4194304; rights = Rx }) (window_read i less),
-      two_read (read_object table.channel_use) (writer_value i) (reader_value (one_before cpus i)) (writes_to i) (reads_from (one_before cpus i)) (writer_read i less) (reader_read (one_before cpus i) before),
+      two_read (read_object table.channel_use) (writer_value i) (reader_value (one_before cpus i)) (writes_to i) (reads_from_channel (one_before cpus i)) (writer_read i less) (reader_read (one_before cpus i) before),
       devices_read i,
     ) refl
 
 group_read : (i : ℕ) → i < 8 → read_object table.group (group_value i) ≡ Ok (group i)
 unfolding group_value read_object table.group read_known description read_required read_optional read_if_present read_number
 group_read i less =
-    rw (group_named i less, one_read read_name (string (subject_name i)) (subject_name i) (subject_named i less)) refl
+    rw (group_named i less, one_read read_name (string (generated_subject_name i)) (generated_subject_name i) (subject_named i less)) refl
 
-minor_frame_read : (i ticks : ℕ) → i < 8 → read_object table.minor_frame (minor_frame_value i ticks) ≡ Ok (minor_frame i ticks)
+minor_frame_read : (i ticks : ℕ) → i < 8 → read_object table.minor_frame (minor_frame_value i ticks) ≡ Ok (generated_minor_frame i ticks)
 unfolding minor_frame_value read_object table.minor_frame read_known description read_required read_if_present read_number
 minor_frame_read i ticks less = rw (group_named i less) refl
 
-frames_read : (first j : ℕ) → j < 4 → read_object table.cpu_frames (frames_value first j) ≡ Ok (frames first j)
+frames_read : (first j : ℕ) → j < 4 → read_object table.cpu_frames (frames_value first j) ≡ Ok (generated_cpu_frames first j)
 unfolding frames_value read_object table.cpu_frames read_known description read_required read_optional read_if_present read_number
 frames_read first j less =
-    rw (two_read (read_object table.minor_frame) (minor_frame_value (2 * j) first) (minor_frame_value (2 * j + 1) (8 - first)) (minor_frame (2 * j) first) (minor_frame (2 * j + 1) (8 - first)) (minor_frame_read (2 * j) first (omega arith)) (minor_frame_read (2 * j + 1) (8 - first) (omega arith))) refl
+    rw (two_read (read_object table.minor_frame) (minor_frame_value (2 * j) first) (minor_frame_value (2 * j + 1) (8 - first)) (generated_minor_frame (2 * j) first) (generated_minor_frame (2 * j + 1) (8 - first)) (minor_frame_read (2 * j) first (omega arith)) (minor_frame_read (2 * j + 1) (8 - first) (omega arith))) refl
 
 -- ---- the document
 
 abbrev major_value : ℕ → ℕ → Data
 major_value cpus first = object (member (codes "cpus") (list (map (frames_value first) (numbers_below cpus))) no_members)
 
-major_read : (cpus first : ℕ) → cpus ≤ 4 → read_object table.major_frame (major_value cpus first) ≡ Ok (record { cpus = map (frames first) (numbers_below cpus) })
+major_read : (cpus first : ℕ) → cpus ≤ 4 → read_object table.major_frame (major_value cpus first) ≡ Ok (record { cpus = map (generated_cpu_frames first) (numbers_below cpus) })
 unfolding read_object table.major_frame read_known description read_optional read_if_present
 major_read cpus first few =
-    rw (list_read (read_object table.cpu_frames) (frames_value first) (frames first) (numbers_below cpus) (each_below (λ j. read_object table.cpu_frames (frames_value first j) ≡ Ok (frames first j)) cpus (λ j less. frames_read first j (omega arith)))) refl
+    rw (list_read (read_object table.cpu_frames) (frames_value first) (generated_cpu_frames first) (numbers_below cpus) (each_below (λ j. read_object table.cpu_frames (frames_value first j) ≡ Ok (generated_cpu_frames first j)) cpus (λ j less. frames_read first j (omega arith)))) refl
 
 scheduling_read : (cpus first : ℕ) → cpus ≤ 4 → read_object table.scheduling (scheduling_value cpus first) ≡ Ok (scheduling_with cpus first)
 unfolding scheduling_value read_object table.scheduling read_known description read_optional read_if_present
 scheduling_read cpus first few =
     rw (
       list_read (read_object table.group) group_value group (numbers_below (subjects_on cpus)) (each_below (λ i. read_object table.group (group_value i) ≡ Ok (group i)) (subjects_on cpus) (λ i less. group_read i (omega arith))),
-      one_read (read_object table.major_frame) (major_value cpus first) (record { cpus = map (frames first) (numbers_below cpus) }) (major_read cpus first few),
+      one_read (read_object table.major_frame) (major_value cpus first) (record { cpus = map (generated_cpu_frames first) (numbers_below cpus) }) (major_read cpus first few),
     ) refl
 
-block_read : read_object table.block block_value ≡ Ok block
+block_read : read_object table.block block_value ≡ Ok generated_block
 unfolding block_value read_object table.block read_known description read_required read_if_present read_number read_name is_name
 block_read = refl
 
@@ -183,7 +183,7 @@ system_read cpus first code some few bytes =
       list_read (read_object table.channel) channel_value channel is (each_below (λ i. read_object table.channel (channel_value i) ≡ Ok (channel i)) (subjects_on cpus) (λ i less. channel_read i (omega arith))),
       one_read (read_object table.device) device_value device device_read,
       list_read (read_object table.region) (region_value code) (code_region code) is (each_below (λ i. read_object table.region (region_value code i) ≡ Ok (code_region code i)) (subjects_on cpus) (λ i less. region_read code i (omega arith) (bytes i))),
-      one_read (read_object table.block) block_value block block_read,
+      one_read (read_object table.block) block_value generated_block block_read,
       processor_read cpus,
       scheduling_read cpus first few,
       list_read (read_object table.subject) (subject_value cpus) (subject cpus) is (each_below (λ i. read_object table.subject (subject_value cpus i) ≡ Ok (subject cpus i)) (subjects_on cpus) (λ i less. subject_read cpus i (omega arith) (before_below cpus i some few))),

@@ -20,7 +20,7 @@ use Rattle.record_text.proofs.Numerals.{digits_alone, number_read}
 use Rattle.generated_system.proofs.LinesRead.{ascii_lines, digits_word, is_plain, is_word, line_plain, lines_back, words_back}
 use Rattle.generated_system.proofs.Shapes.{below_four}
 use Rattle.generated_system.specs.Record.{generated_record, inputs_at}
-use Rattle.generated_system.specs.RecordText.{end_line, irq_line, lines_in, order_line, orders_in, port_line, record_lines, record_text}
+use Rattle.generated_system.specs.RecordText.{record_end_line_text, irq_line_text, lines_in, generated_order_line, orders_in, generated_port_line, record_lines, record_text}
 use Rattle.generated_system.specs.System.{cpus_for}
 
 below_read : (end n : ℕ) → n < end → n < 2 ^ 64 → number_below end (decimal n) ≡ Ok n
@@ -116,24 +116,24 @@ record Stands (s : Standing) (j : ℕ) : Type 0 where
   fresh : (k : ℕ) → j ≤ k → list_any (λ t. t == 100 * k) s.ordered ≡ false
 
 port_entry : (cpus : ℕ) (s : Standing) (n tick value : ℕ) → s.ended ≡ false → s.tick ≤ tick → tick ≤ 100000 → value < 256
-    → entry_at (bench cpus) s n (port_line tick value) ≡ Ok (input_entry tick (port_input (codes "dev") 16 value))
+    → entry_at (bench cpus) s n (generated_port_line tick value) ≡ Ok (input_entry tick (port_input (codes "dev") 16 value))
 unfolding entry_at
 port_entry cpus s n tick value going back t v =
     rw (going, words_back (codes "port") (decimal tick ∷ codes "dev" ∷ codes "16" ∷ decimal value ∷ []) (port_words tick value (omega arith) (omega arith)), port_said cpus tick value t v, le-ltb tick s.tick back) refl
 
 irq_entry : (cpus : ℕ) (s : Standing) (n tick : ℕ) → s.ended ≡ false → s.tick ≤ tick → tick ≤ 100000
-    → entry_at (bench cpus) s n (irq_line tick) ≡ Ok (input_entry tick (irq_input (codes "dev") (codes "t")))
+    → entry_at (bench cpus) s n (irq_line_text tick) ≡ Ok (input_entry tick (irq_input (codes "dev") (codes "t")))
 unfolding entry_at
 irq_entry cpus s n tick going back t =
     rw (going, words_back (codes "irq") (decimal tick ∷ codes "dev" ∷ codes "t" ∷ []) (irq_words tick (omega arith)), irq_said cpus tick t, le-ltb tick s.tick back) refl
 
 order_entry_read : (cpus : ℕ) (s : Standing) (n tick : ℕ) → IsOrder cpus → s.ended ≡ false → s.tick ≤ tick → list_any (λ t. t == tick) s.ordered ≡ false → tick ≤ 100000
-    → entry_at (bench cpus) s n (order_line cpus tick) ≡ Ok (order_entry tick (descending cpus))
+    → entry_at (bench cpus) s n (generated_order_line cpus tick) ≡ Ok (order_entry tick (descending cpus))
 unfolding entry_at
 order_entry_read cpus s n tick o going back fresh t =
     rw (going, words_back (codes "order") (decimal tick ∷ map decimal (descending cpus)) (order_words cpus tick o (omega arith)), order_said cpus tick o t, le-ltb tick s.tick back, o.distinct, fresh) refl
 
-end_entry_read : (cpus : ℕ) (s : Standing) (n : ℕ) → s.ended ≡ false → s.tick ≤ 20000 → entry_at (bench cpus) s n end_line ≡ Ok (end_entry 20000)
+end_entry_read : (cpus : ℕ) (s : Standing) (n : ℕ) → s.ended ≡ false → s.tick ≤ 20000 → entry_at (bench cpus) s n record_end_line_text ≡ Ok (end_entry 20000)
 unfolding entry_at
 end_entry_read cpus s n going back =
     rw (going, words_back (codes "end") (codes "20000" ∷ []) refl, end_said cpus, le-ltb 20000 s.tick back) refl
@@ -158,10 +158,10 @@ orders_at cpus j = if j % 10 == 0 then (100 * j, descending cpus) ∷ [] else []
 abbrev record_from : ℕ → List ℕ → DeviceRecord
 record_from n js = record { end = 20000; inputs = flat_map (inputs_at n) js; orders = flat_map (orders_at (cpus_for n)) js }
 
-end_read : (n : ℕ) (s : Standing) (number : ℕ) → Stands s 200 → record_after (bench (cpus_for n)) s number (end_line ∷ []) ≡ Ok (record_from n [])
+end_read : (n : ℕ) (s : Standing) (number : ℕ) → Stands s 200 → record_after (bench (cpus_for n)) s number (record_end_line_text ∷ []) ≡ Ok (record_from n [])
 unfolding record_after
 end_read n s number h =
-    line_read (bench (cpus_for n)) s number end_line [] (end_entry 20000) (record_from n []) (end_entry_read (cpus_for n) s number h.going h.tick) refl
+    line_read (bench (cpus_for n)) s number record_end_line_text [] (end_entry 20000) (record_from n []) (end_entry_read (cpus_for n) s number h.going h.tick) refl
 
 after_input : (s : Standing) (j : ℕ) → Stands s j → Stands (record s { tick = 100 * j }) j
 after_input s j h = record { going = h.going; tick = omega arith; fresh = h.fresh }
@@ -187,17 +187,17 @@ orders_read : (n j : ℕ) (s : Standing) (number : ℕ) (rest : List (List ℕ))
     → record_after (bench (cpus_for n)) s number (orders_in (cpus_for n) j ++ rest) ≡ Ok (record r { orders = orders_at (cpus_for n) j ++ r.orders })
 orders_read n j s number rest r le h more =
     let cpus : ℕ = cpus_for n in
-    elim (j % 10 == 0) as (λ b. record_after (bench cpus) s number ((if b then order_line cpus (100 * j) ∷ [] else []) ++ rest) ≡ Ok (record r { orders = (if b then (100 * j, descending cpus) ∷ [] else []) ++ r.orders })) [
+    elim (j % 10 == 0) as (λ b. record_after (bench cpus) s number ((if b then generated_order_line cpus (100 * j) ∷ [] else []) ++ rest) ≡ Ok (record r { orders = (if b then (100 * j, descending cpus) ∷ [] else []) ++ r.orders })) [
       | true ↦
           let e : Entry = order_entry (100 * j) (descending cpus) in
-          line_read (bench cpus) s number (order_line cpus (100 * j)) rest e r
+          line_read (bench cpus) s number (generated_order_line cpus (100 * j)) rest e r
           (order_entry_read cpus s number (100 * j) (is_order n) h.going h.tick (h.fresh j (omega arith)) (omega arith))
           (more (standing_after s e) (number + 1) (after_order s j (descending cpus) h))
       | false ↦ more s number (next s j h)
     ]
 
 all_read : (n k j : ℕ) (s : Standing) (number : ℕ) → j + k ≡ 200 → Stands s j
-    → record_after (bench (cpus_for n)) s number (flat_map (lines_in n) (up_from j k) ++ end_line ∷ []) ≡ Ok (record_from n (up_from j k))
+    → record_after (bench (cpus_for n)) s number (flat_map (lines_in n) (up_from j k) ++ record_end_line_text ∷ []) ≡ Ok (record_from n (up_from j k))
 all_read n zero j s number e h = let last : j ≡ 200 = omega arith in end_read n s number (rw last at h)
 all_read n (suc k) j s number e h =
     let cpus : ℕ = cpus_for n in
@@ -209,20 +209,20 @@ all_read n (suc k) j s number e h =
     let port : Entry = input_entry (100 * j) (port_input (codes "dev") 16 value) in
     let irq : Entry = input_entry (100 * j) (irq_input (codes "dev") (codes "t")) in
     let orders : DeviceRecord = record r { orders = orders_at cpus j ++ r.orders } in
-    ap (λ ls. record_after (bench cpus) s number (port_line (100 * j) value ∷ irq_line (100 * j) ∷ ls)) (append_assoc (orders_in cpus j) rest (end_line ∷ []))
-    ∙ line_read (bench cpus) s number (port_line (100 * j) value) (irq_line (100 * j) ∷ (orders_in cpus j ++ (rest ++ end_line ∷ []))) port (with_entry irq orders)
+    ap (λ ls. record_after (bench cpus) s number (generated_port_line (100 * j) value ∷ irq_line_text (100 * j) ∷ ls)) (append_assoc (orders_in cpus j) rest (record_end_line_text ∷ []))
+    ∙ line_read (bench cpus) s number (generated_port_line (100 * j) value) (irq_line_text (100 * j) ∷ (orders_in cpus j ++ (rest ++ record_end_line_text ∷ []))) port (with_entry irq orders)
     (port_entry cpus s number (100 * j) value h.going h.tick (omega arith) (omega arith))
-    (line_read (bench cpus) after (number + 1) (irq_line (100 * j)) (orders_in cpus j ++ (rest ++ end_line ∷ [])) irq orders
+    (line_read (bench cpus) after (number + 1) (irq_line_text (100 * j)) (orders_in cpus j ++ (rest ++ record_end_line_text ∷ [])) irq orders
     (irq_entry cpus after (number + 1) (100 * j) stands.going stands.tick (omega arith))
-    (orders_read n j after (number + 1 + 1) (rest ++ end_line ∷ []) r (omega arith) stands (λ x m g. all_read n k (j + 1) x m (omega arith) g)))
+    (orders_read n j after (number + 1 + 1) (rest ++ record_end_line_text ∷ []) r (omega arith) stands (λ x m g. all_read n k (j + 1) x m (omega arith) g)))
 
 -- ---- what the lines are made of
 
 orders_plain : (n j : ℕ) → j < 200 → list_all is_plain (orders_in (cpus_for n) j) ≡ true
 orders_plain n j less =
     let cpus : ℕ = cpus_for n in
-    elim (j % 10 == 0) as (λ b. list_all is_plain (if b then order_line cpus (100 * j) ∷ [] else []) ≡ true) [
-      | true ↦ and_from (is_plain (order_line cpus (100 * j))) true (line_plain (codes "order") (decimal (100 * j) ∷ map decimal (descending cpus)) (order_words cpus (100 * j) (is_order n) (omega arith))) refl
+    elim (j % 10 == 0) as (λ b. list_all is_plain (if b then generated_order_line cpus (100 * j) ∷ [] else []) ≡ true) [
+      | true ↦ and_from (is_plain (generated_order_line cpus (100 * j))) true (line_plain (codes "order") (decimal (100 * j) ∷ map decimal (descending cpus)) (order_words cpus (100 * j) (is_order n) (omega arith))) refl
       | false ↦ refl
     ]
 
@@ -230,9 +230,9 @@ lines_plain : (n j : ℕ) → j < 200 → list_all is_plain (lines_in n j) ≡ t
 lines_plain n j less =
     let value : ℕ = (j + n) % 256 in
     let orders : List (List ℕ) = orders_in (cpus_for n) j in
-    and_from (is_plain (port_line (100 * j) value)) (is_plain (irq_line (100 * j)) && list_all is_plain orders)
+    and_from (is_plain (generated_port_line (100 * j) value)) (is_plain (irq_line_text (100 * j)) && list_all is_plain orders)
     (line_plain (codes "port") (decimal (100 * j) ∷ codes "dev" ∷ codes "16" ∷ decimal value ∷ []) (port_words (100 * j) value (omega arith) (omega arith)))
-    (and_from (is_plain (irq_line (100 * j))) (list_all is_plain orders)
+    (and_from (is_plain (irq_line_text (100 * j))) (list_all is_plain orders)
     (line_plain (codes "irq") (decimal (100 * j) ∷ codes "dev" ∷ codes "t" ∷ []) (irq_words (100 * j) (omega arith)))
     (orders_plain n j less))
 
@@ -245,15 +245,15 @@ all_plain n (suc k) j e =
 numbers_are : numbers_below 200 ≡ up_from 0 200
 numbers_are = refl
 
-lines_are : (n : ℕ) → record_lines n ≡ flat_map (lines_in n) (up_from 0 200) ++ end_line ∷ []
+lines_are : (n : ℕ) → record_lines n ≡ flat_map (lines_in n) (up_from 0 200) ++ record_end_line_text ∷ []
 unfolding record_lines
-lines_are n = ap (λ js. flat_map (lines_in n) js ++ end_line ∷ []) numbers_are
+lines_are n = ap (λ js. flat_map (lines_in n) js ++ record_end_line_text ∷ []) numbers_are
 
 record_plain : (n : ℕ) → list_all is_plain (record_lines n) ≡ true
 record_plain n =
     ap (list_all is_plain) (lines_are n)
-    ∙ list_all-append is_plain (flat_map (lines_in n) (up_from 0 200)) (end_line ∷ [])
-    ∙ and_from (list_all is_plain (flat_map (lines_in n) (up_from 0 200))) (list_all is_plain (end_line ∷ [])) (all_plain n 200 0 refl) refl
+    ∙ list_all-append is_plain (flat_map (lines_in n) (up_from 0 200)) (record_end_line_text ∷ [])
+    ∙ and_from (list_all is_plain (flat_map (lines_in n) (up_from 0 200))) (list_all is_plain (record_end_line_text ∷ [])) (all_plain n 200 0 refl) refl
 
 -- ---- the whole
 

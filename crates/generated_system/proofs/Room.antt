@@ -15,7 +15,7 @@ use Rattle.muen_num.specs.Range.{numbers_below}
 use Rattle.muen_num.specs.declared.limits.TheConstants.{PHYSICAL_END}
 use Rattle.policy_lawful.specs.Ranges.{share_none}
 use Rattle.policy_lawful.specs.source.Block.{Block}
-use Rattle.region_alloc.specs.Placement.{address_in, by_number, if_placed, in_turn, is_apart, is_fixed, is_room, least_below, lowest, placed_after, placement_in, spot}
+use Rattle.region_alloc.specs.Placement.{address_in, addresses_by_number, if_placed, in_turn, is_apart, has_fixed_address, is_room, least_below, lowest, placed_after, placement_in, spot}
 use Rattle.region_alloc.proofs.EachInTurn.{regions_in_turn}
 
 -- ---- the least number that passes is at most one that does
@@ -129,10 +129,10 @@ length_in_turn : (regions : List Region) → length (in_turn regions) ≡ length
 unfolding in_turn
 length_in_turn regions =
     let all : List (ℕ × Region) = enumerate_from 0 regions in
-    let fixed : List (ℕ × Region) = filter (λ x. is_fixed x.1) all in
-    let others : List (ℕ × Region) = filter (λ x. not (is_fixed x.1)) all in
+    let fixed : List (ℕ × Region) = filter (λ x. has_fixed_address x.1) all in
+    let others : List (ℕ × Region) = filter (λ x. not (has_fixed_address x.1)) all in
     let ordered = length_in_order (λ (x y : ℕ × Region). nat_le y.1.size x.1.size) others in
-    let both = length-filter_both (λ (x : ℕ × Region). is_fixed x.1) (λ x. not (is_fixed x.1)) (λ x. refl) all in
+    let both = length-filter_both (λ (x : ℕ × Region). has_fixed_address x.1) (λ x. not (has_fixed_address x.1)) (λ x. refl) all in
     let many = length-enumerate_from 0 regions in
     omega (arith, length-append fixed (in_order (λ (x y : ℕ × Region). nat_le y.1.size x.1.size) others), ordered, both, many)
 
@@ -144,4 +144,4 @@ pub small_placed : (b : Block) (regions : List Region) → IsBlock b → All IsS
 unfolding placement_in
 small_placed b regions at small few =
     let p = placed b (in_turn regions) [] 0 at (regions_in_turn IsSmall regions small) (omega (arith, length_in_turn regions)) (λ a z l. refl) in
-    record { addresses = map (address_in p.0) (numbers_below (length regions)); is = ap (by_number (length regions)) p.1 }
+    record { addresses = map (address_in p.0) (numbers_below (length regions)); is = ap (addresses_by_number (length regions)) p.1 }

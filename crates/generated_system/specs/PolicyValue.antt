@@ -4,7 +4,7 @@ use Rattle.hex.specs.Hex.{encode_lower}
 use Rattle.muen_num.specs.Range.{numbers_below}
 use Rattle.serde_json.specs.Data.{Data, Members, array, member, no_members, number, object, string, unsigned}
 use Rattle.serde_json.specs.View.{items_of}
-use Rattle.generated_system.specs.System.{channel_name, code_address, code_of, cpus_for, first_ticks_for, group_name, one_before, read_address, region_name, subject_name, subjects_on, written_address}
+use Rattle.generated_system.specs.System.{channel_name, code_address, code_of, cpus_for, first_ticks_for, group_name, one_before, read_address, region_name, generated_subject_name, subjects_on, written_address}
 
 -- ---- kinds of values
 
@@ -78,13 +78,13 @@ subject_value cpus i = object
     (member (codes "devices") (devices_value i)
     (with_number (codes "entry") code_address
     (member (codes "memory") (list (window_value i ∷ []))
-    (with_text (codes "name") (subject_name i) no_members))))))
+    (with_text (codes "name") (generated_subject_name i) no_members))))))
 
 unfoldable pub group_value : ℕ → Data
 group_value i = object
     (with_number (codes "cpu") (i / 2)
     (with_text (codes "name") (group_name i)
-    (member (codes "subjects") (list (string (subject_name i) ∷ [])) no_members)))
+    (member (codes "subjects") (list (string (generated_subject_name i) ∷ [])) no_members)))
 
 unfoldable pub minor_frame_value : ℕ → ℕ → Data
 minor_frame_value i ticks = object (with_text (codes "group") (group_name i) (with_number (codes "ticks") ticks no_members))

@@ -43,8 +43,8 @@ first_ticks_for n = 1 + n % 7
 abbrev pub numbered : List ℕ → ℕ → List ℕ
 numbered stem i = stem ++ decimal i
 
-abbrev pub subject_name : ℕ → List ℕ
-subject_name i = numbered (codes "s") i
+abbrev pub generated_subject_name : ℕ → List ℕ
+generated_subject_name i = numbered (codes "s") i
 
 abbrev pub group_name : ℕ → List ℕ
 group_name i = numbered (codes "g") i
@@ -142,8 +142,8 @@ devices_of_subject i = if i == 0 then whole_device ∷ [] else []
 abbrev pub writes_to : ℕ → ChannelUse
 writes_to i = record { channel = channel_name i; role = Writer; virtual_address = written_address; call = Some 1; vector = None }
 
-abbrev pub reads_from : ℕ → ChannelUse
-reads_from i = record { channel = channel_name i; role = Reader; virtual_address = read_address; call = None; vector = Some 40 }
+abbrev pub reads_from_channel : ℕ → ChannelUse
+reads_from_channel i = record { channel = channel_name i; role = Reader; virtual_address = read_address; call = None; vector = Some 40 }
 
 -- the subject whose channel a subject reads: the one before it, round the ring
 abbrev pub one_before : ℕ → ℕ → ℕ
@@ -151,12 +151,12 @@ one_before cpus i = (i + subjects_on cpus - 1) % subjects_on cpus
 
 abbrev pub subject : ℕ → ℕ → Subject
 subject cpus i = record {
-  name = subject_name i;
+  name = generated_subject_name i;
   cpu = i / 2;
   entry = code_address;
   component = None;
   memory = record { region = region_name i; virtual_address = code_address; rights = Rx } ∷ [];
-  channels = writes_to i ∷ reads_from (one_before cpus i) ∷ [];
+  channels = writes_to i ∷ reads_from_channel (one_before cpus i) ∷ [];
   devices = devices_of_subject i;
   msrs = [];
   sources = [];
@@ -168,27 +168,27 @@ subject cpus i = record {
 
 -- a subject alone
 abbrev pub group : ℕ → Group
-group i = record { name = group_name i; cpu = i / 2; subjects = subject_name i ∷ [] }
+group i = record { name = group_name i; cpu = i / 2; subjects = generated_subject_name i ∷ [] }
 
-abbrev pub minor_frame : ℕ → ℕ → MinorFrame
-minor_frame i ticks = record { group = group_name i; ticks = ticks }
+abbrev pub generated_minor_frame : ℕ → ℕ → MinorFrame
+generated_minor_frame i ticks = record { group = group_name i; ticks = ticks }
 
 -- eight ticks of a CPU, of which its first subject has so many, and its second the others
-abbrev pub frames : ℕ → ℕ → CpuFrames
-frames first j = record { cpu = j; minor_frames = minor_frame (2 * j) first ∷ minor_frame (2 * j + 1) (8 - first) ∷ [] }
+abbrev pub generated_cpu_frames : ℕ → ℕ → CpuFrames
+generated_cpu_frames first j = record { cpu = j; minor_frames = generated_minor_frame (2 * j) first ∷ generated_minor_frame (2 * j + 1) (8 - first) ∷ [] }
 
 -- one major frame
 abbrev pub scheduling_with : ℕ → ℕ → Scheduling
 scheduling_with cpus first = record {
   groups = map group (numbers_below (subjects_on cpus));
-  major_frames = record { cpus = map (frames first) (numbers_below cpus) } ∷ [];
+  major_frames = record { cpus = map (generated_cpu_frames first) (numbers_below cpus) } ∷ [];
   tau0 = None;
 }
 
 -- ---- the system
 
-abbrev pub block : Block
-block = record { name = codes "ram"; physical_address = 16777216; size = 4194304 }
+abbrev pub generated_block : Block
+generated_block = record { name = codes "ram"; physical_address = 16777216; size = 4194304 }
 
 -- with so many CPUs, on which the first subjects have so many ticks, and this code of each subject
 abbrev pub system_with : ℕ → ℕ → (ℕ → List ℕ) → Source
@@ -196,7 +196,7 @@ system_with cpus first code =
     let subjects : List ℕ = numbers_below (subjects_on cpus) in
     record {
       processor = record { logical_cpus = cpus };
-      memory_blocks = block ∷ [];
+      memory_blocks = generated_block ∷ [];
       devices = device ∷ [];
       memory = map (code_region code) subjects;
       channels = map channel subjects;

@@ -2,7 +2,7 @@
 ghost use Rattle.std.specs.Prelude.{◌≡◌, ◌++◌, ◌<◌, ◌≤◌, [], ◌∷◌, map, reverse, decimal, IfOk, OnOk};
 ghost use Rattle.std.specs.List.{flat_map};
 ghost use Rattle.muen_num.specs.Range.{numbers_below};
-ghost use Rattle.generated_system.specs.RecordText.{irq_line, lines_in, orders_in, port_line, record_text, with_line_feed};
+ghost use Rattle.generated_system.specs.RecordText.{irq_line_text, lines_in, orders_in, generated_port_line, record_text, with_line_feed};
 
 use itoa::Buffer;
 use std::alloc::{AllocError, Global};
@@ -19,7 +19,7 @@ fn add_number(text: &mut Vec<u8>, n: u32) -> Result<(), AllocError>
 // Appends the line by which the device's port has this value from a tick on.
 #[tactic(auto, using(crate::proofs::Lines::port_text))]
 fn add_port(text: &mut Vec<u8>, tick: u32, value: u32) -> Result<(), AllocError>
-    ensures { OnOk result (text.new.items ≡ text.old.items ++ with_line_feed (port_line tick value)) }
+    ensures { OnOk result (text.new.items ≡ text.old.items ++ with_line_feed (generated_port_line tick value)) }
 {
     text.extend_from_slice(b"port ")?;
     add_number(text, tick)?;
@@ -32,7 +32,7 @@ fn add_port(text: &mut Vec<u8>, tick: u32, value: u32) -> Result<(), AllocError>
 // Appends the line by which the device's interrupt is raised in a tick.
 #[tactic(auto, using(crate::proofs::Lines::irq_text))]
 fn add_irq(text: &mut Vec<u8>, tick: u32) -> Result<(), AllocError>
-    ensures { OnOk result (text.new.items ≡ text.old.items ++ with_line_feed (irq_line tick)) }
+    ensures { OnOk result (text.new.items ≡ text.old.items ++ with_line_feed (irq_line_text tick)) }
 {
     text.extend_from_slice(b"irq ")?;
     add_number(text, tick)?;

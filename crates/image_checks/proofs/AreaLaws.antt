@@ -9,7 +9,7 @@ use Rattle.std.proofs.lemmas.Bool.{cases_lt, eq-eqb, eqb-true, false_from_ne_tru
 use Rattle.std.proofs.lemmas.List.{length-map, map-append, take-append-drop}
 use Rattle.std.proofs.lemmas.List.Sorted.{IsPermutation-append_right, IsPermutation-middle, IsPermutation-sym, IsPermutation-trans, sum_by-IsPermutation}
 use Rattle.std.proofs.lemmas.List.Sums.{sum_by-append}
-use Rattle.expand_kernel.specs.Resources.{Msr, msr_grant, msrs_in, msrs_of}
+use Rattle.expand_kernel.specs.Resources.{Msr, msr_grant, each_msr_in, msrs_of}
 use Rattle.image_checks.proofs.PageLaws.{within_page}
 use Rattle.image_checks.proofs.Decided.{decided}
 use Rattle.image_checks.specs.Firsts.{Decides}
@@ -154,10 +154,10 @@ none_left f n count (x ∷ xs) granted same none now = absurd (omega (arith, non
 
 -- ---- the MSRs that are granted
 
-indices_same : (ranges : List Msrs) → map (λ m. m.index) (flat_map msrs_in ranges) ≡ indices_in (map msr_grant ranges)
+indices_same : (ranges : List Msrs) → map (λ m. m.index) (flat_map each_msr_in ranges) ≡ indices_in (map msr_grant ranges)
 indices_same [] = refl
 indices_same (x ∷ xs) =
-    map-append (λ (m : Msr). m.index) (msrs_in x) (flat_map msrs_in xs)
+    map-append (λ (m : Msr). m.index) (each_msr_in x) (flat_map each_msr_in xs)
     ∙ ap₂ (λ a b. a ++ b) (map-map (λ (m : Msr). m.index) (λ k. record { index = x.start + k; read = x.rights.read; write = x.rights.write }) (numbers_below (x.end + 1 - x.start))) (indices_same xs)
 
 granted_indices : (s : Subject) (msrs : List MsrGrant) → msrs ≡ map msr_grant s.msrs → map (λ m. m.index) (msrs_of s) ≡ indices_in msrs

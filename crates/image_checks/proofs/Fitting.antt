@@ -6,7 +6,7 @@ use Rattle.std.proofs.lemmas.Bool.{and_from, and_parts, eq-eqb, eqb-true}
 use Rattle.std.proofs.lemmas.Slice.Eq.{bytes_eq-Decides}
 use Rattle.std.proofs.lemmas.Option.{same_Some}
 use Rattle.image_checks.proofs.Wanted.{AreBytesOf, IsWanted, part_of, tag_of}
-use Rattle.image_checks.specs.Contents.{fits, has_bytes, same_kind, same_part}
+use Rattle.image_checks.specs.Contents.{fits_expected_span, has_expected_bytes, same_kind, same_part}
 use Rattle.image_checks.specs.declared.contents.ExpectedSpan.{ExpectedSpan}
 use Rattle.image_pack.specs.Codes.{is_device}
 use Rattle.image_pack.specs.declared.parts.SpanKind.{SpanKind}
@@ -99,13 +99,13 @@ held_of s held h = rw h refl
 zeros_of : (s : SpanPart) (held : List ℕ) → is_device s.kind ≡ true → bytes_of (s, held) ≡ replicate (PAGE * s.pages) 0
 zeros_of s held h = rw h refl
 
-bytes_are : (e : ExpectedSpan) (b : Option (List ℕ)) (s : SpanPart) (held initial : List ℕ) → AreBytesOf e b initial → e.kind ≡ s.kind → e.size ≡ PAGE * s.pages → has_bytes b held ≡ true → bytes_of (s, held) ≡ initial
+bytes_are : (e : ExpectedSpan) (b : Option (List ℕ)) (s : SpanPart) (held initial : List ℕ) → AreBytesOf e b initial → e.kind ≡ s.kind → e.size ≡ PAGE * s.pages → has_expected_bytes b held ≡ true → bytes_of (s, held) ≡ initial
 bytes_are e None s held initial of kind size h =
     zeros_of s held (sym (ap is_device kind) ∙ ap is_device of.0) ∙ ap (λ n. replicate n 0) (sym size) ∙ sym of.1
 bytes_are e (Some bytes) s held initial of kind size h =
     held_of s held (sym (ap is_device kind) ∙ of.0) ∙ sym ((bytes_eq-Decides bytes held).0 h) ∙ of.1
 
-have_bytes : (e : ExpectedSpan) (b : Option (List ℕ)) (s : SpanPart) (held initial : List ℕ) → AreBytesOf e b initial → e.kind ≡ s.kind → bytes_of (s, held) ≡ initial → has_bytes b held ≡ true
+have_bytes : (e : ExpectedSpan) (b : Option (List ℕ)) (s : SpanPart) (held initial : List ℕ) → AreBytesOf e b initial → e.kind ≡ s.kind → bytes_of (s, held) ≡ initial → has_expected_bytes b held ≡ true
 have_bytes e None s held initial of kind h = refl
 have_bytes e (Some bytes) s held initial of kind h =
     bytes_from bytes held (of.1 ∙ sym h ∙ held_of s held (sym (ap is_device kind) ∙ of.0))
@@ -113,7 +113,7 @@ have_bytes e (Some bytes) s held initial of kind h =
 -- ---- the whole
 
 module _ (r : Resolution) (files : Held) (x : Thing) (e : ExpectedSpan) (b : Option (List ℕ)) (w : IsWanted r files x e b) (s : SpanPart) (held : List ℕ) where
-  pub span_from : fits e b s held ≡ true → IsSpanOf (source_of r) files x (s, held)
+  pub span_from : fits_expected_span e b s held ≡ true → IsSpanOf (source_of r) files x (s, held)
   span_from h =
       let all = and_parts _ _ h in
       let four = and_parts _ _ all.0 in
@@ -129,7 +129,7 @@ module _ (r : Resolution) (files : Held) (x : Thing) (e : ExpectedSpan) (b : Opt
         bytes = bytes_are e b s held (initial_bytes (source_of r) files x) w.bytes kind size all.1;
       }
 
-  pub fits_from : IsSpanOf (source_of r) files x (s, held) → fits e b s held ≡ true
+  pub fits_from : IsSpanOf (source_of r) files x (s, held) → fits_expected_span e b s held ≡ true
   fits_from h =
       let tag : tag_of e ≡ s.tag = w.tag ∙ sym h.tag in
       let kind : e.kind ≡ s.kind = w.kind ∙ sym h.kind in

@@ -5,7 +5,7 @@ use Rattle.std.specs.List.{enumerate_from, list_all, sum_by}
 use Rattle.std.proofs.lemmas.Bool.{and_parts, eqb-true, ltb-true}
 use Rattle.std.proofs.lemmas.List.{get_or_default, length-map}
 use Rattle.std.proofs.lemmas.Slice.Eq.{bytes_eq-Decides}
-use Rattle.image_pack.specs.Plan.{cpus_of, frame_of, frames_in, is_cpu, is_major, is_minor, is_plan}
+use Rattle.image_pack.specs.Plan.{cpus_of, frame_of_minor, frames_in, is_cpu, is_major, is_minor, is_plan}
 use Rattle.image_pack.specs.plan.GroupPart.{GroupPart}
 use Rattle.image_pack.specs.plan.Major.{Major}
 use Rattle.image_pack.specs.plan.Minor.{Minor}
@@ -41,7 +41,7 @@ module _ (names : List (List ℕ)) (unique : repeated names ≡ None) where
 
 -- ---- major frames
 
-same_frame : (a b : Minor) → frame_of a ≡ frame_of b → a ≡ b
+same_frame : (a b : Minor) → frame_of_minor a ≡ frame_of_minor b → a ≡ b
 same_frame a b e =
     let group : a.group ≡ b.group = ap (λ (f : Frame). f.group) e in
     let ticks : a.ticks ≡ b.ticks = ap (λ (f : Frame). f.ticks) e in
@@ -74,18 +74,18 @@ same_lists xs ys many h =
     same_places xs ys many (λ k d l. get_or_default xs k d [] l ∙ h k l ∙ get_or_default ys k [] d (omega (arith, l, many)))
 
 same_major : (n : ℕ) (a b : Major) → 0 < n → IsMajor n a → IsMajor n b
-    → ((cpu : ℕ) → cpu < n → map frame_of (slice_index_or a.cpus cpu []) ≡ map frame_of (slice_index_or b.cpus cpu [])) → a ≡ b
+    → ((cpu : ℕ) → cpu < n → map frame_of_minor (slice_index_or a.cpus cpu []) ≡ map frame_of_minor (slice_index_or b.cpus cpu [])) → a ≡ b
 same_major n a b l x y h =
     let many = x.many in
     let many' = y.many in
     let each : (cpu : ℕ) → cpu < n → slice_index_or a.cpus cpu [] ≡ slice_index_or b.cpus cpu [] =
-    λ cpu m. same_unmapped frame_of same_frame (slice_index_or a.cpus cpu []) (slice_index_or b.cpus cpu []) (h cpu m) in
+    λ cpu m. same_unmapped frame_of_minor same_frame (slice_index_or a.cpus cpu []) (slice_index_or b.cpus cpu []) (h cpu m) in
     let cpus : a.cpus ≡ b.cpus = same_lists a.cpus b.cpus (omega (arith, many, many')) (λ k m. each k (omega (arith, m, many))) in
     let ticks : a.ticks ≡ b.ticks = sym (x.ticks l) ∙ ap (sum_by (λ (f : Minor). f.ticks)) (each 0 l) ∙ y.ticks l in
     (λ t. record { ticks = ticks t; cpus = cpus t })
 
 same_majors : (n : ℕ) (ga gb : List GroupPart) (xs ys : List Major) → 0 < n → list_all (is_major ga n) xs ≡ true → list_all (is_major gb n) ys ≡ true
-    → ((cpu : ℕ) → cpu < n → map (λ m. map frame_of (slice_index_or m.cpus cpu [])) xs ≡ map (λ m. map frame_of (slice_index_or m.cpus cpu [])) ys) → xs ≡ ys
+    → ((cpu : ℕ) → cpu < n → map (λ m. map frame_of_minor (slice_index_or m.cpus cpu [])) xs ≡ map (λ m. map frame_of_minor (slice_index_or m.cpus cpu [])) ys) → xs ≡ ys
 same_majors n ga gb [] [] l x y h = refl
 same_majors n ga gb [] (b ∷ ys) l x y h = let e = h 0 l in absurd (cc (e))
 same_majors n ga gb (a ∷ xs) [] l x y h = let e = h 0 l in absurd (cc (e))

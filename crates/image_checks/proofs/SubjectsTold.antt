@@ -11,7 +11,7 @@ use Rattle.std.proofs.lemmas.Option.{get_or_from_slice_get, same_Some, slice_get
 use Rattle.event_emit.specs.Tables.{AreTables}
 use Rattle.image_soundness.proofs.GroupsByIndex.{group_with, in_group}
 use Rattle.image_soundness.specs.TablesOf.{IsEntry, IsTable, irq_named, part_raised}
-use Rattle.image_pack.specs.ImageConditions.{IsReached, IsSubject}
+use Rattle.image_pack.specs.ImageConditions.{IsReached, IsSubjectPart}
 use Rattle.event_emit.specs.declared.event_tables.EventTables.{EventTables}
 use Rattle.expand_kernel.specs.Grants.{target_named}
 use Rattle.expand_kernel.proofs.Counted.{uncounted}
@@ -150,11 +150,11 @@ module _ (r : Resolution) (resolved : IsResolved r) (lawful : IsLawful (source_o
 -- ---- subjects by index
 
 -- each subject of an image has an entry for each call and trap
-full_from : (i : Image) (n : ℕ) (qs : List SubjectPart) → All (IsSubject i) (enumerate_from n qs) → All IsFull qs
+full_from : (i : Image) (n : ℕ) (qs : List SubjectPart) → All (IsSubjectPart i) (enumerate_from n qs) → All IsFull qs
 full_from i n [] h = All-nil IsFull
 full_from i n (q ∷ qs) h =
-    let here = All-head (IsSubject i) (n, q) (enumerate_from (n + 1) qs) h in
-    All-cons IsFull q qs (record { calls = here.calls.many; traps = here.traps.many }) (full_from i (n + 1) qs (All-tail (IsSubject i) (n, q) (enumerate_from (n + 1) qs) h))
+    let here = All-head (IsSubjectPart i) (n, q) (enumerate_from (n + 1) qs) h in
+    All-cons IsFull q qs (record { calls = here.calls.many; traps = here.traps.many }) (full_from i (n + 1) qs (All-tail (IsSubjectPart i) (n, q) (enumerate_from (n + 1) qs) h))
 
 pub are_full : (i : Image) → IsParts i → All IsFull i.subjects
 are_full i h = full_from i 0 i.subjects (parts_keep i h).subjects

@@ -8,7 +8,7 @@ use Rattle.std.proofs.lemmas.Option.{get_or_from_slice_get, none-some, slice_get
 use Rattle.image_checks.proofs.Fitting.{fits_from, span_from}
 use Rattle.image_checks.proofs.SpansOfNumbers.{as_many, no_span, span_of, thing_spans_are}
 use Rattle.image_checks.proofs.Wanted.{as_many_wanted, wanted_at}
-use Rattle.image_checks.specs.Contents.{FitsAt, HasSpanAt, IsFirstOther, expected_of, fits, thing_indexes}
+use Rattle.image_checks.specs.Contents.{FitsAt, HasSpanAt, IsFirstOther, expected_of, fits_expected_span, thing_indexes}
 use Rattle.image_checks.specs.declared.contents.ExpectedSpan.{ExpectedSpan}
 use Rattle.image_soundness.specs.ThingBytes.{thing_bytes}
 use Rattle.image_pack.specs.Parts.{IsParts}
@@ -169,17 +169,17 @@ module _ (r : Resolution) (i : Image) (es : List ExpectedSpan) (found : List ℕ
     at_span : slice_get i.spans index ≡ Some s
     at_span = sym (ap (λ ss. slice_get ss index) g.same) ∙ is
 
-    pub fit_here : fits e (slice_get things k) s held ≡ true → FitsAt es things i k
+    pub fit_here : fits_expected_span e (slice_get things k) s held ≡ true → FitsAt es things i k
     fit_here h =
         record { wanted = e; index = index; span = s; held = held; expects = at_e; at = at_found; is = at_span; holds = holds; fit = h }
 
-    pub not_here : fits e (slice_get things k) s held ≡ false → FitsAt es things i k → ⊥
+    pub not_here : fits_expected_span e (slice_get things k) s held ≡ false → FitsAt es things i k → ⊥
     not_here h f =
         let same_e = one_value (slice_get es k) f.wanted e f.expects at_e in
         let same_i = one_value (slice_get (thing_indexes i.spans) k) f.index index f.at at_found in
         let same_s = one_value (slice_get i.spans index) f.span s (ap (slice_get i.spans) (sym same_i) ∙ f.is) at_span in
         let same_h = one_value (slice_get i.contents index) f.held held (ap (slice_get i.contents) (sym same_i) ∙ f.holds) holds in
-        true≢false (sym f.fit ∙ (λ j. fits (same_e j) (slice_get things k) (same_s j) (same_h j)) ∙ h)
+        true≢false (sym f.fit ∙ (λ j. fits_expected_span (same_e j) (slice_get things k) (same_s j) (same_h j)) ∙ h)
 
   -- ---- over files with which the things have these bytes
 

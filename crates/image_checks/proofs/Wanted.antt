@@ -6,7 +6,7 @@ use Rattle.std.proofs.lemmas.Bool.{cases_lt}
 use Rattle.std.proofs.lemmas.List.{length-map, map-append}
 use Rattle.std.proofs.lemmas.Option.{same_Some, slice_get-map, slice_get_past}
 use Rattle.std.proofs.lemmas.Slice.Zip.{AllZip-long}
-use Rattle.image_checks.specs.Contents.{brought_spans, channel_span, device_spans, expected_of, memory_span_of, own_span, provided_span}
+use Rattle.image_checks.specs.Contents.{brought_spans, channel_span, expected_device_spans, expected_of, memory_span_of, own_span, provided_span}
 use Rattle.image_checks.specs.declared.contents.ExpectedSpan.{ExpectedSpan}
 use Rattle.image_soundness.specs.ThingBytes.{thing_bytes}
 use Rattle.image_pack.specs.Codes.{is_device}
@@ -67,8 +67,8 @@ record IsNamed (x : Thing) (e : ExpectedSpan) : Type 0 where
   own : is_device e.kind ≡ false
 
 module _ (r : Resolution) (q : IsResolved r) where
-  flat_same : flat_map device_spans r.devices ≡ flat_map (λ d. map (λ (y : List ℕ × DeviceMemory). memory_span_of y.0 y.1) (map (λ m. (d.name, m)) d.memory)) r.devices
-  flat_same = flat_map_at device_spans (λ d. map (λ (y : List ℕ × DeviceMemory). memory_span_of y.0 y.1) (map (λ m. (d.name, m)) d.memory)) r.devices (λ k d at. sym (map-map (λ (y : List ℕ × DeviceMemory). memory_span_of y.0 y.1) (λ m. (d.name, m)) d.memory))
+  flat_same : flat_map expected_device_spans r.devices ≡ flat_map (λ d. map (λ (y : List ℕ × DeviceMemory). memory_span_of y.0 y.1) (map (λ m. (d.name, m)) d.memory)) r.devices
+  flat_same = flat_map_at expected_device_spans (λ d. map (λ (y : List ℕ × DeviceMemory). memory_span_of y.0 y.1) (map (λ m. (d.name, m)) d.memory)) r.devices (λ k d at. sym (map-map (λ (y : List ℕ × DeviceMemory). memory_span_of y.0 y.1) (λ m. (d.name, m)) d.memory))
 
   expected_is : expected_of r ≡ regions_expected r ++ memories_expected r
   unfolding expected_of

@@ -44,8 +44,8 @@ brought_spans components s = map (provided_span s.name) (provided_at components 
 abbrev pub memory_span_of : List ℕ → DeviceMemory → ExpectedSpan
 memory_span_of device m = record { owner = device; part = Some m.name; kind = DeviceSpan; size = m.size }
 
-abbrev pub device_spans : Device → List ExpectedSpan
-device_spans d = map (memory_span_of d.name) d.memory
+abbrev pub expected_device_spans : Device → List ExpectedSpan
+expected_device_spans d = map (memory_span_of d.name) d.memory
 
 -- in the order of the things
 unfoldable pub expected_of : Resolution → List ExpectedSpan
@@ -53,7 +53,7 @@ expected_of r =
     map own_span r.memory
     ++ map channel_span r.channels
     ++ flat_map (brought_spans r.components) r.subjects
-    ++ flat_map device_spans r.devices
+    ++ flat_map expected_device_spans r.devices
 
 -- ---- which spans there are
 
@@ -85,17 +85,17 @@ same_kind DeviceSpan DeviceSpan = true
 same_kind _ _ = false
 
 -- it has these bytes, where there are some
-abbrev pub has_bytes : Option (List ℕ) → List ℕ → Bool
-has_bytes None held = true
-has_bytes (Some bytes) held = bytes_eq bytes held
+abbrev pub has_expected_bytes : Option (List ℕ) → List ℕ → Bool
+has_expected_bytes None held = true
+has_expected_bytes (Some bytes) held = bytes_eq bytes held
 
 -- it is as expected, but for its bytes
 abbrev pub is_expected : ExpectedSpan → SpanPart → Bool
 is_expected e s =
     ((bytes_eq e.owner s.tag.owner && same_part e.part s.tag.part) && same_kind e.kind s.kind) && (e.size == PAGE * s.pages)
 
-abbrev pub fits : ExpectedSpan → Option (List ℕ) → SpanPart → List ℕ → Bool
-fits e bytes s held = is_expected e s && has_bytes bytes held
+abbrev pub fits_expected_span : ExpectedSpan → Option (List ℕ) → SpanPart → List ℕ → Bool
+fits_expected_span e bytes s held = is_expected e s && has_expected_bytes bytes held
 
 -- what is expected at an index, and the span that is found there
 pub record FitsAt (expected : List ExpectedSpan) (things : List (List ℕ)) (i : Image) (k : ℕ) : Type 0 where
@@ -107,7 +107,7 @@ pub record FitsAt (expected : List ExpectedSpan) (things : List (List ℕ)) (i :
   pub at : slice_get (thing_indexes i.spans) k ≡ Some index
   pub is : slice_get i.spans index ≡ Some span
   pub holds : slice_get i.contents index ≡ Some held
-  pub fit : fits wanted (slice_get things k) span held ≡ true
+  pub fit : fits_expected_span wanted (slice_get things k) span held ≡ true
 
 -- ---- the first that isn't a thing's, by the policy's and the image's meaning
 

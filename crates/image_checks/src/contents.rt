@@ -1,7 +1,7 @@
 //! The spans of a policy's things: its regions, and the memory of its devices.
 ghost use Rattle.std.specs.Prelude.{◌≡◌, ◌==◌, ◌++◌, ◌<◌, All, map, length, option_to_list, position, slice_get, OnOk, IfOk, IfSome};
 ghost use Rattle.std.specs.List.{flat_map};
-ghost use Rattle.image_checks.specs.Contents.{IsContentsFault, brought_spans, channel_span, device_spans, expected_of, fits, has_bytes, is_expected, memory_span_of, own_span, provided_span, same_kind, same_part, thing_index, thing_indexes};
+ghost use Rattle.image_checks.specs.Contents.{IsContentsFault, brought_spans, channel_span, expected_device_spans, expected_of, fits_expected_span, has_expected_bytes, is_expected, memory_span_of, own_span, provided_span, same_kind, same_part, thing_index, thing_indexes};
 ghost use Rattle.image_soundness.specs.ThingBytes.{thing_bytes};
 ghost use Rattle.image_soundness.specs.Sound.{is_kernel};
 ghost use Rattle.policy_lawful.specs.Contents.{Held};
@@ -112,7 +112,7 @@ fn push_device(
 
 // Those of all devices, in order.
 fn push_devices(devices: &[Device], all: &mut Vec<ExpectedSpan>) -> Result<(), AllocError>
-    ensures { OnOk result (all.new.items ≡ all.old.items ++ flat_map device_spans devices.now) }
+    ensures { OnOk result (all.new.items ≡ all.old.items ++ flat_map expected_device_spans devices.now) }
 {
     for device in devices {
         push_device(device.name, device.memory.items(), all)?;
@@ -205,7 +205,7 @@ fn same_kind(thing: SpanKind, span: SpanKind) -> bool
 
 // Whether a span has the bytes of the thing of this number, where it has some.
 fn has_bytes(things: &[Seq<u8>], number: usize, held: &[u8]) -> bool
-    ensures { result ≡ has_bytes (slice_get things.now number) held.now }
+    ensures { result ≡ has_expected_bytes (slice_get things.now number) held.now }
 {
     match things.get(number) {
         None => true,
@@ -231,7 +231,7 @@ fn fits(
     span: &SpanPart,
     held: &[u8],
 ) -> bool
-    ensures { result ≡ fits expected.now (slice_get things.now number) span.now held.now }
+    ensures { result ≡ fits_expected_span expected.now (slice_get things.now number) span.now held.now }
 {
     is_expected(expected, span) && has_bytes(things, number, held)
 }

@@ -18,7 +18,7 @@ use Rattle.image_emit.proofs.PlanDevices.{memory_there}
 use Rattle.image_soundness.proofs.DevicesOf.{irqs_named}
 use Rattle.image_emit.specs.Made.{IsMade, Made, image_of, policy_of, subject_parts}
 use Rattle.image_pack.specs.Image.{device_name, window_name}
-use Rattle.image_pack.specs.ImageConditions.{AreDistinct, IsDevice, IsIrq, IsRange, IsWindow}
+use Rattle.image_pack.specs.ImageConditions.{AreDistinct, IsDevicePart, IsIrqPart, IsRange, IsWindow}
 use Rattle.image_pack.specs.declared.parts.DevicePart.{DevicePart}
 use Rattle.image_pack.specs.declared.parts.IrqPart.{IrqPart}
 use Rattle.muen_num.specs.declared.devices.PortSpan.{PortSpan}
@@ -71,14 +71,14 @@ ranges_kept (p ∷ ps) (x ∷ xs) same h =
 
 -- ---- interrupts
 
-irqs_kept : (r : Resolution) (n : ℕ) (d : Device) (is : List Irq) (qs : List IrqPart) → length r.subjects ≡ n → AllZip (IsIrqFrom r d) is qs → list_all (λ i. is_name i.name) is ≡ true → All (IsIrq n) qs
-irqs_kept r n d [] [] many are named = All-nil (IsIrq n)
+irqs_kept : (r : Resolution) (n : ℕ) (d : Device) (is : List Irq) (qs : List IrqPart) → length r.subjects ≡ n → AllZip (IsIrqFrom r d) is qs → list_all (λ i. is_name i.name) is ≡ true → All (IsIrqPart n) qs
+irqs_kept r n d [] [] many are named = All-nil (IsIrqPart n)
 irqs_kept r n d [] (q ∷ qs) many are named = absurd are
 irqs_kept r n d (i ∷ is) [] many are named = absurd are
 irqs_kept r n d (i ∷ is) (q ∷ qs) many are named =
     let parts = and_parts (is_name i.name) (list_all (λ i. is_name i.name) is) named in
-    All-cons (IsIrq n) q qs
-    (subst (λ k. IsIrq k q) many (record { called = ap is_name are.0.name ∙ parts.0; reached = are.0.granted }))
+    All-cons (IsIrqPart n) q qs
+    (subst (λ k. IsIrqPart k q) many (record { called = ap is_name are.0.name ∙ parts.0; reached = are.0.granted }))
     (irqs_kept r n d is qs many are.1 parts.1)
 
 -- ---- devices by their indexes
@@ -180,7 +180,7 @@ module _ (m : Made) (h : IsMade m) where
         ∙ ap (option_and_then device_name) (span_found m h (first + k) (device_span (first + k, e)) (has k e mine))
         ∙ ap Some x.2
 
-    is_device : IsDevice (image_of m) q
+    is_device : IsDevicePart (image_of m) q
     unfolding image_of
     is_device =
         let all = and_parts (nat_le (length d.memory) MOST_PER_DEVICE && nat_le (length d.io_ports) MOST_PER_DEVICE) (nat_le (length d.irqs) MOST_PER_DEVICE) few in
@@ -204,10 +204,10 @@ module _ (m : Made) (h : IsMade m) where
         }
 
   -- **the devices** of the image
-  pub devices_kept : All (IsDevice (image_of m)) (image_of m).devices
+  pub devices_kept : All (IsDevicePart (image_of m)) (image_of m).devices
   unfolding image_of
   devices_kept =
-      all_from_indexes (IsDevice (image_of m)) m.devices
+      all_from_indexes (IsDevicePart (image_of m)) m.devices
       (λ j q at.
       let of = device_at (policy_of m) (spans_of m.placed) (length m.placed.expanded.regions) (policy_of m).devices m.devices h.devices (memory_there m h) j q at in
       is_device j q of.device of.first of.there of.is of.memory)

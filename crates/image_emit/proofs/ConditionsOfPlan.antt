@@ -13,7 +13,7 @@ use Rattle.image_emit.proofs.PlanSubjects.{names_in_image}
 use Rattle.image_emit.proofs.SpansAt.{region_at}
 use Rattle.image_emit.specs.Made.{IsMade, Made, image_of, policy_of}
 use Rattle.image_pack.specs.Codes.{is_own}
-use Rattle.image_pack.specs.Image.{is_between}
+use Rattle.image_pack.specs.Image.{is_between_inclusive}
 use Rattle.image_pack.specs.ImageConditions.{AreCounted, IsChoice, IsGroup}
 use Rattle.image_pack.specs.SpanConditions.{HaveDifferentNumbers}
 use Rattle.image_pack.specs.declared.parts.SpanPart.{SpanPart}
@@ -42,7 +42,7 @@ use Rattle.span_emit.specs.Spans.{region_span}
 use Rattle.span_emit.specs.SpansOf.{spans_of}
 use Rattle.expand_kernel.specs.ByIndex.{own_region}
 
-pub between : (low high n : ℕ) → low ≤ n → n ≤ high → is_between low high n ≡ true
+pub between : (low high n : ℕ) → low ≤ n → n ≤ high → is_between_inclusive low high n ≡ true
 between low high n a b = and_from (nat_le low n) (nat_le n high) (le-leb low n a) (le-leb n high b)
 
 -- ---- how many of each
@@ -101,11 +101,11 @@ module _ (m : Made) (h : IsMade m) where
   unfolding source_of
   cpus_are = h.plan.cpus
 
-  few_cpus : is_between 1 MOST_CPUS (policy_of m).processor.logical_cpus ≡ true
+  few_cpus : is_between_inclusive 1 MOST_CPUS (policy_of m).processor.logical_cpus ≡ true
   unfolding source_of
   few_cpus = let k = cpus_kept (source_of (policy_of m)) (rules_of h.lawful).rule_3 in between 1 MOST_CPUS (policy_of m).processor.logical_cpus k.some k.most
 
-  few_subjects : is_between 1 MOST_SUBJECTS (length (image_of m).subjects) ≡ true
+  few_subjects : is_between_inclusive 1 MOST_SUBJECTS (length (image_of m).subjects) ≡ true
   few_subjects =
       let k = limits_kept (source_of (policy_of m)) (rules_of h.lawful).rule_20 in
       let some = k.some_subjects in
@@ -114,7 +114,7 @@ module _ (m : Made) (h : IsMade m) where
       let parts = subjects_many m h in
       between 1 MOST_SUBJECTS (length (image_of m).subjects) (omega (arith, some, many, parts)) (omega (arith, most, many, parts))
 
-  few_groups : is_between 1 MOST_SUBJECTS (length m.plan.groups) ≡ true
+  few_groups : is_between_inclusive 1 MOST_SUBJECTS (length m.plan.groups) ≡ true
   few_groups =
       let p = source_of (policy_of m) in
       let k = limits_kept p (rules_of h.lawful).rule_20 in
@@ -125,7 +125,7 @@ module _ (m : Made) (h : IsMade m) where
       let some : 1 ≤ length p.scheduling.groups = some_group p p.subjects k.some_subjects kept.once p.scheduling.groups refl in
       between 1 MOST_SUBJECTS (length m.plan.groups) (omega (arith, some, many)) (omega (arith, most, many, fewer))
 
-  few_majors : is_between 1 MOST_MAJOR_FRAMES (length m.plan.majors) ≡ true
+  few_majors : is_between_inclusive 1 MOST_MAJOR_FRAMES (length m.plan.majors) ≡ true
   few_majors =
       let k = valid m.plan h.plan.valid in
       let some = k.some_majors in

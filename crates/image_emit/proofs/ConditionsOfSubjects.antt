@@ -22,7 +22,7 @@ use Rattle.image_emit.proofs.SpansAt.{region_at, some_span}
 use Rattle.image_emit.specs.Made.{IsMade, Made, image_of, policy_of, subject_part, subject_parts}
 use Rattle.image_pack.specs.Codes.{part_code}
 use Rattle.image_pack.specs.Image.{is_eptp, is_kernel_span}
-use Rattle.image_pack.specs.ImageConditions.{AreEvents, IsSubject}
+use Rattle.image_pack.specs.ImageConditions.{AreEvents, IsSubjectPart}
 use Rattle.image_pack.specs.declared.parts.EventPart.{EventPart}
 use Rattle.image_pack.specs.declared.parts.SubjectPart.{SubjectPart}
 use Rattle.muen_num.proofs.Lists.{passes_at, each_numbered, numbered_at}
@@ -30,7 +30,7 @@ use Rattle.muen_num.proofs.Pairs.{both_at, other_at, zipped_at, zipped_both}
 use Rattle.muen_num.specs.Naming.{is_name}
 use Rattle.muen_num.specs.declared.limits.TheConstants.{MOST_MSRS, PAGE, PHYSICAL_END}
 use Rattle.muen_num.specs.declared.tag.TagPart.TheVariants.{Iobm, Msrbm, Msrs, State}
-use Rattle.msrbm_emit.specs.Area.{count_of}
+use Rattle.msrbm_emit.specs.Area.{msr_count}
 use Rattle.policy_lawful.proofs.KeptCpus.{cpus_kept}
 use Rattle.policy_lawful.proofs.KeptRules.{rules_of}
 use Rattle.policy_lawful.specs.Resolution.{source_of, subject_named}
@@ -89,7 +89,7 @@ module _ (m : Made) (h : IsMade m) where
         sym (list_all-map (λ x. nat_lt x.cpu r.processor.logical_cpus) (subject_named r) r.subjects) ∙ (cpus_kept (source_of r) (rules_of h.lawful).rule_3).subjects in
         ltb-true s.cpu r.processor.logical_cpus (passes_at has r.subjects k s all at)
 
-    few : count_of g.msrs ≤ MOST_MSRS
+    few : msr_count g.msrs ≤ MOST_MSRS
     few =
         let both = zip (policy_of m).subjects m.placed.expanded.grants in
         let e : ℕ × (Subject × Grants) = (k, (s, g)) in
@@ -112,7 +112,7 @@ module _ (m : Made) (h : IsMade m) where
     tables : AreTables (policy_of m) s t
     tables = both_at (AreTables (policy_of m)) (policy_of m).subjects m.events k s t h.events at raised
 
-    is_subject : IsSubject (image_of m) (k, subject_part m.placed (k, (s, (g, t))))
+    is_subject : IsSubjectPart (image_of m) (k, subject_part m.placed (k, (s, (g, t))))
     unfolding image_of
     is_subject = record {
       cpu = on_cpu;
@@ -130,16 +130,16 @@ module _ (m : Made) (h : IsMade m) where
     }
 
   -- **the subjects** of the image
-  pub subjects_kept : All (IsSubject (image_of m)) (enumerate_from 0 (image_of m).subjects)
+  pub subjects_kept : All (IsSubjectPart (image_of m)) (enumerate_from 0 (image_of m).subjects)
   unfolding image_of
   subjects_kept =
       let r = policy_of m in
       let parts = zip r.subjects (zip m.placed.expanded.grants m.events) in
-      each_numbered (IsSubject (image_of m)) 0 (subject_parts m)
+      each_numbered (IsSubjectPart (image_of m)) 0 (subject_parts m)
       (λ j q at.
       let there = mapped_there (subject_part m.placed) 0 parts j q at in
       let both = zipped_both r.subjects (zip m.placed.expanded.grants m.events) j there.0 there.1 in
       let last = zipped_both m.placed.expanded.grants m.events j there.0.1 both.1 in
       let n : j ≡ 0 + j = omega arith in
-      subst (λ (q : SubjectPart). IsSubject (image_of m) (0 + j, q)) there.2
-      (subst (λ i. IsSubject (image_of m) (i, subject_part m.placed (i, there.0))) n (is_subject j there.0.0 there.0.1.0 there.0.1.1 both.0 last.0 last.1)))
+      subst (λ (q : SubjectPart). IsSubjectPart (image_of m) (0 + j, q)) there.2
+      (subst (λ i. IsSubjectPart (image_of m) (i, subject_part m.placed (i, there.0))) n (is_subject j there.0.0 there.0.1.0 there.0.1.1 both.0 last.0 last.1)))

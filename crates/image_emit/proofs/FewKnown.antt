@@ -8,7 +8,7 @@ use Rattle.std.proofs.lemmas.Slice.Zip.{AllZip-long}
 use Rattle.expand_kernel.specs.Grants.{AreGrantsOf}
 use Rattle.expand_kernel.specs.granted.Grants.{Grants}
 use Rattle.image_emit.specs.Fitting.{AreFew}
-use Rattle.msrbm_emit.specs.Area.{count_of}
+use Rattle.msrbm_emit.specs.Area.{msr_count}
 use Rattle.muen_num.proofs.Lists.{each_from, there}
 use Rattle.muen_num.proofs.Pairs.{other_at}
 use Rattle.policy_lawful.proofs.KeptPlan.{PlanKept, plan_kept}
@@ -26,13 +26,13 @@ use Rattle.subject_emit.proofs.AddressesFit.{tables_there}
 use Rattle.subject_emit.specs.Pages.{tables_at}
 
 -- each subject's MSRs, from any index on
-msrs_from : (r : Resolution) → offence_20 (source_of r) ≡ None → (ss : List Subject) (gs : List Grants) → ((j : ℕ) (s : Subject) → slice_get ss j ≡ Some s → (k : ℕ) × (slice_get r.subjects k ≡ Some s)) → AllZip (AreGrantsOf r) ss gs → list_all (λ g. nat_le (count_of g.msrs) 64) gs ≡ true
+msrs_from : (r : Resolution) → offence_20 (source_of r) ≡ None → (ss : List Subject) (gs : List Grants) → ((j : ℕ) (s : Subject) → slice_get ss j ≡ Some s → (k : ℕ) × (slice_get r.subjects k ≡ Some s)) → AllZip (AreGrantsOf r) ss gs → list_all (λ g. nat_le (msr_count g.msrs) 64) gs ≡ true
 msrs_from r h [] [] at z = refl
 msrs_from r h [] (g ∷ gs) at z = absurd z
 msrs_from r h (s ∷ ss) [] at z = absurd z
 msrs_from r h (s ∷ ss) (g ∷ gs) at z =
     let here = at 0 s refl in
-    rw (le-leb (count_of g.msrs) 64 (msrs_few r here.0 s g here.1 z.0 h)) (msrs_from r h ss gs (λ j t e. at (suc j) t e) z.1)
+    rw (le-leb (msr_count g.msrs) 64 (msrs_few r here.0 s g here.1 z.0 h)) (msrs_from r h ss gs (λ j t e. at (suc j) t e) z.1)
 
 cpus_small : (r : Resolution) → PlanKept r → list_all (λ s. nat_lt s.cpu 8) r.subjects ≡ true
 unfolding source_of

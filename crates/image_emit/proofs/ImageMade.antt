@@ -8,9 +8,9 @@ use Rattle.image_soundness.specs.TablesOf.{AreDevices}
 use Rattle.image_emit.proofs.Conditions.{keeps}
 use Rattle.image_emit.proofs.ContentLengths.{contents_kept}
 use Rattle.image_emit.specs.Gathered.{AreParts, IsHeld}
-use Rattle.image_emit.specs.Made.{IsFilled, IsImageOf, IsMade, Made, choice_of, content_at, image_of}
+use Rattle.image_emit.specs.Made.{IsFilled, IsImageOf, IsMade, Made, choice_region, content_at, image_of}
 use Rattle.image_pack.proofs.ConditionsFit.{conditions_fit}
-use Rattle.image_pack.specs.Parts.{IsParts, counted}
+use Rattle.image_pack.specs.Parts.{IsParts, counted_image}
 use Rattle.image_pack.specs.SpanConditions.{AreSpans}
 use Rattle.image_pack.specs.declared.parts.DevicePart.{DevicePart}
 use Rattle.image_pack.specs.declared.parts.Image.{Image}
@@ -49,24 +49,24 @@ module _ (x : Placement) (things : List (List ℕ)) (spans : List SpanPart) (hel
   }
 
   -- these parts are an image that is made
-  pub image_made : IsImageOf x things (counted x.expanded.lawful.processor.logical_cpus (choice_of x.expanded.lawful) spans parts plan devices held)
+  pub image_made : IsImageOf x things (counted_image x.expanded.lawful.processor.logical_cpus (choice_region x.expanded.lawful) spans parts plan devices held)
   unfolding all image_of
   image_made = record {
     made = all;
     is = is_made;
     placed = refl;
     held = refl;
-    image = ap₂ (λ a b. counted x.expanded.lawful.processor.logical_cpus (choice_of x.expanded.lawful) spans a plan devices b) p.made h.held_by;
+    image = ap₂ (λ a b. counted_image x.expanded.lawful.processor.logical_cpus (choice_region x.expanded.lawful) spans a plan devices b) p.made h.held_by;
   }
 
 -- the same, of counts that are the policy's
 pub image_of_parts : (x : Placement) (things : List (List ℕ)) (spans : List SpanPart) (held : List (List ℕ)) (parts : List SubjectPart) (plan : Plan) (devices : List DevicePart) (cpus : ℕ) (tau0 : Option ℕ)
     → IsPlaced x → AreNamed x.expanded.lawful → IsFilled x things → IsPermutation (spans_of x) spans → AreSpans spans → IsHeld x things spans held → AreParts x parts → IsPlanOf (source_of x.expanded.lawful) plan
-    → AreDevices x.expanded.lawful (length x.expanded.regions) x.expanded.lawful.devices devices → cpus ≡ x.expanded.lawful.processor.logical_cpus → tau0 ≡ choice_of x.expanded.lawful
-    → IsImageOf x things (counted cpus tau0 spans parts plan devices held)
+    → AreDevices x.expanded.lawful (length x.expanded.regions) x.expanded.lawful.devices devices → cpus ≡ x.expanded.lawful.processor.logical_cpus → tau0 ≡ choice_region x.expanded.lawful
+    → IsImageOf x things (counted_image cpus tau0 spans parts plan devices held)
 image_of_parts x things spans held parts plan devices cpus tau0 known named filled numbered are h p plans are_devices same chosen =
-    subst (λ n. IsImageOf x things (counted n tau0 spans parts plan devices held)) (sym same)
-    (subst (λ t. IsImageOf x things (counted x.expanded.lawful.processor.logical_cpus t spans parts plan devices held)) (sym chosen)
+    subst (λ n. IsImageOf x things (counted_image n tau0 spans parts plan devices held)) (sym same)
+    (subst (λ t. IsImageOf x things (counted_image x.expanded.lawful.processor.logical_cpus t spans parts plan devices held)) (sym chosen)
     (image_made x things spans held parts plan devices known named filled numbered are h p plans are_devices))
 
 -- it keeps the conditions of an image, where what its spans hold are bytes

@@ -10,7 +10,7 @@ use Rattle.image_emit.specs.Fitting.{AreFew}
 use Rattle.image_emit.specs.Made.{subject_part}
 use Rattle.image_emit.specs.Parting.{IsParting, parts_from}
 use Rattle.image_pack.specs.declared.parts.SubjectPart.{SubjectPart}
-use Rattle.msrbm_emit.specs.Area.{count_of}
+use Rattle.msrbm_emit.specs.Area.{msr_count}
 use Rattle.policy_lawful.specs.declared.resolved.Subject.{Subject}
 use Rattle.region_alloc.specs.Placed.{Placement}
 
@@ -60,8 +60,8 @@ all_made x events [] parts none h = sym (append-nil parts) ∙ ap (λ a. parts +
 pub cpu_fits : (x : Placement) (k : ℕ) (d : Subject) → AreFew x → k < length x.expanded.lawful.subjects → (get_or x.expanded.lawful.subjects k d).cpu < 8
 cpu_fits x k d few l = ltb-true (get_or x.expanded.lawful.subjects k d).cpu 8 (AllPass-from_list_all (λ s. nat_lt s.cpu 8) x.expanded.lawful.subjects few.cpus k d l)
 
-pub msrs_fit : (x : Placement) (k : ℕ) (d : Grants) → AreFew x → k < length x.expanded.grants → count_of (get_or x.expanded.grants k d).msrs ≤ 64
-msrs_fit x k d few l = leb-true (count_of (get_or x.expanded.grants k d).msrs) 64 (AllPass-from_list_all (λ g. nat_le (count_of g.msrs) 64) x.expanded.grants few.msrs k d l)
+pub msrs_fit : (x : Placement) (k : ℕ) (d : Grants) → AreFew x → k < length x.expanded.grants → msr_count (get_or x.expanded.grants k d).msrs ≤ 64
+msrs_fit x k d few l = leb-true (msr_count (get_or x.expanded.grants k d).msrs) 64 (AllPass-from_list_all (λ g. nat_le (msr_count g.msrs) 64) x.expanded.grants few.msrs k d l)
 
 -- a subject is left while what one raises is
 pub some_left : (x : Placement) (events all left : List EventTables) (t : EventTables) (parts : List SubjectPart) (n : ℕ) → IsParting x events all parts → all ≡ t ∷ left → length events ≡ length x.expanded.lawful.subjects → n ≡ length parts → n < length x.expanded.lawful.subjects

@@ -2,7 +2,7 @@
 use Rattle.std.specs.Prelude.{◌≡◌, ℕ, ◌%◌, ◌<◌, ◌≤◌, true, length, nat_le, nat_lt}
 use Rattle.std.specs.List.{list_all}
 use Rattle.muen_num.specs.declared.limits.TheConstants.{MOST_CPUS, MOST_MSRS, MOST_REGIONS, MOST_SUBJECTS, PAGE, PHYSICAL_END}
-use Rattle.msrbm_emit.specs.Area.{count_of}
+use Rattle.msrbm_emit.specs.Area.{msr_count}
 use Rattle.region_alloc.specs.Placed.{Placement}
 use Rattle.subject_emit.specs.Mapped.{kernel_first}
 use Rattle.subject_emit.specs.Pages.{tables_at}
@@ -19,5 +19,5 @@ pub record AreFew (x : Placement) : Type 0 where
   pub whole : (k : ℕ) → k < length x.expanded.lawful.subjects → tables_at x k % PAGE ≡ 0
   pub cpus : list_all (λ s. nat_lt s.cpu MOST_CPUS) x.expanded.lawful.subjects ≡ true
   -- of each subject as many MSRs as an area has room for
-  pub msrs : list_all (λ g. nat_le (count_of g.msrs) MOST_MSRS) x.expanded.grants ≡ true
+  pub msrs : list_all (λ g. nat_le (msr_count g.msrs) MOST_MSRS) x.expanded.grants ≡ true
   pub grants : length x.expanded.grants ≡ length x.expanded.lawful.subjects

@@ -11,14 +11,14 @@ use Rattle.expand_kernel.specs.granted.Grants.{Grants}
 use Rattle.expand_kernel.specs.Expansion.{IsExpansion}
 use Rattle.expand_kernel.specs.Regions.{kernel_number}
 use Rattle.expand_kernel.specs.declared.kernel.KernelRegion.TheVariants.{IoBitmaps, MsrArea, MsrBitmap, State}
-use Rattle.image_pack.specs.Parts.{IsParts, counted}
+use Rattle.image_pack.specs.Parts.{IsParts, counted_image}
 use Rattle.image_pack.specs.SpanConditions.{AreSpans}
 use Rattle.image_pack.specs.declared.parts.DevicePart.{DevicePart}
 use Rattle.image_pack.specs.declared.parts.Image.{Image}
 use Rattle.image_pack.specs.declared.parts.SpanPart.{SpanPart}
 use Rattle.image_pack.specs.declared.parts.SubjectPart.{SubjectPart}
 use Rattle.image_pack.specs.plan.Plan.{Plan}
-use Rattle.msrbm_emit.specs.Area.{count_of}
+use Rattle.msrbm_emit.specs.Area.{msr_count}
 use Rattle.muen_num.specs.Naming.{is_name}
 use Rattle.image_soundness.specs.PlanOf.{IsPlanOf}
 use Rattle.policy_lawful.specs.Lawful.{IsLawful}
@@ -69,7 +69,7 @@ abbrev pub subject_part : Placement → ℕ × (Subject × (Grants × EventTable
 subject_part x (index, (s, (g, t))) = record {
   cpu = s.cpu;
   group = group_at x.expanded.lawful index;
-  msrs = count_of g.msrs;
+  msrs = msr_count g.msrs;
   state = kernel_number State (kernel_first x.expanded.lawful index);
   iobm = kernel_number IoBitmaps (kernel_first x.expanded.lawful index);
   msrbm = kernel_number MsrBitmap (kernel_first x.expanded.lawful index);
@@ -85,12 +85,12 @@ subject_parts m =
     map (subject_part m.placed) (enumerate_from 0 (zip (policy_of m).subjects (zip m.placed.expanded.grants m.events)))
 
 -- the number of the region whose first byte chooses the next major frame
-abbrev pub choice_of : Resolution → Option ℕ
-choice_of r = option_and_then (λ t. position (λ m. bytes_eq m.name t.region) r.memory) r.scheduling.tau0
+abbrev pub choice_region : Resolution → Option ℕ
+choice_region r = option_and_then (λ t. position (λ m. bytes_eq m.name t.region) r.memory) r.scheduling.tau0
 
 unfoldable pub image_of : Made → Image
 image_of m =
-    counted (policy_of m).processor.logical_cpus (choice_of (policy_of m)) m.spans (subject_parts m) m.plan m.devices (map (content_at m) m.spans)
+    counted_image (policy_of m).processor.logical_cpus (choice_region (policy_of m)) m.spans (subject_parts m) m.plan m.devices (map (content_at m) m.spans)
 
 -- ---- what is known of what it is made of
 

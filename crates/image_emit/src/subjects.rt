@@ -4,8 +4,8 @@ ghost use Rattle.std.specs.List.{enumerate_from, list_any};
 ghost use Rattle.std.specs.Str.{bytes_eq};
 ghost use Rattle.expand_kernel.specs.Regions.{kernel_number};
 ghost use Rattle.image_emit.specs.Fitting.{AreFew};
-ghost use Rattle.image_emit.specs.Made.{choice_of, subject_part};
-ghost use Rattle.msrbm_emit.specs.Area.{count_of, size_of};
+ghost use Rattle.image_emit.specs.Made.{choice_region, subject_part};
+ghost use Rattle.msrbm_emit.specs.Area.{msr_count, size_of};
 
 use ept_emit::eptp;
 use event_emit::EventTables;
@@ -52,10 +52,10 @@ fn size_of(grant: &MsrGrant) -> u64
 }
 
 // How many MSRs are granted.
-#[tactic(auto, unfolding(msrbm_emit::specs::Area::count_of))]
+#[tactic(auto, unfolding(msrbm_emit::specs::Area::msr_count))]
 fn count_of(msrs: &[MsrGrant]) -> u64
-    requires { count_of msrs.now ≤ MOST_MSRS }
-    ensures { result ≡ count_of msrs.now }
+    requires { msr_count msrs.now ≤ MOST_MSRS }
+    ensures { result ≡ msr_count msrs.now }
 {
     let mut count = 0;
     for grant in msrs {
@@ -83,7 +83,7 @@ fn subject_part(
     requires few { AreFew placed.now }
     requires there { index < length placed.now.expanded.lawful.subjects }
     requires cpu { subject.now.cpu < 2 ^ 8 }
-    requires msrs { count_of granted.now.msrs ≤ MOST_MSRS }
+    requires msrs { msr_count granted.now.msrs ≤ MOST_MSRS }
     ensures { result ≡ subject_part placed.now (index, (subject.now, (granted.now, events))) }
 {
     let policy = placed.expanded().lawful().resolved();
@@ -148,7 +148,7 @@ fn region_named(memory: &[Region], name: Name) -> Option<usize>
 /// The number of the region whose first byte chooses the next major frame, if one does.
 pub(crate) fn choice_of(policy: &Resolved) -> Option<u16>
     requires { length policy.now.memory ≤ MOST_REGIONS }
-    ensures { result ≡ choice_of policy.now }
+    ensures { result ≡ choice_region policy.now }
 {
     match &policy.scheduling().tau0 {
         None => None,

@@ -27,7 +27,7 @@ use Rattle.record_text.specs.declared.record.Input.{Input}
 use Rattle.record_text.specs.declared.record.Input.TheVariants.{Port, Mem, Irq, Idle, Dma}
 use Rattle.record_text.specs.declared.record.Record.{Record}
 use Rattle.image_load.specs.RecordDevices.{HasDevices, IsRecordDevice, named_memory, record_irq}
-use Rattle.image_load.specs.Resolving.{bench_device_of, bytes_into, image_bench, image_record, input_of, irq_input_of, memories_of, memory_input_of, port_input_of, tick_input_of}
+use Rattle.image_load.specs.Resolving.{bench_device_of, bytes_into, image_bench, image_record, image_input_of, irq_input_of, named_memories_of, memory_input_of, port_input_of, tick_input_of}
 
 -- ---- lists side by side
 
@@ -110,7 +110,7 @@ made_same n p m q = cc
 bench_same : (spans : List SpanPart) (d : DevicePart) (p : RecordDevice) → IsRecordDevice spans d p → bench_device p ≡ bench_device_of spans d
 bench_same spans d p h =
     let ports : map (λ (r : PortSpan). (r.start, r.end)) p.ports ≡ map (λ r. (r.start, r.end)) d.ports = ap (map (λ r. (r.start, r.end))) h.ports in
-    let memories : map (λ (m : RecordMemory). (m.name, m.bytes)) p.memories ≡ map (λ m. (m.name, m.bytes)) (memories_of spans d) =
+    let memories : map (λ (m : RecordMemory). (m.name, m.bytes)) p.memories ≡ map (λ m. (m.name, m.bytes)) (named_memories_of spans d) =
     sym (map-map named_memory (λ m. (m.name, m.bytes)) p.memories) ∙ ap (map (λ m. (m.name, m.bytes))) h.memories in
     let irqs : map (λ (q : RecordIrq). q.name) p.irqs ≡ map (λ q. q.name) d.irqs = ap (map (λ q. q.name)) h.irqs ∙ map-map record_irq (λ q. q.name) d.irqs in
     made_same h.name ports memories irqs
@@ -124,7 +124,7 @@ same_bench : (i : Image) (ds : Devices) → HasDevices i ds → bench_of ds ≡ 
 same_bench i ds h =
     ap₂ (λ n bs. record { cpus = n; devices = bs }) h.cpus (map_paired (IsRecordDevice i.spans) (bench_device_of i.spans) bench_device (bench_same i.spans) i.devices ds.devices h.devices)
 
-same_input : (i : Image) (ds : Devices) → HasDevices i ds → (input : NamedInput) → resolved_input ds input ≡ input_of i input
+same_input : (i : Image) (ds : Devices) → HasDevices i ds → (input : NamedInput) → resolved_input ds input ≡ image_input_of i input
 same_input i ds h (port_input device port value) =
     then_paired (IsRecordDevice i.spans) (port_input_of port value) (port_of port value) (ports_same i.spans port value) _ _ (found_paired (IsRecordDevice i.spans) (λ d. bytes_eq d.name device) (λ d. bytes_eq d.name device) (called_same i.spans device) i.devices ds.devices h.devices)
 same_input i ds h (memory_input device memory offset bytes) =

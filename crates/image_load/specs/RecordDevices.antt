@@ -9,7 +9,7 @@ use Rattle.record_text.specs.declared.devices.RecordDevice.{RecordDevice}
 use Rattle.record_text.specs.declared.devices.Devices.{Devices}
 use Rattle.record_text.specs.declared.devices.RecordIrq.{RecordIrq}
 use Rattle.record_text.specs.declared.devices.RecordMemory.{RecordMemory}
-use Rattle.image_load.specs.Resolving.{NamedMemory, memories_of}
+use Rattle.image_load.specs.Resolving.{NamedMemory, named_memories_of}
 
 abbrev pub record_irq : IrqPart → RecordIrq
 record_irq q = record { name = q.name; target = q.target }
@@ -21,7 +21,7 @@ named_memory m = record { name = m.name; address = m.address; bytes = m.bytes }
 pub record IsRecordDevice (spans : List SpanPart) (d : DevicePart) (p : RecordDevice) : Type 0 where
   pub name : p.name ≡ d.name
   pub ports : p.ports ≡ d.ports
-  pub memories : map named_memory p.memories ≡ memories_of spans d
+  pub memories : map named_memory p.memories ≡ named_memories_of spans d
   pub irqs : p.irqs ≡ map record_irq d.irqs
 
 -- an image's devices

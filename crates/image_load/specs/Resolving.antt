@@ -32,8 +32,8 @@ memory_of_span s = option_map (λ name. record { name = name; address = s.addres
 abbrev pub memory_of_window : List SpanPart → WindowPart → Option NamedMemory
 memory_of_window spans w = option_and_then memory_of_span (find (λ s. s.number == w.span) spans)
 
-abbrev pub memories_of : List SpanPart → DevicePart → List NamedMemory
-memories_of spans d = flat_map (λ w. option_to_list (memory_of_window spans w)) d.windows
+abbrev pub named_memories_of : List SpanPart → DevicePart → List NamedMemory
+named_memories_of spans d = flat_map (λ w. option_to_list (memory_of_window spans w)) d.windows
 
 -- ---- what a record may name
 
@@ -41,7 +41,7 @@ abbrev pub bench_device_of : List SpanPart → DevicePart → BenchDevice
 bench_device_of spans d = record {
   name = d.name;
   ports = map (λ r. (r.start, r.end)) d.ports;
-  memories = map (λ m. (m.name, m.bytes)) (memories_of spans d);
+  memories = map (λ m. (m.name, m.bytes)) (named_memories_of spans d);
   irqs = map (λ q. q.name) d.irqs;
 }
 
@@ -58,7 +58,7 @@ bytes_into offset bytes m = if nat_le (offset + length bytes) m.bytes then Some 
 
 abbrev pub memory_input_of : List SpanPart → List ℕ → ℕ → List ℕ → DevicePart → Option Input
 memory_input_of spans memory offset bytes d =
-    option_and_then (bytes_into offset bytes) (find (λ m. bytes_eq m.name memory) (memories_of spans d))
+    option_and_then (bytes_into offset bytes) (find (λ m. bytes_eq m.name memory) (named_memories_of spans d))
 
 abbrev pub irq_input_of : List ℕ → DevicePart → Option Input
 irq_input_of irq d = option_map (λ q. raised q.target) (find (λ q. bytes_eq q.name irq) d.irqs)
@@ -66,17 +66,17 @@ irq_input_of irq d = option_map (λ q. raised q.target) (find (λ q. bytes_eq q.
 abbrev pub device_called : List ℕ → Image → Option DevicePart
 device_called name i = find (λ d. bytes_eq d.name name) i.devices
 
-abbrev pub input_of : Image → NamedInput → Option Input
-input_of i (port_input device port value) = option_and_then (port_input_of port value) (device_called device i)
-input_of i (memory_input device memory offset bytes) =
+abbrev pub image_input_of : Image → NamedInput → Option Input
+image_input_of i (port_input device port value) = option_and_then (port_input_of port value) (device_called device i)
+image_input_of i (memory_input device memory offset bytes) =
     option_and_then (memory_input_of i.spans memory offset bytes) (device_called device i)
-input_of i (irq_input device irq) = option_and_then (irq_input_of irq) (device_called device i)
-input_of i (dma_input device addr bytes) =
+image_input_of i (irq_input device irq) = option_and_then (irq_input_of irq) (device_called device i)
+image_input_of i (dma_input device addr bytes) =
     option_map (λ number. Dma number addr bytes) (position (λ d. bytes_eq d.name device) i.devices)
 
 -- what isn't there does nothing; a record that is read for the image names nothing such
 abbrev pub tick_input_of : Image → ℕ × NamedInput → TickInput Input
-tick_input_of i e = record { tick = e.0; input = unwrap_or (input_of i e.1) Idle }
+tick_input_of i e = record { tick = e.0; input = unwrap_or (image_input_of i e.1) Idle }
 
 -- **the record** by addresses and numbers
 abbrev pub image_record : Image → DeviceRecord → Record Input

@@ -6,7 +6,7 @@ use Rattle.std.proofs.lemmas.Option.{get_or_from_slice_get, slice_get_within}
 use Rattle.machine_layout.specs.Memory.{Page, page_of}
 use Rattle.phys_mem.proofs.Rising.{later_spans}
 use Rattle.phys_mem.specs.Frames.{pages_in}
-use Rattle.phys_mem.specs.Spans.{AreSpans, IsSpan, end_of, pages_of_spans}
+use Rattle.phys_mem.specs.Spans.{AreSpans, IsMemorySpan, memory_span_end, pages_of_spans}
 use Rattle.phys_mem.specs.declared.spans.MemorySpan.{MemorySpan}
 
 not_in : (n k q : ℕ) (bytes : List ℕ) → (q < k) ⊎ (k + n ≤ q) → page_of (pages_in n k bytes) q ≡ None
@@ -60,9 +60,9 @@ in_spans (t ∷ ts) h zero s at j l =
     left (pages_in (length t.bytes / 4096) (t.address / 4096) t.bytes) (pages_of_spans ts) (s.address / 4096 + j) (take 4096 (drop (4096 * j) s.bytes))
     (subst (λ (x : MemorySpan). page_of (pages_in (length x.bytes / 4096) (x.address / 4096) x.bytes) (s.address / 4096 + j) ≡ Some (take 4096 (drop (4096 * j) s.bytes))) is (here (length s.bytes / 4096) (s.address / 4096) j s.bytes l))
 in_spans (t ∷ ts) h (suc i) s at j l =
-    let first : IsSpan t = h.each 0 t (omega arith) in
+    let first : IsMemorySpan t = h.each 0 t (omega arith) in
     let within = slice_get_within ts i s at in
-    let apart : end_of t ≤ (get_or ts i s).address = h.apart 0 (suc i) s (omega arith) (omega (arith, within)) in
+    let apart : memory_span_end t ≤ (get_or ts i s).address = h.apart 0 (suc i) s (omega arith) (omega (arith, within)) in
     let address : (get_or ts i s).address ≡ s.address = ap (λ (x : MemorySpan). x.address) (get_or_from_slice_get ts i s s at) in
     right (pages_in (length t.bytes / 4096) (t.address / 4096) t.bytes) (pages_of_spans ts) (s.address / 4096 + j)
     (not_in (length t.bytes / 4096) (t.address / 4096) (s.address / 4096 + j) t.bytes (inr (behind t.address (length t.bytes) s.address j first.aligned first.whole (omega (arith, apart, address)))))

@@ -5,9 +5,9 @@ use Rattle.std.proofs.lemmas.Bool.{and_parts, eqb-true, leb-true}
 use Rattle.std.proofs.lemmas.List.{length-replicate}
 use Rattle.std.proofs.lemmas.List.Elements.{All-from_recursion}
 use Rattle.muen_num.specs.declared.limits.TheConstants.{MOST_DEVICES, PAGE, PHYSICAL_END}
-use Rattle.phys_mem.specs.Spans.{AreApart, AreSpans, IsSpan, end_of}
+use Rattle.phys_mem.specs.Spans.{AreApart, AreSpans, IsMemorySpan, memory_span_end}
 use Rattle.phys_mem.specs.declared.spans.MemorySpan.{MemorySpan}
-use Rattle.image_pack.specs.Form.{all_fit, byte, bytes_of, coded, done, each, each_fit, field, gap, items, number, only}
+use Rattle.image_pack.specs.Form.{all_fit, byte, fixed_bytes, coded, done, each, each_fit, field, gap, items, number, only}
 use Rattle.image_pack.specs.Codes.{is_device}
 use Rattle.image_pack.specs.Image.{after, content, counts, header, image, no_spans_before, span}
 use Rattle.image_pack.specs.Parts.{IsParts}
@@ -64,7 +64,7 @@ parts_few i fits =
 -- ---- the spans with what they have at the start
 
 contents_length : (s : SpanPart) (bytes : List ℕ) → (content s).fits bytes → length (memory_span (s, bytes)).bytes ≡ PAGE * s.pages
-unfolding content bytes_of
+unfolding content fixed_bytes
 contents_length s bytes fits =
     elim (is_device s.kind) as (λ b. length bytes ≡ (if b then 0 else PAGE * s.pages) → length (if b then replicate (PAGE * s.pages) 0 else bytes) ≡ PAGE * s.pages) [
       | true ↦ λ long. length-replicate (PAGE * s.pages) 0
@@ -73,7 +73,7 @@ contents_length s bytes fits =
 
 abbrev Follow : ℕ → List MemorySpan → Type 0
 Follow end [] = Unit {0}
-Follow end (s ∷ ss) = (end ≤ s.address) × IsSpan s × Follow (end_of s) ss
+Follow end (s ∷ ss) = (end ≤ s.address) × IsMemorySpan s × Follow (memory_span_end s) ss
 
 follow_loaded : (end : ℕ) (ss : List SpanPart) (bs : List (List ℕ)) → Rise end ss → each_fit (λ s. (content s).fits) ss bs → Follow end (map memory_span (zip ss bs))
 unfolding each_fit
@@ -82,30 +82,30 @@ follow_loaded end (s ∷ ss) [] h fits = tt
 follow_loaded end (s ∷ ss) (b ∷ bs) h fits =
     let long = contents_length s b fits.0 in
     let here = h.0 in
-    let at_end : end_of (memory_span (s, b)) ≡ s.address + PAGE * s.pages = ap (λ n. s.address + n) long in (
+    let at_end : memory_span_end (memory_span (s, b)) ≡ s.address + PAGE * s.pages = ap (λ n. s.address + n) long in (
       here.behind,
       record { aligned = here.aligned; whole = omega (arith, long); low = omega (arith, at_end, here.low) },
       subst (λ n. Follow n (map memory_span (zip ss bs))) (sym at_end) (follow_loaded (s.address + PAGE * s.pages) ss bs h.1 fits.1),
     )
 
-spans_each : (end : ℕ) (ss : List MemorySpan) → Follow end ss → AllByRecursion IsSpan ss
+spans_each : (end : ℕ) (ss : List MemorySpan) → Follow end ss → AllByRecursion IsMemorySpan ss
 spans_each end [] h = tt
-spans_each end (s ∷ ss) h = (h.1, spans_each (end_of s) ss h.2)
+spans_each end (s ∷ ss) h = (h.1, spans_each (memory_span_end s) ss h.2)
 
 all_behind : (end : ℕ) (ss : List MemorySpan) → Follow end ss → (j : ℕ) (d : MemorySpan) → j < length ss → end ≤ (get_or ss j d).address
 all_behind end [] h j d low = absurd (omega arith)
 all_behind end (s ∷ ss) h zero d low = h.0
 all_behind end (s ∷ ss) h (suc j) d low =
-    let more = all_behind (end_of s) ss h.2 j d (omega (arith, low)) in
+    let more = all_behind (memory_span_end s) ss h.2 j d (omega (arith, low)) in
     let first : end ≤ s.address = h.0 in
     omega (arith, more, first)
 
 spans_apart : (end : ℕ) (ss : List MemorySpan) → Follow end ss → AreApart ss
 spans_apart end [] h i j d lt low = absurd (omega arith)
 spans_apart end (s ∷ ss) h zero zero d lt low = absurd (omega arith)
-spans_apart end (s ∷ ss) h zero (suc j) d lt low = all_behind (end_of s) ss h.2 j d (omega (arith, low))
+spans_apart end (s ∷ ss) h zero (suc j) d lt low = all_behind (memory_span_end s) ss h.2 j d (omega (arith, low))
 spans_apart end (s ∷ ss) h (suc i) zero d lt low = absurd (omega arith)
-spans_apart end (s ∷ ss) h (suc i) (suc j) d lt low = spans_apart (end_of s) ss h.2 i j d (omega (arith, lt)) (omega (arith, low))
+spans_apart end (s ∷ ss) h (suc i) (suc j) d lt low = spans_apart (memory_span_end s) ss h.2 i j d (omega (arith, lt)) (omega (arith, low))
 
 pub parts_load : (i : Image) → IsParts i → AreSpans (map memory_span (spans_in i))
 unfolding image field each

@@ -3,7 +3,7 @@ use Rattle.std.proofs.Common.{◌≡◌, ℕ, Some}
 use Rattle.std.specs.Prelude.{slice_get}
 use Rattle.image_memory.proofs.SpanNumbers.{KernelSpan, kernel_span}
 use Rattle.image_pack.specs.Codes.{part_code}
-use Rattle.image_pack.specs.ImageConditions.{IsSubject, KeepsConditions}
+use Rattle.image_pack.specs.ImageConditions.{IsSubjectPart, KeepsConditions}
 use Rattle.image_pack.specs.declared.parts.Image.{Image}
 use Rattle.image_pack.specs.declared.parts.SubjectPart.{SubjectPart}
 use Rattle.muen_num.specs.declared.tag.TagPart.TheVariants.{State, Iobm, Msrbm, Msrs}
@@ -17,10 +17,10 @@ pub record SubjectSpans (i : Image) (q : SubjectPart) : Type 0 where
   pub msrbm : KernelSpan i.spans (part_code Msrbm) 1 q.msrbm
   pub area : KernelSpan i.spans (part_code Msrs) 1 q.area
 
-pub subject_kept : (i : Image) → KeepsConditions i → (s : ℕ) (q : SubjectPart) → slice_get i.subjects s ≡ Some q → (n : ℕ) × IsSubject i (n, q)
+pub subject_kept : (i : Image) → KeepsConditions i → (s : ℕ) (q : SubjectPart) → slice_get i.subjects s ≡ Some q → (n : ℕ) × IsSubjectPart i (n, q)
 subject_kept i keeps s q at =
     let e = enumerated_at 0 i.subjects s q at in
-    (e.0, all_at (IsSubject i) _ s (e.0, q) keeps.subjects e.1)
+    (e.0, all_at (IsSubjectPart i) _ s (e.0, q) keeps.subjects e.1)
 
 pub subject_spans : (i : Image) → KeepsConditions i → (s : ℕ) (q : SubjectPart) → slice_get i.subjects s ≡ Some q → SubjectSpans i q
 subject_spans i keeps s q at =

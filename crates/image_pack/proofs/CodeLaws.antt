@@ -8,10 +8,10 @@ use Rattle.muen_num.specs.declared.mode.EventMode.{EventMode}
 use Rattle.muen_num.specs.declared.mode.EventMode.TheVariants.{Asap, Async, Own as OwnMode, Switch}
 use Rattle.muen_num.specs.declared.tag.TagPart.TheVariants.{Whole, State, Ept, Iobm, Msrbm, Msrs}
 use Rattle.binary_form.specs.declared.fault.Field.TheVariants as at
-use Rattle.binary_form.specs.Form.{either, fits_either, present, fits_there, absent}
+use Rattle.binary_form.specs.Form.{either, fits_either, present, fits_there, absent_value}
 use Rattle.binary_form.specs.Name.{name}
 use Rattle.binary_form.proofs.Leaves.{IsCode, Laws, coded_laws}
-use Rattle.image_pack.specs.Codes.{mark_in, mark_bytes, kind_of, kind_code, kind_in, kind_bytes, part_code, part_name, plain_part, part_of, is_part, mode_of, mode_code, vector_of, vector_code, event_of, if_mode, event_in, event_bytes, target_of, subject_code, irq_vector_code, is_target}
+use Rattle.image_pack.specs.Codes.{mark_in, mark_bytes, span_kind_of, kind_code, kind_in, kind_bytes, part_code, part_name, plain_part, part_of, is_part, mode_of, mode_code, vector_of, vector_code, event_of, if_mode, event_in, event_bytes, target_of, subject_code, irq_vector_code, is_target_code}
 use Rattle.image_pack.specs.Image.{mark, kind_byte, event, title, tau0_at}
 use Rattle.image_pack.specs.declared.outline.Header.{Header}
 use Rattle.image_pack.specs.declared.parts.SpanKind.{SpanKind}
@@ -63,7 +63,7 @@ pub mark_laws : Laws mark
 mark_laws = coded_laws 8 mark_in mark_bytes at.Magic mark_is_code
 
 pub has_tau0 : (has : Bool) (spans : ℕ) (o : Option ℕ) → (tau0_at has spans).fits o → is_some o ≡ has
-unfolding tau0_at either present absent
+unfolding tau0_at either present absent_value
 has_tau0 true spans None fits = absurd fits
 has_tau0 true spans (Some n) fits = refl
 has_tau0 false spans o fits = ap is_some fits
@@ -79,8 +79,8 @@ kind_chosen false false false true e n k p q r s t h = ap kind_code (sym (some_i
 kind_chosen false false false false true n k p q r s t h = ap kind_code (sym (some_is Device k h)) ∙ sym (t refl)
 kind_chosen false false false false false n k p q r s t h = absurd cc
 
-kind_back : (n : ℕ) (k : SpanKind) → kind_of n ≡ Some k → kind_code k ≡ n
-unfolding kind_of
+kind_back : (n : ℕ) (k : SpanKind) → span_kind_of n ≡ Some k → kind_code k ≡ n
+unfolding span_kind_of
 kind_back n k e =
     kind_chosen (eqb n 0) (eqb n 1) (eqb n 2) (eqb n 3) (eqb n 4) n k (eqb-true n 0) (eqb-true n 1) (eqb-true n 2) (eqb-true n 3) (eqb-true n 4) e
 
@@ -145,7 +145,7 @@ titled true (Some t) h = inl (refl, t, refl)
 titled false o h = inr (refl, h)
 
 pub part_code_back : (kind : SpanKind) (code : ℕ) (o : Option (List ℕ)) → is_part kind code ≡ true → (title code).fits o → part_code (part_of code o) ≡ code
-unfolding title either present absent
+unfolding title either present absent_value
 part_code_back kind code o h fits =
     elim (titled (eqb code 1) o fits) [
       | inl q ↦ ap (λ x. part_code (part_of code x)) q.2 ∙ sym (eqb-true code 1 q.0)
@@ -242,7 +242,7 @@ subject_back to vector =
       | inr ne ↦ rw (ne_eqb to 255 ne) refl
     ]
 
-pub irq_vector_back : (subjects to vector : ℕ) → is_target subjects to vector ≡ true → irq_vector_code (target_of to vector) ≡ vector
+pub irq_vector_back : (subjects to vector : ℕ) → is_target_code subjects to vector ≡ true → irq_vector_code (target_of to vector) ≡ vector
 irq_vector_back subjects to vector h =
     elim (cases_eq to 255) [
       | inl e ↦ let t = eq-eqb to 255 e in rw t (sym (eqb-true vector 0 (rw t at h)))

@@ -5,7 +5,7 @@ use Rattle.std.specs.List.{All, AllZip, sum_by}
 use Rattle.std.proofs.lemmas.List.{length-replicate}
 use Rattle.std.proofs.lemmas.Bool.{cases_eq, ne_eqb, or_right}
 use Rattle.muen_num.specs.declared.limits.TheConstants.{MOST_BLOCK_BYTES, MOST_DEVICE_BYTES, PAGE}
-use Rattle.binary_form.specs.Form.{each_fit, each, bytes_of, field, only, gap, done, number, byte, coded, either, present, absent, items}
+use Rattle.binary_form.specs.Form.{each_fit, each, fixed_bytes, field, only, gap, done, number, byte, coded, either, present, absent_value, items}
 use Rattle.image_pack.specs.Codes.{is_own, mark_bytes, mark_in}
 use Rattle.image_pack.specs.Image.{content, counts, no_spans_before, header, image, suits_tau0, tau0_at}
 use Rattle.image_pack.specs.ImageConditions.{IsChoice, IsContent, KeepsConditions}
@@ -26,7 +26,7 @@ mark_decodes true = refl
 mark_decodes false = refl
 
 choice_fits : (spans : List SpanPart) (t : Option ℕ) (n : ℕ) → length spans ≡ n → n ≤ 1152 → IsChoice spans t → (tau0_at (is_some t) n).fits t
-unfolding tau0_at either present absent field only gap done number
+unfolding tau0_at either present absent_value field only gap done number
 choice_fits spans None n same few h = refl
 choice_fits spans (Some t) n same few h = let low : t < length spans = h.0 in ((omega (arith, low, same, few), lt-ltb t n (omega (arith, low, same))), refl)
 
@@ -102,7 +102,7 @@ at_start i k = record {
 }
 
 contents_fit : (spans : List SpanPart) (bytes : List (List ℕ)) → AllZip IsContent spans bytes → each_fit (λ s. (content s).fits) spans bytes
-unfolding each_fit content bytes_of
+unfolding each_fit content fixed_bytes
 contents_fit [] [] h = tt
 contents_fit [] (b ∷ bs) h = h
 contents_fit (s ∷ ss) [] h = h

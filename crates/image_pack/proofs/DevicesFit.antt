@@ -7,9 +7,9 @@ use Rattle.std.proofs.lemmas.List.Elements.{All-head, All-tail}
 use Rattle.std.proofs.lemmas.List.Folds.{list_any-append}
 use Rattle.binary_form.specs.Form.{all_fit, field, only, gap, done, number, byte, items}
 use Rattle.binary_form.proofs.NameLaws.{name_fits}
-use Rattle.image_pack.specs.Codes.{irq_vector_code, is_target, subject_code, target_of}
-use Rattle.image_pack.specs.Image.{after_device, after_irq, after_window, device, irq, is_listed, is_window, nothing_left, outline, range, window, window_name}
-use Rattle.image_pack.specs.ImageConditions.{AreDistinct, IsDevice, IsIrq, IsRange, IsReached, IsWindow}
+use Rattle.image_pack.specs.Codes.{irq_vector_code, is_target_code, subject_code, target_of}
+use Rattle.image_pack.specs.Image.{after_device, after_irq, after_window, device, irq, is_listed_name, is_window, nothing_left, outline, range, window_form, window_name}
+use Rattle.image_pack.specs.ImageConditions.{AreDistinct, IsDevicePart, IsIrqPart, IsRange, IsReached, IsWindow}
 use Rattle.image_pack.specs.declared.outline.Header.{Header}
 use Rattle.image_pack.specs.declared.outline.Outline.{Outline}
 use Rattle.image_pack.specs.declared.parts.DevicePart.{DevicePart}
@@ -25,7 +25,7 @@ use Rattle.image_pack.proofs.SubjectsFit.{each_fits}
 
 -- none of these names is listed
 abbrev pub AreNew : List (List ℕ) → List (List ℕ) → Type 0
-AreNew names texts = All (λ t. is_listed names t ≡ false) texts
+AreNew names texts = All (λ t. is_listed_name names t ≡ false) texts
 
 -- those behind a name are new where it is listed too
 pub still_new : (names : List (List ℕ)) (t : List ℕ) (texts : List (List ℕ)) → AreNew names (t ∷ texts) → AreDistinct (t ∷ texts) → AreNew (names ++ t ∷ []) texts
@@ -56,23 +56,23 @@ window_there (s ∷ ss) n m t all h =
       | inr ne ↦ window_there ss n m t (All-tail (λ x. x.number < m) s ss all) (rw (ne_eqb s.number n ne) at h)
     ]
 
-one_window : (o : Outline) (names : List (List ℕ)) (w : WindowPart) (t : List ℕ) → All (λ s. s.number < 2 ^ 16) o.spans → IsWindow o.spans w t → is_listed names t ≡ false → (window o names).fits w
-unfolding window field only done number is_window
+one_window : (o : Outline) (names : List (List ℕ)) (w : WindowPart) (t : List ℕ) → All (λ s. s.number < 2 ^ 16) o.spans → IsWindow o.spans w t → is_listed_name names t ≡ false → (window_form o names).fits w
+unfolding window_form field only done number is_window
 one_window o names w t low h new = ((window_there o.spans w.span (2 ^ 16) t low h, rw (h, new) refl), refl)
 
 windows_fit : (o : Outline) (names : List (List ℕ)) (ws : List WindowPart) (ts : List (List ℕ)) → All (λ s. s.number < 2 ^ 16) o.spans → AllZip (IsWindow o.spans) ws ts → AreDistinct ts → AreNew names ts
-    → all_fit (after_window o) (λ n. (window o n).fits) names ws
+    → all_fit (after_window o) (λ n. (window_form o n).fits) names ws
 unfolding all_fit after_window
 windows_fit o names [] ts low zip differ new = tt
 windows_fit o names (w ∷ ws) [] low zip differ new = absurd zip
 windows_fit o names (w ∷ ws) (t ∷ ts) low zip differ new = (
-  one_window o names w t low zip.0 (All-head (λ n. is_listed names n ≡ false) t ts new),
+  one_window o names w t low zip.0 (All-head (λ n. is_listed_name names n ≡ false) t ts new),
   rw zip.0 (windows_fit o (names ++ t ∷ []) ws ts low zip.1 (distinct_behind t ts differ) (still_new names t ts new differ)),
 )
 
 -- ---- interrupts
 
-reached_passes : (subjects : ℕ) (t : Option IrqTarget) → subjects ≤ 32 → IsReached subjects t → is_target subjects (subject_code t) (irq_vector_code t) ≡ true
+reached_passes : (subjects : ℕ) (t : Option IrqTarget) → subjects ≤ 32 → IsReached subjects t → is_target_code subjects (subject_code t) (irq_vector_code t) ≡ true
 reached_passes subjects None few h = refl
 reached_passes subjects (Some t) few h = let low : t.subject < subjects = h.0 in rw (ne_eqb t.subject 255 (λ e. absurd (omega (arith, e, low, few)))) (and_from _ _ (lt-ltb _ _ h.0) (le-leb 32 t.vector h.1))
 
@@ -88,7 +88,7 @@ vector_small : (subjects : ℕ) (t : Option IrqTarget) → IsReached subjects t 
 vector_small subjects None h = omega arith
 vector_small subjects (Some t) h = h.2
 
-one_irq : (h : Header) (names : List (List ℕ)) (q : IrqPart) → h.subjects ≤ 32 → IsIrq h.subjects q → is_listed names q.name ≡ false → (irq h names).fits q
+one_irq : (h : Header) (names : List (List ℕ)) (q : IrqPart) → h.subjects ≤ 32 → IsIrqPart h.subjects q → is_listed_name names q.name ≡ false → (irq h names).fits q
 unfolding irq field only gap done byte
 one_irq h names q few k new = (
   (name_fits q.name k.called, ap not new),
@@ -101,13 +101,13 @@ one_irq h names q few k new = (
   ),
 )
 
-irqs_fit : (h : Header) (names : List (List ℕ)) (qs : List IrqPart) → h.subjects ≤ 32 → All (IsIrq h.subjects) qs → AreDistinct (map (λ q. q.name) qs) → AreNew names (map (λ q. q.name) qs)
+irqs_fit : (h : Header) (names : List (List ℕ)) (qs : List IrqPart) → h.subjects ≤ 32 → All (IsIrqPart h.subjects) qs → AreDistinct (map (λ q. q.name) qs) → AreNew names (map (λ q. q.name) qs)
     → all_fit (after_irq h) (λ n. (irq h n).fits) names qs
 unfolding all_fit
 irqs_fit h names [] few all differ new = tt
 irqs_fit h names (q ∷ qs) few all differ new = (
-  one_irq h names q few (All-head (IsIrq h.subjects) q qs all) (All-head (λ n. is_listed names n ≡ false) q.name (map (λ x. x.name) qs) new),
-  irqs_fit h (names ++ q.name ∷ []) qs few (All-tail (IsIrq h.subjects) q qs all) (distinct_behind q.name (map (λ x. x.name) qs) differ) (still_new names q.name (map (λ x. x.name) qs) new differ),
+  one_irq h names q few (All-head (IsIrqPart h.subjects) q qs all) (All-head (λ n. is_listed_name names n ≡ false) q.name (map (λ x. x.name) qs) new),
+  irqs_fit h (names ++ q.name ∷ []) qs few (All-tail (IsIrqPart h.subjects) q qs all) (distinct_behind q.name (map (λ x. x.name) qs) differ) (still_new names q.name (map (λ x. x.name) qs) new differ),
 )
 
 -- ---- devices
@@ -117,7 +117,7 @@ pub record FewBefore (i : Image) : Type 0 where
   pub subjects : i.header.subjects ≤ 32
   pub spans : All (λ s. s.number < 2 ^ 16) i.spans
 
-one_device : (i : Image) (names : List (List ℕ)) (d : DevicePart) → FewBefore i → IsDevice i d → is_listed names d.name ≡ false → (device (outline i.header i.spans i.plan.groups) names).fits d
+one_device : (i : Image) (names : List (List ℕ)) (d : DevicePart) → FewBefore i → IsDevicePart i d → is_listed_name names d.name ≡ false → (device (outline i.header i.spans i.plan.groups) names).fits d
 unfolding device field only gap done byte items
 one_device i names d few k new =
     let ports : length d.ports ≤ 16 = k.few_ports in
@@ -146,11 +146,11 @@ one_device i names d few k new =
       ),
     )
 
-pub devices_fit : (i : Image) (names : List (List ℕ)) (ds : List DevicePart) → FewBefore i → All (IsDevice i) ds → AreDistinct (map (λ d. d.name) ds) → AreNew names (map (λ d. d.name) ds)
+pub devices_fit : (i : Image) (names : List (List ℕ)) (ds : List DevicePart) → FewBefore i → All (IsDevicePart i) ds → AreDistinct (map (λ d. d.name) ds) → AreNew names (map (λ d. d.name) ds)
     → all_fit (after_device (outline i.header i.spans i.plan.groups)) (λ n. (device (outline i.header i.spans i.plan.groups) n).fits) names ds
 unfolding all_fit
 devices_fit i names [] few all differ new = tt
 devices_fit i names (d ∷ ds) few all differ new = (
-  one_device i names d few (All-head (IsDevice i) d ds all) (All-head (λ n. is_listed names n ≡ false) d.name (map (λ x. x.name) ds) new),
-  devices_fit i (names ++ d.name ∷ []) ds few (All-tail (IsDevice i) d ds all) (distinct_behind d.name (map (λ x. x.name) ds) differ) (still_new names d.name (map (λ x. x.name) ds) new differ),
+  one_device i names d few (All-head (IsDevicePart i) d ds all) (All-head (λ n. is_listed_name names n ≡ false) d.name (map (λ x. x.name) ds) new),
+  devices_fit i (names ++ d.name ∷ []) ds few (All-tail (IsDevicePart i) d ds all) (distinct_behind d.name (map (λ x. x.name) ds) differ) (still_new names d.name (map (λ x. x.name) ds) new differ),
 )

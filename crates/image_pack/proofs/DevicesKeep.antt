@@ -11,9 +11,9 @@ use Rattle.std.proofs.lemmas.List.Folds.{list_any-append}
 use Rattle.binary_form.specs.Form.{all_fit, field, only, gap, done, number, byte, items}
 use Rattle.binary_form.proofs.NameLaws.{name_kept}
 use Rattle.muen_num.specs.declared.limits.TheConstants.{FIRST_VECTOR, MOST_PER_DEVICE}
-use Rattle.image_pack.specs.Codes.{irq_vector_code, is_target, nobody, subject_code, target_of}
-use Rattle.image_pack.specs.Image.{after_device, after_irq, after_window, device, irq, is_listed, is_window, nothing_left, outline, range, window, window_name}
-use Rattle.image_pack.specs.ImageConditions.{AreDistinct, IsDevice, IsIrq, IsRange, IsReached, IsWindow}
+use Rattle.image_pack.specs.Codes.{irq_vector_code, is_target_code, nobody, subject_code, target_of}
+use Rattle.image_pack.specs.Image.{after_device, after_irq, after_window, device, irq, is_listed_name, is_window, nothing_left, outline, range, window_form, window_name}
+use Rattle.image_pack.specs.ImageConditions.{AreDistinct, IsDevicePart, IsIrqPart, IsRange, IsReached, IsWindow}
 use Rattle.image_pack.specs.declared.outline.Header.{Header}
 use Rattle.image_pack.specs.declared.outline.Outline.{Outline}
 use Rattle.image_pack.specs.declared.parts.DevicePart.{DevicePart}
@@ -36,12 +36,12 @@ no_names : (names : List (List ℕ)) → Differ names []
 no_names names = record { new = λ k d l. absurd (omega (arith, l)); distinct = λ i j d lt l. absurd (omega (arith, l)) }
 
 -- a new name is put before names that are new where it is listed too
-pub name_before : (names : List (List ℕ)) (t : List ℕ) (texts : List (List ℕ)) → is_listed names t ≡ false → Differ (names ++ t ∷ []) texts → Differ names (t ∷ texts)
+pub name_before : (names : List (List ℕ)) (t : List ℕ) (texts : List (List ℕ)) → is_listed_name names t ≡ false → Differ (names ++ t ∷ []) texts → Differ names (t ∷ texts)
 name_before names t texts new rest =
-    let parts : (k : ℕ) (d : List ℕ) → k < length texts → (is_listed names (get_or texts k d) ≡ false) × (is_listed (t ∷ []) (get_or texts k d) ≡ false) =
-    λ k d l. or_parts (is_listed names (get_or texts k d)) (is_listed (t ∷ []) (get_or texts k d)) (sym (list_any-append (λ m. bytes_eq m (get_or texts k d)) names (t ∷ [])) ∙ rest.new k d l) in
+    let parts : (k : ℕ) (d : List ℕ) → k < length texts → (is_listed_name names (get_or texts k d) ≡ false) × (is_listed_name (t ∷ []) (get_or texts k d) ≡ false) =
+    λ k d l. or_parts (is_listed_name names (get_or texts k d)) (is_listed_name (t ∷ []) (get_or texts k d)) (sym (list_any-append (λ m. bytes_eq m (get_or texts k d)) names (t ∷ [])) ∙ rest.new k d l) in
     record {
-      new = All-cons (λ n. is_listed names n ≡ false) t texts new (λ k d l. (parts k d l).0);
+      new = All-cons (λ n. is_listed_name names n ≡ false) t texts new (λ k d l. (parts k d l).0);
       distinct = AllPairs-cons (λ a b. bytes_eq a b ≡ false) t texts (λ k d l. (or_parts (bytes_eq t (get_or texts k d)) false (parts k d l).1).0) rest.distinct;
     }
 
@@ -54,12 +54,12 @@ one_range h b r f = record { some = leb-true r.start r.end f.1.0.1; last = f.1.0
 -- ---- windows
 
 -- the name of a window that is one
-named_window : (names : List (List ℕ)) (o : Option (List ℕ)) → option_map_or (λ t. not (is_listed names t)) o false ≡ true → (t : List ℕ) × (o ≡ Some t) × (is_listed names t ≡ false)
+named_window : (names : List (List ℕ)) (o : Option (List ℕ)) → option_map_or (λ t. not (is_listed_name names t)) o false ≡ true → (t : List ℕ) × (o ≡ Some t) × (is_listed_name names t ≡ false)
 named_window names None h = absurd (true≢false (sym h))
-named_window names (Some t) h = (t, refl, not-true (is_listed names t) h)
+named_window names (Some t) h = (t, refl, not-true (is_listed_name names t) h)
 
-one_window : (o : Outline) (names : List (List ℕ)) (w : WindowPart) → (window o names).fits w → (t : List ℕ) × (window_name o.spans w.span ≡ Some t) × (is_listed names t ≡ false)
-unfolding window field only done number is_window
+one_window : (o : Outline) (names : List (List ℕ)) (w : WindowPart) → (window_form o names).fits w → (t : List ℕ) × (window_name o.spans w.span ≡ Some t) × (is_listed_name names t ≡ false)
+unfolding window_form field only done number is_window
 one_window o names w f = named_window names (window_name o.spans w.span) f.0.1
 
 -- the windows of a device with the names of its memories
@@ -68,12 +68,12 @@ record Named (o : Outline) (names : List (List ℕ)) (ws : List WindowPart) : Ty
   windows : AllZip (IsWindow o.spans) ws texts
   differ : Differ names texts
 
-windows_named : (o : Outline) (names : List (List ℕ)) (ws : List WindowPart) → all_fit (after_window o) (λ n. (window o n).fits) names ws → Named o names ws
+windows_named : (o : Outline) (names : List (List ℕ)) (ws : List WindowPart) → all_fit (after_window o) (λ n. (window_form o n).fits) names ws → Named o names ws
 unfolding all_fit after_window
 windows_named o names [] f = record { texts = []; windows = tt; differ = no_names names }
 windows_named o names (w ∷ ws) f =
     let one = one_window o names w f.0 in
-    let later = subst (λ (m : Option (List ℕ)). all_fit (after_window o) (λ n. (window o n).fits) (names ++ option_to_list m) ws) one.1 f.1 in
+    let later = subst (λ (m : Option (List ℕ)). all_fit (after_window o) (λ n. (window_form o n).fits) (names ++ option_to_list m) ws) one.1 f.1 in
     let rest = windows_named o (names ++ one.0 ∷ []) ws later in
     record { texts = one.0 ∷ rest.texts; windows = (one.1, rest.windows); differ = name_before names one.0 rest.texts one.2 rest.differ }
 
@@ -89,7 +89,7 @@ somebody : (b : Bool) (x y : IrqTarget) → cond b None (Some x) ≡ Some y → 
 somebody true x y h = absurd (cc (h))
 somebody false x y h = refl
 
-target_kept : (subjects : ℕ) (t : Option IrqTarget) → t ≡ target_of (subject_code t) (irq_vector_code t) → irq_vector_code t < 2 ^ 8 → is_target subjects (subject_code t) (irq_vector_code t) ≡ true → IsReached subjects t
+target_kept : (subjects : ℕ) (t : Option IrqTarget) → t ≡ target_of (subject_code t) (irq_vector_code t) → irq_vector_code t < 2 ^ 8 → is_target_code subjects (subject_code t) (irq_vector_code t) ≡ true → IsReached subjects t
 target_kept subjects None back small h = tt
 target_kept subjects (Some t) back small h =
     let there : (t.subject == nobody) ≡ false = somebody (t.subject == nobody) (record { subject = t.subject; vector = t.vector }) t (sym back) in
@@ -97,8 +97,8 @@ target_kept subjects (Some t) back small h =
     (ltb-true t.subject subjects two.0, leb-true FIRST_VECTOR t.vector two.1, small)
 
 record OneIrq (h : Header) (names : List (List ℕ)) (q : IrqPart) : Type 0 where
-  is : IsIrq h.subjects q
-  new : is_listed names q.name ≡ false
+  is : IsIrqPart h.subjects q
+  new : is_listed_name names q.name ≡ false
 
 one_irq : (h : Header) (names : List (List ℕ)) (q : IrqPart) → (irq h names).fits q → OneIrq h names q
 unfolding irq field only gap done byte
@@ -107,26 +107,26 @@ one_irq h names q f = record {
     called = name_kept q.name f.0.0;
     reached = target_kept h.subjects q.target (ap (λ (x : IrqPart). x.target) f.1.1.1) f.1.1.0.0 f.1.1.0.1;
   };
-  new = not-true (is_listed names q.name) f.0.1;
+  new = not-true (is_listed_name names q.name) f.0.1;
 }
 
 record Irqs (h : Header) (names : List (List ℕ)) (qs : List IrqPart) : Type 0 where
-  each : All (IsIrq h.subjects) qs
+  each : All (IsIrqPart h.subjects) qs
   differ : Differ names (map (λ q. q.name) qs)
 
 irqs_kept : (h : Header) (names : List (List ℕ)) (qs : List IrqPart) → all_fit (after_irq h) (λ n. (irq h n).fits) names qs → Irqs h names qs
 unfolding all_fit
-irqs_kept h names [] f = record { each = All-nil (IsIrq h.subjects); differ = no_names names }
+irqs_kept h names [] f = record { each = All-nil (IsIrqPart h.subjects); differ = no_names names }
 irqs_kept h names (q ∷ qs) f =
     let one = one_irq h names q f.0 in
     let rest = irqs_kept h (names ++ q.name ∷ []) qs f.1 in
-    record { each = All-cons (IsIrq h.subjects) q qs one.is rest.each; differ = name_before names q.name (map (λ x. x.name) qs) one.new rest.differ }
+    record { each = All-cons (IsIrqPart h.subjects) q qs one.is rest.each; differ = name_before names q.name (map (λ x. x.name) qs) one.new rest.differ }
 
 -- ---- devices
 
 record OneDevice (i : Image) (names : List (List ℕ)) (d : DevicePart) : Type 0 where
-  is : IsDevice i d
-  new : is_listed names d.name ≡ false
+  is : IsDevicePart i d
+  new : is_listed_name names d.name ≡ false
 
 one_device : (i : Image) (names : List (List ℕ)) (d : DevicePart) → (device (outline i.header i.spans i.plan.groups) names).fits d → OneDevice i names d
 unfolding device field only gap done byte items
@@ -146,21 +146,21 @@ one_device i names d f =
         irqs = irqs.each;
         irqs_differ = irqs.differ.distinct;
       };
-      new = not-true (is_listed names d.name) f.0.1;
+      new = not-true (is_listed_name names d.name) f.0.1;
     }
 
 -- devices that keep the conditions, with names that differ
 record Devices (i : Image) (names : List (List ℕ)) (ds : List DevicePart) : Type 0 where
-  each : All (IsDevice i) ds
+  each : All (IsDevicePart i) ds
   differ : Differ names (map (λ d. d.name) ds)
 
 devices_from : (i : Image) (names : List (List ℕ)) (ds : List DevicePart) → all_fit (after_device (outline i.header i.spans i.plan.groups)) (λ n. (device (outline i.header i.spans i.plan.groups) n).fits) names ds → Devices i names ds
 unfolding all_fit
-devices_from i names [] f = record { each = All-nil (IsDevice i); differ = no_names names }
+devices_from i names [] f = record { each = All-nil (IsDevicePart i); differ = no_names names }
 devices_from i names (d ∷ ds) f =
     let one = one_device i names d f.0 in
     let rest = devices_from i (names ++ d.name ∷ []) ds f.1 in
-    record { each = All-cons (IsDevice i) d ds one.is rest.each; differ = name_before names d.name (map (λ x. x.name) ds) one.new rest.differ }
+    record { each = All-cons (IsDevicePart i) d ds one.is rest.each; differ = name_before names d.name (map (λ x. x.name) ds) one.new rest.differ }
 
-pub devices_kept : (i : Image) (ds : List DevicePart) → all_fit (after_device (outline i.header i.spans i.plan.groups)) (λ n. (device (outline i.header i.spans i.plan.groups) n).fits) [] ds → All (IsDevice i) ds × AreDistinct (map (λ d. d.name) ds)
+pub devices_kept : (i : Image) (ds : List DevicePart) → all_fit (after_device (outline i.header i.spans i.plan.groups)) (λ n. (device (outline i.header i.spans i.plan.groups) n).fits) [] ds → All (IsDevicePart i) ds × AreDistinct (map (λ d. d.name) ds)
 devices_kept i ds f = let r = devices_from i [] ds f in (r.each, r.differ.distinct)

@@ -9,7 +9,7 @@ use Rattle.frame_clock.proofs.SlotLaws.{group_there}
 use Rattle.frame_clock.specs.Plan.{is_cpu, is_group_on, is_major, is_minor}
 use Rattle.frame_clock.specs.declared.plan.Major.{Major}
 use Rattle.frame_clock.specs.declared.plan.Minor.{Minor}
-use Rattle.image_pack.specs.Image.{add_ticks, frames, major, minor, next_cpu, no_frames_before, nothing_left}
+use Rattle.image_pack.specs.Image.{add_ticks, frames, major, minor_frame_form, next_cpu, no_frames_before, nothing_left}
 use Rattle.image_pack.specs.declared.outline.Outline.{Outline}
 use Rattle.image_pack.specs.declared.reading.majors.CpuTicks.{CpuTicks}
 use Rattle.image_pack.specs.declared.reading.majors.FramesBefore.{FramesBefore}
@@ -58,8 +58,8 @@ last_ticks o t f fs g h =
     let all = all_of_them o t f fs g in
     omega (arith, sum, all)
 
-one_minor : (o : Outline) (t : FramesBefore) (f : Minor) (fs : List Minor) → length o.groups ≤ 32 → GoOn o t (f ∷ fs) → (minor o t).fits f
-unfolding minor field only gap done byte number
+one_minor : (o : Outline) (t : FramesBefore) (f : Minor) (fs : List Minor) → length o.groups ≤ 32 → GoOn o t (f ∷ fs) → (minor_frame_form o t).fits f
+unfolding minor_frame_form field only gap done byte number
 one_minor o t f fs few g =
     let here = and_parts (is_minor o.groups t.cpu f) (list_all (is_minor o.groups t.cpu) fs) g.each in
     let two = and_parts (nat_lt 0 f.ticks) (is_group_on o.groups t.cpu f.group) here.0 in
@@ -88,7 +88,7 @@ next_minor o t f fs g =
       small = g.small;
     }
 
-minors_fit : (o : Outline) (t : FramesBefore) (fs : List Minor) → length o.groups ≤ 32 → GoOn o t fs → all_fit (add_ticks o) (λ s. (minor o s).fits) t fs
+minors_fit : (o : Outline) (t : FramesBefore) (fs : List Minor) → length o.groups ≤ 32 → GoOn o t fs → all_fit (add_ticks o) (λ s. (minor_frame_form o s).fits) t fs
 unfolding all_fit
 minors_fit o t [] few g = tt
 minors_fit o t (f ∷ fs) few g = (one_minor o t f fs few g, minors_fit o (add_ticks o t f) fs few (next_minor o t f fs g))

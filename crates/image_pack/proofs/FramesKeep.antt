@@ -9,7 +9,7 @@ use Rattle.muen_num.specs.declared.limits.TheConstants.{MOST_MINOR_FRAMES, MOST_
 use Rattle.frame_clock.specs.Plan.{is_cpu, is_group_on, is_major, is_minor}
 use Rattle.frame_clock.specs.declared.plan.Major.{Major}
 use Rattle.frame_clock.specs.declared.plan.Minor.{Minor}
-use Rattle.image_pack.specs.Image.{add_ticks, frames, major, minor, next_cpu, no_frames_before, nothing_left, is_between}
+use Rattle.image_pack.specs.Image.{add_ticks, frames, major, minor_frame_form, next_cpu, no_frames_before, nothing_left, is_between_inclusive}
 use Rattle.image_pack.specs.declared.outline.Outline.{Outline}
 use Rattle.image_pack.specs.declared.reading.majors.CpuTicks.{CpuTicks}
 use Rattle.image_pack.specs.declared.reading.majors.FramesBefore.{FramesBefore}
@@ -20,10 +20,10 @@ use Rattle.image_pack.proofs.SubjectsFit.{next_number}
 four : (a b c d : Bool) → a ≡ true → b ≡ true → c ≡ true → d ≡ true → (a && b && c && d) ≡ true
 four a b c d p q r s = and_from (a && b && c) d (and_from (a && b) c (and_from a b p q) r) s
 
-pub low_end : (low high n : ℕ) → is_between low high n ≡ true → low ≤ n
+pub low_end : (low high n : ℕ) → is_between_inclusive low high n ≡ true → low ≤ n
 low_end low high n h = leb-true low n (and_parts (nat_le low n) (nat_le n high) h).0
 
-pub high_end : (low high n : ℕ) → is_between low high n ≡ true → n ≤ high
+pub high_end : (low high n : ℕ) → is_between_inclusive low high n ≡ true → n ≤ high
 high_end low high n h = leb-true n high (and_parts (nat_le low n) (nat_le n high) h).1
 
 -- ---- minor frames
@@ -37,8 +37,8 @@ record OneFrame (o : Outline) (t : FramesBefore) (f : Minor) : Type 0 where
   here : is_minor o.groups t.cpu f ≡ true
   last : (not (t.left == 1) || (t.sum + f.ticks == t.total)) ≡ true
 
-one_minor : (o : Outline) (t : FramesBefore) (f : Minor) → (minor o t).fits f → OneFrame o t f
-unfolding minor field only gap done byte number
+one_minor : (o : Outline) (t : FramesBefore) (f : Minor) → (minor_frame_form o t).fits f → OneFrame o t f
+unfolding minor_frame_form field only gap done byte number
 one_minor o t f h =
     let two = and_parts (nat_lt 0 f.ticks) (not (t.left == 1) || (t.sum + f.ticks == t.total)) h.1.0.1 in
     record { here = and_from (nat_lt 0 f.ticks) (is_group_on o.groups t.cpu f.group) two.0 h.0.1; last = two.1 }
@@ -54,7 +54,7 @@ total_so_far : (o : Outline) (t : FramesBefore) (f : Minor) (fs : List Minor) �
 total_so_far o t f [] few left one g = with_none t.sum f.ticks t.total (eqb-true (t.sum + f.ticks) t.total (implied (t.left == 1) (t.sum + f.ticks == t.total) (eq-eqb t.left 1 left) one.last))
 total_so_far o t f (x ∷ xs) few left one g = exact t.sum f.ticks (sum_by (λ (f : Minor). f.ticks) (x ∷ xs)) t.total few (g.total (omega arith))
 
-minors_fill : (o : Outline) (t : FramesBefore) (fs : List Minor) → t.total ≤ 100000 → t.left ≡ length fs → all_fit (add_ticks o) (λ s. (minor o s).fits) t fs → Fill o t fs
+minors_fill : (o : Outline) (t : FramesBefore) (fs : List Minor) → t.total ≤ 100000 → t.left ≡ length fs → all_fit (add_ticks o) (λ s. (minor_frame_form o s).fits) t fs → Fill o t fs
 unfolding all_fit
 minors_fill o t [] few left h = record { each = refl; total = λ l. absurd (omega (arith, l)) }
 minors_fill o t (f ∷ fs) few left h =

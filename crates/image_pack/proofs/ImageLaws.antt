@@ -13,7 +13,7 @@ use Rattle.image_pack.specs.declared.reading.majors.CpuTicks.{CpuTicks}
 use Rattle.image_pack.specs.declared.reading.majors.FramesBefore.{FramesBefore}
 use Rattle.image_pack.specs.declared.parts.SpanPart.{SpanPart}
 use Rattle.image_pack.specs.declared.parts.Image.{Image}
-use Rattle.image_pack.specs.Image.{tau0_at, counts, header, title, span, group, subject, minor, frames, major, range, window, irq, device, content, image}
+use Rattle.image_pack.specs.Image.{tau0_at, counts, header, title, span, group, subject, minor_frame_form, frames, major, range, window_form, irq, device, content, image}
 use Rattle.image_pack.proofs.CodeLaws.{mark_laws, has_tau0, kind_laws, part_name_back, part_code_back, event_laws, subject_back, irq_vector_back}
 
 -- ---- the header
@@ -83,8 +83,8 @@ subject_laws o index =
 
 -- ---- the plan
 
-minor_laws : (o : Outline) (b : FramesBefore) → Laws (minor o b)
-unfolding minor
+minor_laws : (o : Outline) (b : FramesBefore) → Laws (minor_frame_form o b)
+unfolding minor_frame_form
 minor_laws o b = search laws depth 40
 
 frames_laws : (o : Outline) (c : CpuTicks) → Laws (frames o c)
@@ -101,8 +101,8 @@ range_laws : (h : Header) (b : ℕ) → Laws (range h b)
 unfolding range
 range_laws h b = search laws depth 40
 
-window_laws : (o : Outline) (names : List (List ℕ)) → Laws (window o names)
-unfolding window
+window_laws : (o : Outline) (names : List (List ℕ)) → Laws (window_form o names)
+unfolding window_form
 window_laws o names = search laws depth 40
 
 irq_laws : (h : Header) (names : List (List ℕ)) → Laws (irq h names)

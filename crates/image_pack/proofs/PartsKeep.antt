@@ -6,9 +6,9 @@ use Rattle.std.proofs.lemmas.List.{length-replicate}
 use Rattle.std.proofs.lemmas.Bool.{eq-eqb, leb-true, ltb-true}
 use Rattle.muen_num.proofs.Booleans.{implied}
 use Rattle.muen_num.specs.declared.limits.TheConstants.{MOST_BLOCK_BYTES, MOST_DEVICE_BYTES, MOST_DEVICES, MOST_DEVICE_WINDOWS, MOST_REGIONS, MOST_MAJOR_FRAMES, MOST_CPUS, MOST_SUBJECTS, PAGE}
-use Rattle.binary_form.specs.Form.{each_fit, each, bytes_of, field, only, gap, done, number, byte, either, present, items}
+use Rattle.binary_form.specs.Form.{each_fit, each, fixed_bytes, field, only, gap, done, number, byte, either, present, items}
 use Rattle.image_pack.specs.Codes.{is_own}
-use Rattle.image_pack.specs.Image.{content, counts, header, image, is_between, no_spans_before, outline, suits_tau0, tau0_at}
+use Rattle.image_pack.specs.Image.{content, counts, header, image, is_between_inclusive, no_spans_before, outline, suits_tau0, tau0_at}
 use Rattle.image_pack.specs.ImageConditions.{IsChoice, IsContent, KeepsConditions}
 use Rattle.image_pack.specs.Parts.{IsParts}
 use Rattle.image_pack.specs.SpanConditions.{AreSpans, device_pages_of, pages_of}
@@ -24,10 +24,10 @@ use Rattle.image_pack.proofs.DevicesKeep.{devices_kept}
 
 -- the counts of a header that fits
 pub record Counts (h : Header) : Type 0 where
-  pub cpus : is_between 1 MOST_CPUS h.cpus ≡ true
-  pub subjects : is_between 1 MOST_SUBJECTS h.subjects ≡ true
-  pub groups : is_between 1 MOST_SUBJECTS h.groups ≡ true
-  pub majors : is_between 1 MOST_MAJOR_FRAMES h.majors ≡ true
+  pub cpus : is_between_inclusive 1 MOST_CPUS h.cpus ≡ true
+  pub subjects : is_between_inclusive 1 MOST_SUBJECTS h.subjects ≡ true
+  pub groups : is_between_inclusive 1 MOST_SUBJECTS h.groups ≡ true
+  pub majors : is_between_inclusive 1 MOST_MAJOR_FRAMES h.majors ≡ true
   pub devices : h.devices ≤ MOST_DEVICES
   pub spans : h.spans ≤ MOST_REGIONS + MOST_DEVICE_WINDOWS
   pub tau0 : (tau0_at (is_some h.tau0) h.spans).fits h.tau0
@@ -78,7 +78,7 @@ spans_kept h spans same few f = record {
 }
 
 contents_kept : (spans : List SpanPart) (bytes : List (List ℕ)) → each_fit (λ s. (content s).fits) spans bytes → AllZip IsContent spans bytes
-unfolding each_fit content bytes_of
+unfolding each_fit content fixed_bytes
 contents_kept [] [] h = tt
 contents_kept [] (b ∷ bs) h = h
 contents_kept (s ∷ ss) [] h = h

@@ -12,7 +12,7 @@ use Rattle.binary_form.specs.Name.{name}
 use Rattle.binary_form.proofs.Leaves.{wide16, wide32, wide64}
 use Rattle.binary_form.proofs.Sizes.{IsSized, absent_sized, byte_sized, coded_sized, condition, done_sized, each_low, either_sized, field_sized, gap_sized, items_sized, name_sized, no_bytes, number_sized, one_more, only_sized, present_sized, rows}
 use Rattle.image_pack.specs.Codes.{event_bytes, event_in, kind_bytes, kind_code, kind_in, mark_bytes, mark_in, mode_code, vector_code}
-use Rattle.image_pack.specs.Image.{add_ticks, after_irq, after_window, counts, device, event, events, frames, group, header, irq, kind_byte, major, mark, minor, next_cpu, no_frames_before, nothing_left, range, span, subject, tau0_at, title, window}
+use Rattle.image_pack.specs.Image.{add_ticks, after_irq, after_window, counts, device, event, events, frames, group, header, irq, kind_byte, major, mark, minor_frame_form, next_cpu, no_frames_before, nothing_left, range, span, subject, tau0_at, title, window_form}
 use Rattle.image_pack.specs.ImageConditions.{IsVector}
 use Rattle.image_pack.specs.Sizes.{device_size, frames_size, group_size, header_size, irq_size, major_size, minor_size, range_size, span_size, subject_size, window_size}
 use Rattle.image_pack.specs.declared.outline.Header.{Header}
@@ -144,8 +144,8 @@ subject_sized o index few =
 
 -- ---- major frames
 
-minor_sized : (o : Outline) (b : FramesBefore) → IsSized minor_size (minor o b)
-unfolding minor
+minor_sized : (o : Outline) (b : FramesBefore) → IsSized minor_size (minor_frame_form o b)
+unfolding minor_frame_form
 minor_sized o b =
     field_sized 1 7 _ _ _ (only_sized 1 _ _ _ byte_sized) (λ in_group g.
     gap_sized 3 4 _ _ (
@@ -158,7 +158,7 @@ frames_sized o c =
     field_sized 2 514 _ _ _ (only_sized 2 _ _ _ (number_sized w16 wide16)) (λ n fits.
     gap_sized 2 512 _ _
     (rows n MOST_MINOR_FRAMES minor_size _ (high_end 1 MOST_MINOR_FRAMES n (condition _ _ _ n fits))
-    (items_sized (add_ticks o) (minor o) (no_frames_before c n) n minor_size (minor_sized o))))
+    (items_sized (add_ticks o) (minor_frame_form o) (no_frames_before c n) n minor_size (minor_sized o))))
 
 pub major_sized : (o : Outline) (b : ℕ) → o.header.cpus ≤ MOST_CPUS → IsSized major_size (major o b)
 unfolding major
@@ -177,8 +177,8 @@ range_sized h b =
     field_sized 2 0 _ _ _ (only_sized 2 _ _ _ (number_sized w16 wide16)) (λ end e.
     done_sized _))
 
-window_sized : (o : Outline) (names : List (List ℕ)) → IsSized window_size (window o names)
-unfolding window
+window_sized : (o : Outline) (names : List (List ℕ)) → IsSized window_size (window_form o names)
+unfolding window_form
 window_sized o names = field_sized 2 0 _ _ _ (only_sized 2 _ _ _ (number_sized w16 wide16)) (λ n fits. done_sized _)
 
 irq_sized : (h : Header) (names : List (List ℕ)) → IsSized irq_size (irq h names)
@@ -200,7 +200,7 @@ device_sized o names =
     field_sized 64 1120 _ _ _
     (rows ports MOST_PER_DEVICE range_size _ (leb-true ports MOST_PER_DEVICE (condition _ _ _ ports b)) (items_sized (nothing_left o.header) (range o.header) 0 ports range_size (range_sized o.header))) (λ ps e.
     field_sized 32 1088 _ _ _
-    (rows windows MOST_PER_DEVICE window_size _ (leb-true windows MOST_PER_DEVICE (condition _ _ _ windows c)) (items_sized (after_window o) (window o) [] windows window_size (window_sized o))) (λ ws f.
+    (rows windows MOST_PER_DEVICE window_size _ (leb-true windows MOST_PER_DEVICE (condition _ _ _ windows c)) (items_sized (after_window o) (window_form o) [] windows window_size (window_sized o))) (λ ws f.
     field_sized 1088 0 _ _ _
     (rows irqs MOST_PER_DEVICE irq_size _ (leb-true irqs MOST_PER_DEVICE (condition _ _ _ irqs d)) (items_sized (after_irq o.header) (irq o.header) [] irqs irq_size (irq_sized o.header))) (λ qs g.
     done_sized _))))))))

@@ -5,14 +5,14 @@ use Rattle.std.specs.Prelude.{slice_index_or}
 use Rattle.std.proofs.lemmas.Bool.{and_from, or_right}
 use Rattle.std.proofs.lemmas.List.Elements.{All-head, All-tail}
 use Rattle.std.proofs.lemmas.List.Sums.{sum_by-cons}
-use Rattle.binary_form.specs.Form.{all_fit, field, only, gap, done, number, byte, coded, either, present, absent}
+use Rattle.binary_form.specs.Form.{all_fit, field, only, gap, done, number, byte, coded, either, present, absent_value}
 use Rattle.binary_form.proofs.NameLaws.{name_fits}
 use Rattle.muen_num.specs.declared.limits.TheConstants.{PAGE, MOST_BLOCK_BYTES, MOST_DEVICE_BYTES}
 use Rattle.muen_num.specs.Naming.{is_name}
 use Rattle.muen_num.specs.declared.tag.TagPart.{TagPart}
 use Rattle.muen_num.specs.declared.tag.TagPart.TheVariants.{Whole, Named, State, Ept, Iobm, Msrbm, Msrs}
-use Rattle.image_pack.specs.Codes.{is_device, kind_bytes, kind_in, kind_of, part_code, part_name, part_of, plain_part}
-use Rattle.image_pack.specs.Image.{after, device_pages_with, has_room, is_kind, is_new, pages_with, span, suits_tau0, sum32, title}
+use Rattle.image_pack.specs.Codes.{is_device, kind_bytes, kind_in, span_kind_of, part_code, part_name, part_of, plain_part}
+use Rattle.image_pack.specs.Image.{after, device_pages_with, spans_have_room, is_kind, is_new, pages_with, span, suits_tau0, sum32, title}
 use Rattle.image_pack.specs.SpanConditions.{Ascend, HaveDifferentNumbers, IsSpan, device_pages_of, pages_of}
 use Rattle.image_pack.specs.declared.outline.Header.{Header}
 use Rattle.image_pack.specs.declared.parts.SpanKind.{SpanKind}
@@ -37,7 +37,7 @@ pub record GoOn (h : Header) (b : SpansBefore) (xs : List SpanPart) : Type 0 whe
 -- ---- one field and another
 
 kind_decodes : (k : SpanKind) → kind_in (kind_bytes k) ≡ Some k
-unfolding kind_in kind_of
+unfolding kind_in span_kind_of
 kind_decodes Own = refl
 kind_decodes Channel = refl
 kind_decodes Provided = refl
@@ -64,7 +64,7 @@ part_back Msrbm = refl
 part_back Msrs = refl
 
 title_fits : (q : TagPart) → IfSome (part_name q) (λ text. is_name text ≡ true) → (title (part_code q)).fits (part_name q)
-unfolding title either present absent
+unfolding title either present absent_value
 title_fits Whole h = refl
 title_fits (Named name) h = name_fits name h
 title_fits State h = refl
@@ -101,7 +101,7 @@ more_device_pages h b x xs g =
     let sum = sum_by-cons device_pages_of x xs in
     fewer PAGE (device_pages_with b x.kind x.pages + sum_by device_pages_of xs) (b.device_pages + sum_by device_pages_of (x ∷ xs)) MOST_DEVICE_BYTES (omega (arith, more, sum)) g.device_pages
 
-room : (h : Header) (b : SpansBefore) (x : SpanPart) (xs : List SpanPart) → GoOn h b (x ∷ xs) → has_room b x.pages x.kind ≡ true
+room : (h : Header) (b : SpansBefore) (x : SpanPart) (xs : List SpanPart) → GoOn h b (x ∷ xs) → spans_have_room b x.pages x.kind ≡ true
 room h b x xs g =
     let own = fewer PAGE (pages_with b x.kind x.pages) (pages_with b x.kind x.pages + sum_by pages_of xs) MOST_BLOCK_BYTES (omega arith) (own_pages h b x xs g) in
     let device = fewer PAGE (device_pages_with b x.kind x.pages) (device_pages_with b x.kind x.pages + sum_by device_pages_of xs) MOST_DEVICE_BYTES (omega arith) (more_device_pages h b x xs g) in

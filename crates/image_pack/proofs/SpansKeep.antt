@@ -7,14 +7,14 @@ use Rattle.std.proofs.lemmas.List.{get_or-set_same}
 use Rattle.std.proofs.lemmas.List.Elements.{All-cons, All-nil}
 use Rattle.std.proofs.lemmas.List.Kept.{AllPairs-cons}
 use Rattle.std.proofs.lemmas.List.Sums.{sum_by-cons}
-use Rattle.binary_form.specs.Form.{all_fit, field, only, gap, done, number, byte, coded, either, present, absent}
+use Rattle.binary_form.specs.Form.{all_fit, field, only, gap, done, number, byte, coded, either, present, absent_value}
 use Rattle.binary_form.proofs.NameLaws.{name_kept}
 use Rattle.muen_num.specs.Naming.{is_name}
 use Rattle.muen_num.specs.declared.limits.TheConstants.{PAGE, PHYSICAL_END, MOST_BLOCK_BYTES, MOST_DEVICE_BYTES}
 use Rattle.muen_num.specs.declared.tag.TagPart.{TagPart}
 use Rattle.muen_num.specs.declared.tag.TagPart.TheVariants.{Whole, Named, State, Ept, Iobm, Msrbm, Msrs}
 use Rattle.image_pack.specs.Codes.{is_device, part_code, part_name}
-use Rattle.image_pack.specs.Image.{after, device_pages_with, has_room, is_kind, pages_with, span, suits_tau0, sum32, title}
+use Rattle.image_pack.specs.Image.{after, device_pages_with, spans_have_room, is_kind, pages_with, span, suits_tau0, sum32, title}
 use Rattle.image_pack.specs.SpanConditions.{Ascend, HaveDifferentNumbers, IsSpan, device_pages_of, end_of, pages_of}
 use Rattle.image_pack.specs.declared.outline.Header.{Header}
 use Rattle.image_pack.specs.declared.parts.SpanPart.{SpanPart}
@@ -23,7 +23,7 @@ use Rattle.image_pack.specs.declared.reading.spans.SpansBefore.{SpansBefore}
 -- ---- parts
 
 title_kept : (q : TagPart) → (title (part_code q)).fits (part_name q) → IfSome (part_name q) (λ text. is_name text ≡ true)
-unfolding title either present absent
+unfolding title either present absent_value
 title_kept Whole h = tt
 title_kept (Named called) h = name_kept called h
 title_kept State h = tt
@@ -41,7 +41,7 @@ record Stands (h : Header) (b : SpansBefore) (x : SpanPart) : Type 0 where
   numbered : x.number < h.spans
   unseen : slice_index_or b.seen x.number true ≡ false
   choice : suits_tau0 h.tau0 x.number x.kind ≡ true
-  room : has_room b x.pages x.kind ≡ true
+  room : spans_have_room b x.pages x.kind ≡ true
 
 one_stands : (h : Header) (b : SpansBefore) (x : SpanPart) → (span h b).fits x → Stands h b x
 unfolding span field only gap done number byte coded is_kind
@@ -49,7 +49,7 @@ one_stands h b x f =
     let address = and_parts (eqb (x.address % PAGE) 0) (nat_le b.end x.address) f.0.1 in
     let size = and_parts (nat_lt 0 x.pages) (nat_le (x.address + PAGE * x.pages) PHYSICAL_END) f.1.0.1 in
     let fresh = and_parts (nat_lt x.number h.spans) (not (slice_index_or b.seen x.number true)) f.1.1.0.1 in
-    let kind = and_parts (suits_tau0 h.tau0 x.number x.kind) (has_room b x.pages x.kind) f.1.1.1.0.1 in
+    let kind = and_parts (suits_tau0 h.tau0 x.number x.kind) (spans_have_room b x.pages x.kind) f.1.1.1.0.1 in
     record {
       one = record {
         aligned = eqb-true (x.address % PAGE) 0 address.0;
@@ -91,7 +91,7 @@ with_none : (n m : ℕ) → 4096 * n ≤ m → 4096 * (n + 0) ≤ m
 with_none n m h = omega (arith, h)
 
 -- pages of spans of memory, where the last one told that there is room
-own_room : (b : SpansBefore) (x : SpanPart) (xs : List SpanPart) → b.left ≡ suc (length xs) → has_room b x.pages x.kind ≡ true
+own_room : (b : SpansBefore) (x : SpanPart) (xs : List SpanPart) → b.left ≡ suc (length xs) → spans_have_room b x.pages x.kind ≡ true
     → (0 < length xs → PAGE * (pages_with b x.kind x.pages + sum_by pages_of xs) ≤ MOST_BLOCK_BYTES) → PAGE * (b.pages + sum_by pages_of (x ∷ xs)) ≤ MOST_BLOCK_BYTES
 own_room b x [] left room later =
     let p : ℕ = PAGE * pages_with b x.kind x.pages in
@@ -101,7 +101,7 @@ own_room b x [] left room later =
 own_room b x (y ∷ ys) left room later = own_pages b x (y ∷ ys) (later (omega arith))
 
 -- and those of devices' memories
-device_room : (b : SpansBefore) (x : SpanPart) (xs : List SpanPart) → b.left ≡ suc (length xs) → has_room b x.pages x.kind ≡ true
+device_room : (b : SpansBefore) (x : SpanPart) (xs : List SpanPart) → b.left ≡ suc (length xs) → spans_have_room b x.pages x.kind ≡ true
     → (0 < length xs → PAGE * (device_pages_with b x.kind x.pages + sum_by device_pages_of xs) ≤ MOST_DEVICE_BYTES) → PAGE * (b.device_pages + sum_by device_pages_of (x ∷ xs)) ≤ MOST_DEVICE_BYTES
 device_room b x [] left room later =
     let p : ℕ = PAGE * pages_with b x.kind x.pages in

@@ -13,7 +13,7 @@ use Rattle.frame_clock.proofs.SlotLaws.{group_there}
 use Rattle.frame_clock.specs.declared.plan.GroupPart.{GroupPart}
 use Rattle.image_pack.specs.Codes.{event_bytes, event_in, event_of, is_vector, mode_code, mode_of, part_code, vector_code, vector_of}
 use Rattle.image_pack.specs.Image.{event, group, is_eptp, is_group_of, is_kernel_span, next_index, nothing_left, outline, subject}
-use Rattle.image_pack.specs.ImageConditions.{AreEvents, IsEvent, IsGroup, IsSubject, IsVector}
+use Rattle.image_pack.specs.ImageConditions.{AreEvents, IsEvent, IsGroup, IsSubjectPart, IsVector}
 use Rattle.image_pack.specs.declared.outline.Header.{Header}
 use Rattle.image_pack.specs.declared.parts.EventPart.{EventPart}
 use Rattle.image_pack.specs.declared.parts.Image.{Image}
@@ -104,7 +104,7 @@ pub record FewBefore (i : Image) : Type 0 where
 eptp_low : (n : ℕ) → is_eptp n ≡ true → n < 2 ^ 40
 eptp_low n h = ltb-true n (2 ^ 40) (and_parts (eqb (n % PAGE) 0x1E) _ h).1
 
-one_subject : (i : Image) (index : ℕ) (q : SubjectPart) → FewBefore i → IsSubject i (index, q) → (subject (outline i.header i.spans i.plan.groups) index).fits q
+one_subject : (i : Image) (index : ℕ) (q : SubjectPart) → FewBefore i → IsSubjectPart i (index, q) → (subject (outline i.header i.spans i.plan.groups) index).fits q
 unfolding subject field only gap done byte number items is_group_of
 one_subject i index q few k =
     let cpu : q.cpu < i.header.cpus = k.cpu in
@@ -150,15 +150,15 @@ one_subject i index q few k =
 pub next_number : (index : ℕ) → index < 255 → min (index + 1) 255 ≡ index + 1
 next_number index low = omega (arith, low)
 
-subjects_from : (i : Image) (index : ℕ) (qs : List SubjectPart) → FewBefore i → index + length qs ≤ 32 → All (IsSubject i) (enumerate_from index qs)
+subjects_from : (i : Image) (index : ℕ) (qs : List SubjectPart) → FewBefore i → index + length qs ≤ 32 → All (IsSubjectPart i) (enumerate_from index qs)
     → all_fit (next_index (outline i.header i.spans i.plan.groups)) (λ b. (subject (outline i.header i.spans i.plan.groups) b).fits) index qs
 unfolding all_fit
 subjects_from i index [] few room all = tt
 subjects_from i index (q ∷ qs) few room all =
     let next = next_number index (omega (arith, room)) in
-    let rest = subjects_from i (index + 1) qs few (omega (arith, room)) (All-tail (IsSubject i) (index, q) (enumerate_from (index + 1) qs) all) in
-    (one_subject i index q few (All-head (IsSubject i) (index, q) (enumerate_from (index + 1) qs) all), rw next rest)
+    let rest = subjects_from i (index + 1) qs few (omega (arith, room)) (All-tail (IsSubjectPart i) (index, q) (enumerate_from (index + 1) qs) all) in
+    (one_subject i index q few (All-head (IsSubjectPart i) (index, q) (enumerate_from (index + 1) qs) all), rw next rest)
 
-pub subjects_fit : (i : Image) → FewBefore i → length i.subjects ≤ 32 → All (IsSubject i) (enumerate_from 0 i.subjects)
+pub subjects_fit : (i : Image) → FewBefore i → length i.subjects ≤ 32 → All (IsSubjectPart i) (enumerate_from 0 i.subjects)
     → all_fit (next_index (outline i.header i.spans i.plan.groups)) (λ b. (subject (outline i.header i.spans i.plan.groups) b).fits) 0 i.subjects
 subjects_fit i few room all = subjects_from i 0 i.subjects few (omega (arith, room)) all

@@ -12,7 +12,7 @@ use Rattle.frame_clock.specs.Plan.{is_group_on}
 use Rattle.frame_clock.specs.declared.plan.GroupPart.{GroupPart}
 use Rattle.image_pack.specs.Codes.{event_in, event_of, is_switch, is_vector, mode_code, mode_of, vector_code, vector_of}
 use Rattle.image_pack.specs.Image.{event, events, group, is_first_here, is_group_of, next_index, nothing_left, outline, subject}
-use Rattle.image_pack.specs.ImageConditions.{AreEvents, IsEvent, IsGroup, IsSubject, IsVector}
+use Rattle.image_pack.specs.ImageConditions.{AreEvents, IsEvent, IsGroup, IsSubjectPart, IsVector}
 use Rattle.image_pack.specs.declared.outline.Header.{Header}
 use Rattle.image_pack.specs.declared.parts.EventPart.{EventPart}
 use Rattle.image_pack.specs.declared.parts.Image.{Image}
@@ -92,7 +92,7 @@ events_kept h es f = record { many = f.0; each = each_kept (nothing_left h) (λ 
 
 -- ---- subjects
 
-one_subject : (i : Image) (index : ℕ) (q : SubjectPart) → (subject (outline i.header i.spans i.plan.groups) index).fits q → IsSubject i (index, q)
+one_subject : (i : Image) (index : ℕ) (q : SubjectPart) → (subject (outline i.header i.spans i.plan.groups) index).fits q → IsSubjectPart i (index, q)
 unfolding subject field only gap done byte number is_group_of
 one_subject i index q f =
     let two = and_parts (is_group_on i.plan.groups q.cpu q.group) (is_first_here i.plan.groups index q.group) f.1.0.1 in
@@ -112,14 +112,14 @@ one_subject i index q f =
     }
 
 subjects_from : (i : Image) (index : ℕ) (qs : List SubjectPart) → index + length qs ≤ 32 → all_fit (next_index (outline i.header i.spans i.plan.groups)) (λ b. (subject (outline i.header i.spans i.plan.groups) b).fits) index qs
-    → All (IsSubject i) (enumerate_from index qs)
+    → All (IsSubjectPart i) (enumerate_from index qs)
 unfolding all_fit
-subjects_from i index [] room f = All-nil (IsSubject i)
+subjects_from i index [] room f = All-nil (IsSubjectPart i)
 subjects_from i index (q ∷ qs) room f =
     let next = next_number index (omega (arith, room)) in
     let rest = subjects_from i (index + 1) qs (omega (arith, room)) (subst (λ n. all_fit (next_index (outline i.header i.spans i.plan.groups)) (λ b. (subject (outline i.header i.spans i.plan.groups) b).fits) n qs) next f.1) in
-    All-cons (IsSubject i) (index, q) (enumerate_from (index + 1) qs) (one_subject i index q f.0) rest
+    All-cons (IsSubjectPart i) (index, q) (enumerate_from (index + 1) qs) (one_subject i index q f.0) rest
 
 pub subjects_kept : (i : Image) → length i.subjects ≤ 32 → all_fit (next_index (outline i.header i.spans i.plan.groups)) (λ b. (subject (outline i.header i.spans i.plan.groups) b).fits) 0 i.subjects
-    → All (IsSubject i) (enumerate_from 0 i.subjects)
+    → All (IsSubjectPart i) (enumerate_from 0 i.subjects)
 subjects_kept i room f = subjects_from i 0 i.subjects (omega (arith, room)) f

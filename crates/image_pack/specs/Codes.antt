@@ -23,8 +23,8 @@ mark_bytes has = if has then codes "MUENIMG2" else codes "MUENIMG1"
 
 -- ---- kinds of spans
 
-unfoldable pub kind_of : ℕ → Option SpanKind
-kind_of n =
+unfoldable pub span_kind_of : ℕ → Option SpanKind
+span_kind_of n =
     if n == 0 then Some Own
     else (if n == 1 then Some Channel
     else (if n == 2 then Some Provided
@@ -39,7 +39,7 @@ kind_code Kernel = 3
 kind_code Device = 4
 
 unfoldable pub kind_in : List ℕ → Option SpanKind
-kind_in (n ∷ []) = kind_of n
+kind_in (n ∷ []) = span_kind_of n
 kind_in bytes = None
 
 abbrev pub kind_bytes : SpanKind → List ℕ
@@ -162,6 +162,6 @@ irq_vector_code None = 0
 irq_vector_code (Some t) = t.vector
 
 -- one of so many subjects with a vector that isn't kept for exceptions, or nobody without one
-abbrev pub is_target : ℕ → ℕ → ℕ → Bool
-is_target subjects subject vector =
+abbrev pub is_target_code : ℕ → ℕ → ℕ → Bool
+is_target_code subjects subject vector =
     if subject == nobody then vector == 0 else nat_lt subject subjects && nat_le FIRST_VECTOR vector

@@ -7,14 +7,14 @@ use Rattle.std.specs.Option.{option_map_or}
 use Rattle.std.specs.Str.{bytes_eq}
 use Rattle.muen_num.specs.declared.limits.TheConstants.{PAGE, PHYSICAL_END, MOST_BLOCK_BYTES, MOST_DEVICE_BYTES, MOST_CPUS, MOST_SUBJECTS, MOST_MAJOR_FRAMES, MOST_MINOR_FRAMES, MOST_TICKS, MOST_DEVICES, MOST_PER_DEVICE, MOST_REGIONS, MOST_DEVICE_WINDOWS, MOST_MSRS, MOST_CALLS}
 use Rattle.muen_num.specs.declared.tag.TagPart.TheVariants.{State, Iobm, Msrbm, Msrs}
-use Rattle.binary_form.specs.Form.{Form, number, byte, bytes_of, coded, present, absent, either, only, field, gap, done, items, each}
+use Rattle.binary_form.specs.Form.{Form, number, byte, fixed_bytes, coded, present, absent_value, either, only, field, gap, done, items, each}
 use Rattle.binary_form.specs.Name.{name}
 use Rattle.binary_form.specs.declared.fault.Field.TheVariants as at
 use Rattle.frame_clock.specs.Plan.{is_group_on}
 use Rattle.frame_clock.specs.declared.plan.GroupPart.{GroupPart}
 use Rattle.frame_clock.specs.declared.plan.Minor.{Minor}
 use Rattle.frame_clock.specs.declared.plan.Major.{Major}
-use Rattle.image_pack.specs.Codes.{mark_in, mark_bytes, kind_in, kind_bytes, is_device, is_own, part_code, part_name, part_of, is_part, event_in, event_bytes, target_of, subject_code, irq_vector_code, is_target}
+use Rattle.image_pack.specs.Codes.{mark_in, mark_bytes, kind_in, kind_bytes, is_device, is_own, part_code, part_name, part_of, is_part, event_in, event_bytes, target_of, subject_code, irq_vector_code, is_target_code}
 use Rattle.image_pack.specs.declared.outline.Header.{Header}
 use Rattle.image_pack.specs.declared.outline.Outline.{Outline}
 use Rattle.image_pack.specs.declared.parts.SpanKind.{SpanKind}
@@ -32,8 +32,8 @@ use Rattle.image_pack.specs.declared.reading.majors.FramesBefore.{FramesBefore}
 
 -- ---- numbers
 
-abbrev pub is_between : ℕ → ℕ → ℕ → Bool
-is_between low high n = nat_le low n && nat_le n high
+abbrev pub is_between_inclusive : ℕ → ℕ → ℕ → Bool
+is_between_inclusive low high n = nat_le low n && nat_le n high
 
 -- the next number of a byte, and 255 after 255
 abbrev pub next_byte : ℕ → ℕ
@@ -52,14 +52,14 @@ abbrev pub tau0_span : ℕ → Form ℕ
 tau0_span spans = field (λ n. n) (only (λ n. nat_lt n spans) at.Span (number w16)) (λ n. gap 4 at.Zero (done n))
 
 unfoldable pub tau0_at : Bool → ℕ → Form (Option ℕ)
-tau0_at has spans = either has (present (tau0_span spans)) (absent 6 at.Zero)
+tau0_at has spans = either has (present (tau0_span spans)) (absent_value 6 at.Zero)
 
 unfoldable pub counts : Bool → Form Header
 counts has =
-    field (λ h. h.cpus) (only (is_between 1 MOST_CPUS) at.Count byte) (λ cpus.
-    field (λ h. h.subjects) (only (is_between 1 MOST_SUBJECTS) at.Count byte) (λ subjects.
-    field (λ h. h.groups) (only (is_between 1 MOST_SUBJECTS) at.Count byte) (λ groups.
-    field (λ h. h.majors) (only (is_between 1 MOST_MAJOR_FRAMES) at.Count byte) (λ majors.
+    field (λ h. h.cpus) (only (is_between_inclusive 1 MOST_CPUS) at.Count byte) (λ cpus.
+    field (λ h. h.subjects) (only (is_between_inclusive 1 MOST_SUBJECTS) at.Count byte) (λ subjects.
+    field (λ h. h.groups) (only (is_between_inclusive 1 MOST_SUBJECTS) at.Count byte) (λ groups.
+    field (λ h. h.majors) (only (is_between_inclusive 1 MOST_MAJOR_FRAMES) at.Count byte) (λ majors.
     field (λ h. h.devices) (only (λ n. nat_le n MOST_DEVICES) at.Count byte) (λ devices.
     gap 3 at.Zero (
     field (λ h. h.spans) (only (λ n. nat_le n (MOST_REGIONS + MOST_DEVICE_WINDOWS)) at.Count (number w16)) (λ spans.
@@ -94,8 +94,8 @@ after h b s = record {
 abbrev pub is_address : ℕ → ℕ → Bool
 is_address end address = (address % PAGE == 0) && nat_le end address
 
-abbrev pub is_size : ℕ → ℕ → Bool
-is_size address pages = nat_lt 0 pages && nat_le (address + PAGE * pages) PHYSICAL_END
+abbrev pub is_span_size : ℕ → ℕ → Bool
+is_span_size address pages = nat_lt 0 pages && nat_le (address + PAGE * pages) PHYSICAL_END
 
 abbrev pub is_new : Header → SpansBefore → ℕ → Bool
 is_new h b n = nat_lt n h.spans && not (slice_index_or b.seen n true)
@@ -106,25 +106,25 @@ suits_tau0 None n kind = true
 suits_tau0 (Some t) n kind = not (n == t) || is_own kind
 
 -- all spans together have no more pages than there may be, those of devices counted apart; it shows at the last
-abbrev pub has_room : SpansBefore → ℕ → SpanKind → Bool
-has_room b pages kind =
+abbrev pub spans_have_room : SpansBefore → ℕ → SpanKind → Bool
+spans_have_room b pages kind =
     not (b.left == 1)
     || (nat_le (PAGE * pages_with b kind pages) MOST_BLOCK_BYTES && nat_le (PAGE * device_pages_with b kind pages) MOST_DEVICE_BYTES)
 
 unfoldable pub is_kind : Header → SpansBefore → ℕ → ℕ → SpanKind → Bool
-is_kind h b pages n kind = suits_tau0 h.tau0 n kind && has_room b pages kind
+is_kind h b pages n kind = suits_tau0 h.tau0 n kind && spans_have_room b pages kind
 
 abbrev pub kind_byte : Form SpanKind
 kind_byte = coded 1 kind_in kind_bytes at.Kind
 
 -- the name of a part that has one, and zeros of one that hasn't
 unfoldable pub title : ℕ → Form (Option (List ℕ))
-title code = either (code == 1) (present name) (absent 64 at.Name)
+title code = either (code == 1) (present name) (absent_value 64 at.Name)
 
 unfoldable pub span : Header → SpansBefore → Form SpanPart
 span h b =
     field (λ s. s.address) (only (is_address b.end) at.Place (number w64)) (λ address.
-    field (λ s. s.pages) (only (is_size address) at.Pages (number w32)) (λ pages.
+    field (λ s. s.pages) (only (is_span_size address) at.Pages (number w32)) (λ pages.
     field (λ s. s.number) (only (is_new h b) at.Number (number w16)) (λ n.
     field (λ s. s.kind) (only (is_kind h b pages n) at.Kind kind_byte) (λ kind.
     field (λ s. part_code s.tag.part) (only (is_part kind) at.Part byte) (λ code.
@@ -199,8 +199,8 @@ is_ticks b n = nat_lt 0 n && (not (b.left == 1) || (b.sum + n == b.total))
 abbrev pub add_ticks : Outline → FramesBefore → Minor → FramesBefore
 add_ticks o b f = record { cpu = b.cpu; total = b.total; sum = sum32 b.sum f.ticks; left = b.left - 1 }
 
-unfoldable pub minor : Outline → FramesBefore → Form Minor
-minor o b =
+unfoldable pub minor_frame_form : Outline → FramesBefore → Form Minor
+minor_frame_form o b =
     field (λ f. f.group) (only (is_group_on o.groups b.cpu) at.Group byte) (λ in_group.
     gap 3 at.Zero (
     field (λ f. f.ticks) (only (is_ticks b) at.Ticks (number w32)) (λ ticks.
@@ -212,23 +212,23 @@ no_frames_before c n = record { cpu = c.cpu; total = c.total; sum = 0; left = n 
 -- the minor frames of a CPU
 unfoldable pub frames : Outline → CpuTicks → Form (List Minor)
 frames o c =
-    field length (only (is_between 1 MOST_MINOR_FRAMES) at.Count (number w16)) (λ n.
+    field length (only (is_between_inclusive 1 MOST_MINOR_FRAMES) at.Count (number w16)) (λ n.
     gap 2 at.Zero (
-    items (add_ticks o) (minor o) (no_frames_before c n) n))
+    items (add_ticks o) (minor_frame_form o) (no_frames_before c n) n))
 
 abbrev pub next_cpu : Outline → CpuTicks → List Minor → CpuTicks
 next_cpu o c fs = record { cpu = next_byte c.cpu; total = c.total }
 
 unfoldable pub major : Outline → ℕ → Form Major
 major o b =
-    field (λ m. m.ticks) (only (is_between 1 MOST_TICKS) at.Ticks (number w32)) (λ ticks.
+    field (λ m. m.ticks) (only (is_between_inclusive 1 MOST_TICKS) at.Ticks (number w32)) (λ ticks.
     field (λ m. m.cpus) (items (next_cpu o) (frames o) (record { cpu = 0; total = ticks }) o.header.cpus) (λ cpus.
     done (record { ticks = ticks; cpus = cpus })))
 
 -- ---- devices: their names differ, and so do those of a device's memories and of its IRQs
 
-abbrev pub is_listed : List (List ℕ) → List ℕ → Bool
-is_listed names n = list_any (λ m. bytes_eq m n) names
+abbrev pub is_listed_name : List (List ℕ) → List ℕ → Bool
+is_listed_name names n = list_any (λ m. bytes_eq m n) names
 
 unfoldable pub range : Header → ℕ → Form PortSpan
 range h b =
@@ -244,13 +244,13 @@ unfoldable pub window_name : List SpanPart → ℕ → Option (List ℕ)
 window_name spans n = option_and_then device_name (find (λ s. s.number == n) spans)
 
 unfoldable pub is_window : List SpanPart → List (List ℕ) → ℕ → Bool
-is_window spans names n = option_map_or (λ t. not (is_listed names t)) (window_name spans n) false
+is_window spans names n = option_map_or (λ t. not (is_listed_name names t)) (window_name spans n) false
 
 unfoldable pub after_window : Outline → List (List ℕ) → WindowPart → List (List ℕ)
 after_window o names w = names ++ option_to_list (window_name o.spans w.span)
 
-unfoldable pub window : Outline → List (List ℕ) → Form WindowPart
-window o names =
+unfoldable pub window_form : Outline → List (List ℕ) → Form WindowPart
+window_form o names =
     field (λ w. w.span) (only (is_window o.spans names) at.Span (number w16)) (λ n.
     done (record { span = n }))
 
@@ -259,9 +259,9 @@ after_irq h names q = names ++ q.name ∷ []
 
 unfoldable pub irq : Header → List (List ℕ) → Form IrqPart
 irq h names =
-    field (λ q. q.name) (only (λ n. not (is_listed names n)) at.Name name) (λ called.
+    field (λ q. q.name) (only (λ n. not (is_listed_name names n)) at.Name name) (λ called.
     field (λ q. subject_code q.target) byte (λ to.
-    field (λ q. irq_vector_code q.target) (only (is_target h.subjects to) at.Irq byte) (λ vector.
+    field (λ q. irq_vector_code q.target) (only (is_target_code h.subjects to) at.Irq byte) (λ vector.
     gap 2 at.Zero (
     done (record { name = called; target = target_of to vector })))))
 
@@ -270,13 +270,13 @@ after_device o names d = names ++ d.name ∷ []
 
 unfoldable pub device : Outline → List (List ℕ) → Form DevicePart
 device o names =
-    field (λ d. d.name) (only (λ n. not (is_listed names n)) at.Name name) (λ called.
+    field (λ d. d.name) (only (λ n. not (is_listed_name names n)) at.Name name) (λ called.
     field (λ d. length d.ports) (only (λ n. nat_le n MOST_PER_DEVICE) at.Count byte) (λ ports.
     field (λ d. length d.windows) (only (λ n. nat_le n MOST_PER_DEVICE) at.Count byte) (λ windows.
     field (λ d. length d.irqs) (only (λ n. nat_le n MOST_PER_DEVICE) at.Count byte) (λ irqs.
     gap 1 at.Zero (
     field (λ d. d.ports) (items (nothing_left o.header) (range o.header) 0 ports) (λ ps.
-    field (λ d. d.windows) (items (after_window o) (window o) [] windows) (λ ws.
+    field (λ d. d.windows) (items (after_window o) (window_form o) [] windows) (λ ws.
     field (λ d. d.irqs) (items (after_irq o.header) (irq o.header) [] irqs) (λ qs.
     done (record { name = called; ports = ps; windows = ws; irqs = qs })))))))))
 
@@ -284,7 +284,7 @@ device o names =
 
 -- the bytes of a span; a device's memory has none in the image
 unfoldable pub content : SpanPart → Form (List ℕ)
-content s = bytes_of (if is_device s.kind then 0 else PAGE * s.pages)
+content s = fixed_bytes (if is_device s.kind then 0 else PAGE * s.pages)
 
 abbrev pub outline : Header → List SpanPart → List GroupPart → Outline
 outline h spans groups = record { header = h; spans = spans; groups = groups }

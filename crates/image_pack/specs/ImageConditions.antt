@@ -10,7 +10,7 @@ use Rattle.binary_form.specs.Form.{IsBytes}
 use Rattle.frame_clock.specs.Plan.{is_group_on, is_major}
 use Rattle.frame_clock.specs.declared.plan.GroupPart.{GroupPart}
 use Rattle.image_pack.specs.Codes.{is_device, is_own, is_switch, part_code}
-use Rattle.image_pack.specs.Image.{is_between, is_eptp, is_first_here, is_kernel_span, window_name}
+use Rattle.image_pack.specs.Image.{is_between_inclusive, is_eptp, is_first_here, is_kernel_span, window_name}
 use Rattle.image_pack.specs.SpanConditions.{AreSpans}
 use Rattle.image_pack.specs.declared.outline.Header.{Header}
 use Rattle.image_pack.specs.declared.parts.DevicePart.{DevicePart}
@@ -27,10 +27,10 @@ use Rattle.image_pack.specs.declared.parts.WindowPart.{WindowPart}
 
 -- as many as there may be, and as many as there are
 pub record AreCounted (i : Image) : Type 0 where
-  pub cpus : is_between 1 MOST_CPUS i.header.cpus ≡ true
-  pub few_subjects : is_between 1 MOST_SUBJECTS i.header.subjects ≡ true
-  pub few_groups : is_between 1 MOST_SUBJECTS i.header.groups ≡ true
-  pub few_majors : is_between 1 MOST_MAJOR_FRAMES i.header.majors ≡ true
+  pub cpus : is_between_inclusive 1 MOST_CPUS i.header.cpus ≡ true
+  pub few_subjects : is_between_inclusive 1 MOST_SUBJECTS i.header.subjects ≡ true
+  pub few_groups : is_between_inclusive 1 MOST_SUBJECTS i.header.groups ≡ true
+  pub few_majors : is_between_inclusive 1 MOST_MAJOR_FRAMES i.header.majors ≡ true
   pub few_devices : i.header.devices ≤ MOST_DEVICES
   pub subjects : length i.subjects ≡ i.header.subjects
   pub groups : length i.plan.groups ≡ i.header.groups
@@ -66,7 +66,7 @@ pub record AreEvents (subjects : ℕ) (events : List (Option EventPart)) : Type 
   pub each : All (IsEvent subjects) events
 
 -- a subject with its number
-pub record IsSubject (i : Image) (e : ℕ × SubjectPart) : Type 0 where
+pub record IsSubjectPart (i : Image) (e : ℕ × SubjectPart) : Type 0 where
   pub cpu : e.1.cpu < i.header.cpus
   -- its group is there, and on its CPU
   pub in_group : is_group_on i.plan.groups e.1.cpu e.1.group ≡ true
@@ -100,12 +100,12 @@ abbrev pub IsReached : ℕ → Option IrqTarget → Type 0
 IsReached subjects None = Unit {0}
 IsReached subjects (Some t) = (t.subject < subjects) × (FIRST_VECTOR ≤ t.vector) × (t.vector < 2 ^ 8)
 
-pub record IsIrq (subjects : ℕ) (q : IrqPart) : Type 0 where
+pub record IsIrqPart (subjects : ℕ) (q : IrqPart) : Type 0 where
   pub called : is_name q.name ≡ true
   pub reached : IsReached subjects q.target
 
 -- the names of a device's memories differ, and so do those of its interrupts
-pub record IsDevice (i : Image) (d : DevicePart) : Type 0 where
+pub record IsDevicePart (i : Image) (d : DevicePart) : Type 0 where
   pub called : is_name d.name ≡ true
   pub few_ports : length d.ports ≤ MOST_PER_DEVICE
   pub few_windows : length d.windows ≤ MOST_PER_DEVICE
@@ -114,7 +114,7 @@ pub record IsDevice (i : Image) (d : DevicePart) : Type 0 where
   pub names : List (List ℕ)
   pub windows : AllZip (IsWindow i.spans) d.windows names
   pub windows_differ : AreDistinct names
-  pub irqs : All (IsIrq i.header.subjects) d.irqs
+  pub irqs : All (IsIrqPart i.header.subjects) d.irqs
   pub irqs_differ : AreDistinct (map (λ q. q.name) d.irqs)
 
 -- ---- contents
@@ -134,8 +134,8 @@ pub record KeepsConditions (i : Image) : Type 0 where
   pub spans : AreSpans i.spans
   pub choice : IsChoice i.spans i.header.tau0
   pub groups : All (IsGroup i.header) i.plan.groups
-  pub subjects : All (IsSubject i) (enumerate_from 0 i.subjects)
+  pub subjects : All (IsSubjectPart i) (enumerate_from 0 i.subjects)
   pub majors : list_all (is_major i.plan.groups i.header.cpus) i.plan.majors ≡ true
-  pub devices : All (IsDevice i) i.devices
+  pub devices : All (IsDevicePart i) i.devices
   pub devices_differ : AreDistinct (map (λ d. d.name) i.devices)
   pub contents : AllZip IsContent i.spans i.contents

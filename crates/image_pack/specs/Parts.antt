@@ -17,8 +17,8 @@ pub record IsImage (bytes : List ℕ) (i : Image) : Type 0 where
   pub bytes_are : bytes ≡ image.spell i
 
 -- the parts, with their counts at the front
-abbrev pub counted : ℕ → Option ℕ → List SpanPart → List SubjectPart → Plan → List DevicePart → List (List ℕ) → Image
-counted cpus tau0 spans subjects plan devices contents = record {
+abbrev pub counted_image : ℕ → Option ℕ → List SpanPart → List SubjectPart → Plan → List DevicePart → List (List ℕ) → Image
+counted_image cpus tau0 spans subjects plan devices contents = record {
   header = record { cpus = cpus; subjects = length subjects; groups = length plan.groups; majors = length plan.majors; devices = length devices; spans = length spans; tau0 = tau0 };
   spans = spans;
   subjects = subjects;

@@ -1,7 +1,7 @@
 //! Codes of an image, read and written.
 ghost use Rattle.std.specs.Prelude.{◌≡◌, [], ◌∷◌};
 ghost use Rattle.binary_form.specs.Form.{Form, Gives};
-ghost use Rattle.image_pack.specs.Codes.{mark_bytes, kind_of, kind_code, is_device, is_own, part_code, part_name, part_of, plain_part, is_part, mode_of, mode_code, is_switch, is_vector, vector_of, vector_code, event_of, event_in, event_bytes, target_of, subject_code, irq_vector_code, is_target};
+ghost use Rattle.image_pack.specs.Codes.{mark_bytes, span_kind_of, kind_code, is_device, is_own, part_code, part_name, part_of, plain_part, is_part, mode_of, mode_code, is_switch, is_vector, vector_of, vector_code, event_of, event_in, event_bytes, target_of, subject_code, irq_vector_code, is_target_code};
 ghost use Rattle.image_pack.specs.Image.{mark, kind_byte, event};
 
 use crate::outline::Header;
@@ -40,9 +40,9 @@ pub(crate) fn mark_of(bytes: &[u8]) -> Result<(bool, &[u8]), FormError>
     Err(bad(bytes, Field::Magic))
 }
 
-#[tactic(auto, unfolding(crate::specs::Codes::kind_of))]
+#[tactic(auto, unfolding(crate::specs::Codes::span_kind_of))]
 fn kind_of(code: u8) -> Option<SpanKind>
-    ensures { result ≡ kind_of code }
+    ensures { result ≡ span_kind_of code }
 {
     match code {
         0 => Some(SpanKind::Own),
@@ -307,7 +307,7 @@ pub(crate) fn irq_vector_code(target: &Option<IrqTarget>) -> u8
 
 /// Whether an IRQ may have these numbers, among so many subjects.
 pub(crate) fn is_target(subjects: u8, subject: u8, vector: u8) -> bool
-    ensures { result ≡ is_target subjects subject vector }
+    ensures { result ≡ is_target_code subjects subject vector }
 {
     if subject == NOBODY {
         vector == 0

@@ -5,7 +5,7 @@ ghost use Rattle.binary_form.specs.Faults.{Tells, unpacked, IsShort};
 ghost use Rattle.binary_form.specs.declared.fault.Field.{Field};
 ghost use Rattle.image_pack.specs.Image.{image};
 ghost use Rattle.image_pack.specs.ImageConditions.{KeepsConditions};
-ghost use Rattle.image_pack.specs.Parts.{IsParts, IsImage, counted};
+ghost use Rattle.image_pack.specs.Parts.{IsParts, IsImage, counted_image};
 ghost use Rattle.image_pack.specs.Sizes.{most_image_bytes};
 ghost use Rattle.image_pack.specs.declared.parts.Image.{Image};
 ghost use Rattle.muen_num.specs.declared.limits.TheConstants.{IMAGE_MOST};
@@ -51,8 +51,8 @@ impl Parts {
         devices: Seq<DevicePart>,
         contents: Seq<Seq<u8>>,
     ) -> Parts
-        requires { IsParts (counted cpus tau0 spans subjects plan devices contents) }
-        ensures { result ≡ counted cpus tau0 spans subjects plan devices contents }
+        requires { IsParts (counted_image cpus tau0 spans subjects plan devices contents) }
+        ensures { result ≡ counted_image cpus tau0 spans subjects plan devices contents }
     {
         let header = Header {
             cpus,

@@ -4,7 +4,7 @@
 ghost use Rattle.std.specs.Prelude.{◌≡◌, ℕ, ◌++◌, List, OnOk, is_some};
 ghost use Rattle.binary_form.specs.Form.{Form, items, each};
 ghost use Rattle.image_pack.specs.Codes.{part_code, part_name};
-ghost use Rattle.image_pack.specs.Image.{tau0_at, counts, header, title, span, group, events, subject, minor, frames, major, range, window, irq, device, content, image};
+ghost use Rattle.image_pack.specs.Image.{tau0_at, counts, header, title, span, group, events, subject, minor_frame_form, frames, major, range, window_form, irq, device, content, image};
 ghost use Rattle.image_pack.specs.declared.outline.Header.{Header};
 ghost use Rattle.image_pack.specs.declared.outline.Outline.{Outline};
 ghost use Rattle.image_pack.specs.declared.reading.spans.SpansBefore.{SpansBefore};
@@ -22,7 +22,7 @@ use frame_clock::{GroupPart, Major, Minor};
 use muen_num::{PortSpan, Seq, TagPart};
 use std::alloc::AllocError;
 
-#[tactic(auto, using(binary_form::proofs::Puts::appended), unfolding(binary_form::specs::Form::field, binary_form::specs::Form::only, binary_form::specs::Form::gap, binary_form::specs::Form::done, binary_form::specs::Form::either, binary_form::specs::Form::present, binary_form::specs::Form::absent, crate::specs::Image::tau0_at))]
+#[tactic(auto, using(binary_form::proofs::Puts::appended), unfolding(binary_form::specs::Form::field, binary_form::specs::Form::only, binary_form::specs::Form::gap, binary_form::specs::Form::done, binary_form::specs::Form::either, binary_form::specs::Form::present, binary_form::specs::Form::absent_value, crate::specs::Image::tau0_at))]
 fn put_tau0(out: &mut Vec<u8>, tau0: Option<u16>) -> Result<(), AllocError>
     ensures { (spans : ℕ) → OnOk result (out.new.items ≡ out.old.items ++ (tau0_at (is_some tau0) spans).spell tau0) }
 {
@@ -52,7 +52,7 @@ fn put_header(out: &mut Vec<u8>, h: &Header) -> Result<(), AllocError>
     Ok(())
 }
 
-#[tactic(auto, using(binary_form::proofs::Puts::appended), unfolding(binary_form::specs::Form::either, binary_form::specs::Form::present, binary_form::specs::Form::absent, crate::specs::Image::title))]
+#[tactic(auto, using(binary_form::proofs::Puts::appended), unfolding(binary_form::specs::Form::either, binary_form::specs::Form::present, binary_form::specs::Form::absent_value, crate::specs::Image::title))]
 fn put_title(out: &mut Vec<u8>, part: &TagPart) -> Result<(), AllocError>
     ensures { OnOk result (out.new.items ≡ out.old.items ++ (title (part_code part.now)).spell (part_name part.now)) }
 {
@@ -118,9 +118,9 @@ pub(crate) fn put_subject(out: &mut Vec<u8>, s: &SubjectPart) -> Result<(), Allo
     Ok(())
 }
 
-#[tactic(auto, using(binary_form::proofs::Puts::appended), unfolding(binary_form::specs::Form::field, binary_form::specs::Form::only, binary_form::specs::Form::gap, binary_form::specs::Form::done, crate::specs::Image::minor))]
+#[tactic(auto, using(binary_form::proofs::Puts::appended), unfolding(binary_form::specs::Form::field, binary_form::specs::Form::only, binary_form::specs::Form::gap, binary_form::specs::Form::done, crate::specs::Image::minor_frame_form))]
 pub(crate) fn put_minor(out: &mut Vec<u8>, f: &Minor) -> Result<(), AllocError>
-    ensures { (o : Outline) (b : FramesBefore) → OnOk result (out.new.items ≡ out.old.items ++ (minor o b).spell f.now) }
+    ensures { (o : Outline) (b : FramesBefore) → OnOk result (out.new.items ≡ out.old.items ++ (minor_frame_form o b).spell f.now) }
 {
     put_u8(out, f.group)?;
     put_zeros(out, 3)?;
@@ -158,9 +158,9 @@ pub(crate) fn put_range(out: &mut Vec<u8>, r: &PortSpan) -> Result<(), AllocErro
     Ok(())
 }
 
-#[tactic(auto, using(binary_form::proofs::Puts::appended), unfolding(binary_form::specs::Form::field, binary_form::specs::Form::only, binary_form::specs::Form::done, crate::specs::Image::window))]
+#[tactic(auto, using(binary_form::proofs::Puts::appended), unfolding(binary_form::specs::Form::field, binary_form::specs::Form::only, binary_form::specs::Form::done, crate::specs::Image::window_form))]
 pub(crate) fn put_window(out: &mut Vec<u8>, w: &WindowPart) -> Result<(), AllocError>
-    ensures { (o : Outline) (names : List (List ℕ)) → OnOk result (out.new.items ≡ out.old.items ++ (window o names).spell w.now) }
+    ensures { (o : Outline) (names : List (List ℕ)) → OnOk result (out.new.items ≡ out.old.items ++ (window_form o names).spell w.now) }
 {
     put_u16(out, w.span)?;
     Ok(())

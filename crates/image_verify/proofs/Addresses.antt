@@ -14,7 +14,7 @@ use Rattle.image_pack.specs.declared.parts.SpanPart.{SpanPart}
 use Rattle.image_pack.specs.declared.parts.SubjectPart.{SubjectPart}
 use Rattle.image_memory.specs.Memory.{Span, address_at, by_number, span_at}
 use Rattle.image_soundness.specs.Sound.{AreContents, IsSpanOf, address_of, is_kernel, kind_of, thing_spans}
-use Rattle.image_verify.specs.Windows.{is_named, is_span_of, shown_address, shown_span, spans_by_number, state_span}
+use Rattle.image_verify.specs.Windows.{is_named_span, is_span_of, shown_span_address, shown_span, spans_by_number, state_span}
 use Rattle.muen_num.proofs.Lists.{find-map, map-map}
 use Rattle.muen_num.proofs.Options.{from_some}
 use Rattle.muen_num.specs.Range.{numbers_below}
@@ -39,7 +39,7 @@ use Rattle.policy_lawful.proofs.NoPages.{pages_apart}
 -- ---- by kind and name
 
 -- a span of the kernel is no thing's
-not_kernel : (kind : SpanKind) (owner : List ℕ) (part : TagPart) (x : Thing) → is_named kind owner part x ≡ true → not (is_kernel kind) ≡ true
+not_kernel : (kind : SpanKind) (owner : List ℕ) (part : TagPart) (x : Thing) → is_named_span kind owner part x ≡ true → not (is_kernel kind) ≡ true
 not_kernel Own owner part x h = refl
 not_kernel ChannelSpan owner part x h = refl
 not_kernel ProvidedSpan owner part x h = refl
@@ -54,7 +54,7 @@ HasSpan (channel name) = Unit {0}
 HasSpan (provided subject logical) = Unit {0}
 HasSpan (device_memory device memory) = Unit {0}
 
-same_named : (t x : Thing) → HasSpan x → same_thing t x ≡ is_named (kind_of t) (thing_tag t).owner (thing_tag t).part x
+same_named : (t x : Thing) → HasSpan x → same_thing t x ≡ is_named_span (kind_of t) (thing_tag t).owner (thing_tag t).part x
 same_named t (state b) h = absurd h
 same_named (region a) (region b) h = refl
 same_named (region a) (channel b) h = refl
@@ -166,7 +166,7 @@ module _ (p : Source) (files : Held) (i : Image) (keeps : KeepsConditions i) (co
   pub passes_as : (t x : Thing) (e : Span) → HasSpan x → IsSpanOf p files t e → same_thing t x ≡ is_span_of x e.0
   passes_as t x e h is =
       same_named t x h
-      ∙ (λ j. is_named (sym is.kind j) (sym is.tag j).owner (sym is.tag j).part x)
+      ∙ (λ j. is_named_span (sym is.kind j) (sym is.tag j).owner (sym is.tag j).part x)
 
   beside : (x : Thing) → HasSpan x → (ts : List Thing) (es : List Span) → AllZip (IsSpanOf p files) ts es
       → option_map_or (λ e. e.1) (find (λ e. same_thing e.0 x) (zip ts (addresses es) ++ states)) 0 ≡ option_map_or (λ e. e.0.address) (find (λ e. is_span_of x e.0) es) 0
@@ -256,5 +256,5 @@ module _ (r : Resolution) (files : Held) (i : Image) (keeps : KeepsConditions i)
 
   -- **where what a view shows lies**
   pub address_shown : (k : ℕ) (s : Subject) (v : View) → slice_get r.subjects k ≡ Some s → Contains (views_of r s) v
-      → address_of (source_of r) i (thing_shown r s.name v v.shows) ≡ shown_address r i (spans_by_number i.spans) s.name v
+      → address_of (source_of r) i (thing_shown r s.name v v.shows) ≡ shown_span_address r i (spans_by_number i.spans) s.name v
   address_shown k s v at among = shown_lies k s v v.shows at (view_called r k s v at among)

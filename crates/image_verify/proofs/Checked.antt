@@ -7,7 +7,7 @@ use Rattle.std.proofs.lemmas.List.{length-map}
 use Rattle.std.proofs.lemmas.List.Elements.{All-cons, All-map, All-nil}
 use Rattle.std.proofs.lemmas.Option.{get_or_from_slice_get, slice_get-map, slice_get_within}
 use Rattle.ept_check.specs.Known.{Reads}
-use Rattle.ept_check.specs.Sound.{AreSound, AreWindows, CanBeChecked, HasOnePathPerTable}
+use Rattle.ept_check.specs.Sound.{AreSound, AreSubjectWindows, CanBeChecked, HasOnePathPerTable}
 use Rattle.ept_check.specs.Tables.{Tables, addr_of, addresses, look_at, subject_of, table_read, tables_in, walk_at}
 use Rattle.muen_num.specs.Numbers.{is_among}
 use Rattle.ept_check.specs.declared.types.SubjectTables.{SubjectTables}
@@ -23,7 +23,7 @@ use Rattle.image_soundness.specs.Sound.{ForEachSubject, HasWalks, ReadsTables, a
 use Rattle.image_verify.proofs.AtIndexes.{at_pair, each_pair, granted_of, is_at, mapped_at, row_at, rows}
 use Rattle.image_verify.proofs.Leads.{are_windows, leads}
 use Rattle.image_verify.proofs.TablePages.{are_tables, entry_among}
-use Rattle.image_verify.specs.Filled.{IsAt, IsFilled}
+use Rattle.image_verify.specs.Filled.{IsSubjectAt, IsFilled}
 use Rattle.image_verify.specs.Stand.{StandForTables}
 use Rattle.image_verify.specs.TablePages.{pages_of_all}
 use Rattle.image_verify.specs.Windows.{WithPart, tables_of_subject, tables_of_subjects, windows_on}
@@ -91,15 +91,15 @@ module _ (x : Expansion) (files : Held) (i : Image) (h : IsFilled x files i) (pa
 
   -- ---- what can be checked
 
-  windows_at : (k : ℕ) (s : Subject) (g : Grants) (q : SubjectPart) → IsAt x i k s g q → AreWindows (is_there (memory_of i)) (windows_on r i s.name g.views)
+  windows_at : (k : ℕ) (s : Subject) (g : Grants) (q : SubjectPart) → IsSubjectAt x i k s g q → AreSubjectWindows (is_there (memory_of i)) (windows_on r i s.name g.views)
   windows_at k s g q at = are_windows x files i h k s g at.subject at.grants (granted_of x files i h k s g q at)
 
-  windows_each : All (λ (t : SubjectTables). AreWindows (is_there (memory_of i)) t.windows) made
+  windows_each : All (λ (t : SubjectTables). AreSubjectWindows (is_there (memory_of i)) t.windows) made
   windows_each =
-      All-map (λ (t : SubjectTables). AreWindows (is_there (memory_of i)) t.windows) (tables_of_subject r i) (rows x files i h)
+      All-map (λ (t : SubjectTables). AreSubjectWindows (is_there (memory_of i)) t.windows) (tables_of_subject r i) (rows x files i h)
       (λ j d l.
       let e = there (rows x files i h) j l in
-      subst (λ (e : WithPart). AreWindows (is_there (memory_of i)) (windows_on r i e.0.name e.1.0.views)) (sym (get_or_from_slice_get (rows x files i h) j e.0 d e.1))
+      subst (λ (e : WithPart). AreSubjectWindows (is_there (memory_of i)) (windows_on r i e.0.name e.1.0.views)) (sym (get_or_from_slice_get (rows x files i h) j e.0 d e.1))
       (windows_at j e.0.0 e.0.1.0 e.0.1.1 (is_at x files i h j e.0 e.1)))
 
   shorter : {A B : Type 0} (xs : List A) (ys : List B) → length (zip xs ys) ≤ length ys
@@ -122,21 +122,21 @@ module _ (x : Expansion) (files : Held) (i : Image) (h : IsFilled x files i) (pa
 
   -- ---- at an index
 
-  tables_at : (k : ℕ) (s : Subject) (g : Grants) (q : SubjectPart) → IsAt x i k s g q → slice_get made k ≡ Some (tables_of_subject r i (s, (g, q)))
+  tables_at : (k : ℕ) (s : Subject) (g : Grants) (q : SubjectPart) → IsSubjectAt x i k s g q → slice_get made k ≡ Some (tables_of_subject r i (s, (g, q)))
   tables_at k s g q at = slice_get-map (tables_of_subject r i) (rows x files i h) k ∙ ap (option_map (tables_of_subject r i)) (row_at x files i h k s g q at)
 
-  root_is : (k : ℕ) (s : Subject) (g : Grants) (q : SubjectPart) → IsAt x i k s g q → slice_index v.roots k ≡ root_of q.eptp
+  root_is : (k : ℕ) (s : Subject) (g : Grants) (q : SubjectPart) → IsSubjectAt x i k s g q → slice_index v.roots k ≡ root_of q.eptp
   root_is k s g q at = mapped_at (λ (t : SubjectTables). root_of t.eptp) made k (tables_of_subject r i (s, (g, q))) 0 (tables_at k s g q at)
 
-  windows_are : (k : ℕ) (s : Subject) (g : Grants) (q : SubjectPart) → IsAt x i k s g q → slice_index_or v.windows k [] ≡ windows_on r i s.name g.views
+  windows_are : (k : ℕ) (s : Subject) (g : Grants) (q : SubjectPart) → IsSubjectAt x i k s g q → slice_index_or v.windows k [] ≡ windows_on r i s.name g.views
   windows_are k s g q at = mapped_at (λ (t : SubjectTables). t.windows) made k (tables_of_subject r i (s, (g, q))) [] (tables_at k s g q at)
 
   -- a walk is that of the subject's tables
-  walk_is : (k : ℕ) (s : Subject) (g : Grants) (q : SubjectPart) (addr : ℕ) (kind : AccessKind) → IsAt x i k s g q → walk_at v k addr kind ≡ walk_of (memory_of i) q.eptp addr kind
+  walk_is : (k : ℕ) (s : Subject) (g : Grants) (q : SubjectPart) (addr : ℕ) (kind : AccessKind) → IsSubjectAt x i k s g q → walk_at v k addr kind ≡ walk_of (memory_of i) q.eptp addr kind
   walk_is k s g q addr kind at = ap (λ root. walk_from (entry_of (memory_of i)) (is_there (memory_of i)) addr (kind_bit kind) 3 root 7) (root_is k s g q at)
 
   -- and leads where the policy's windows do, where it leads where these windows do
-  look_is : (k : ℕ) (s : Subject) (g : Grants) (q : SubjectPart) (addr : ℕ) (kind : AccessKind) → IsAt x i k s g q
+  look_is : (k : ℕ) (s : Subject) (g : Grants) (q : SubjectPart) (addr : ℕ) (kind : AccessKind) → IsSubjectAt x i k s g q
       → look_at v k addr kind ≡ led (address_of p i) (access_of (windows_of p (subject_named r s)) addr kind)
   look_is k s g q addr kind at =
       ap (λ ws. translation ws addr kind) (windows_are k s g q at)
@@ -145,7 +145,7 @@ module _ (x : Expansion) (files : Held) (i : Image) (h : IsFilled x files i) (pa
   many_roots : length v.roots ≡ length (rows x files i h)
   many_roots = length-map made (λ (t : SubjectTables). root_of t.eptp) ∙ length-map (rows x files i h) (tables_of_subject r i)
 
-  below : (k : ℕ) (s : Subject) (g : Grants) (q : SubjectPart) → IsAt x i k s g q → k < length v.roots
+  below : (k : ℕ) (s : Subject) (g : Grants) (q : SubjectPart) → IsSubjectAt x i k s g q → k < length v.roots
   below k s g q at =
       let within = slice_get_within (rows x files i h) k (s, (g, q)) (row_at x files i h k s g q at) in
       let many = many_roots in
@@ -156,7 +156,7 @@ module _ (x : Expansion) (files : Held) (i : Image) (h : IsFilled x files i) (pa
     pub subject : Subject
     pub grants : Grants
     pub part : SubjectPart
-    pub at : IsAt x i k subject grants part
+    pub at : IsSubjectAt x i k subject grants part
 
   row : (k : ℕ) → k < length v.roots → Row k
   row k l =

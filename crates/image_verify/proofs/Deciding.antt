@@ -2,9 +2,9 @@
 use Rattle.std.proofs.Common.{◌≡◌, ◌⊎◌, ℕ, zero, suc, ◌*◌, ◌^◌, ◌<◌, ◌≤◌, All, Bool, true, false, List, [], ◌∷◌, length, take, zip, Option, Some, None, refl, sym, ap, ◌∙◌, inl, inr, arith}
 use Rattle.std.proofs.lemmas.List.{length-map}
 use Rattle.ept_check.proofs.Firsts.{found_at, in_below}
-use Rattle.ept_check.specs.Faults.{fault, fault_at, is_lack, is_leak, is_outside, is_twice, table_fault}
+use Rattle.ept_check.specs.Faults.{table_fault_of_kind, table_fault_at, is_lack, is_leak, is_outside, is_twice, table_fault}
 use Rattle.ept_check.specs.Search.{when}
-use Rattle.ept_check.specs.Tables.{Tables, look, subject_of, tables_in, walk}
+use Rattle.ept_check.specs.Tables.{Tables, expected_walk, subject_of, tables_in, walk}
 use Rattle.ept_check.specs.declared.types.FaultKind.TheVariants.{Lacks, Leak, Outside, Twice}
 use Rattle.ept_check.specs.declared.types.SubjectTables.{SubjectTables}
 use Rattle.ept_check.specs.declared.types.TableFault.{TableFault}
@@ -17,7 +17,7 @@ use Rattle.image_pack.specs.declared.parts.Image.{Image}
 use Rattle.image_memory.specs.Memory.{memory_of}
 use Rattle.image_soundness.specs.Sound.{ForEachSubject, HasArea, HasBitmaps, HasPlanAndEvents, IsFresh}
 use Rattle.image_verify.specs.TablePages.{pages_of_all}
-use Rattle.image_verify.specs.Verdict.{FirstOf, common, in_order, plan_owner, tables_of}
+use Rattle.image_verify.specs.Verdict.{FirstOf, common, in_order, plan_owner, image_tables_of}
 use Rattle.image_verify.specs.Windows.{tables_of_subject, tables_of_subjects}
 use Rattle.image_verify.specs.declared.fault.Condition.TheVariants.{Plan}
 use Rattle.image_verify.specs.declared.fault.Fault.TheVariants.{Fails}
@@ -62,7 +62,7 @@ module _ (r : Resolution) (i : Image) (bitmaps : ForEachSubject (source_of r) i 
 
 -- ---- tables
 
-pub same_tables : (x : Expansion) (i : Image) (m : List Page) (pages : List ℕ) (subjects : List SubjectTables) → m ≡ memory_of i → pages ≡ pages_of_all i.spans → subjects ≡ tables_of_subjects x i → table_fault (tables_in m pages subjects) ≡ table_fault (tables_of x i)
+pub same_tables : (x : Expansion) (i : Image) (m : List Page) (pages : List ℕ) (subjects : List SubjectTables) → m ≡ memory_of i → pages ≡ pages_of_all i.spans → subjects ≡ tables_of_subjects x i → table_fault (tables_in m pages subjects) ≡ table_fault (image_tables_of x i)
 same_tables x i m pages subjects a b c = λ j. table_fault (tables_in (a j) (b j) (c j))
 
 abbrev subject_or : Option TableFault → ℕ
@@ -70,26 +70,26 @@ subject_or None = 0
 subject_or (Some f) = f.subject
 
 -- whose a fault is
-subject_is : (q : ℕ) (a b c d : Bool) (f : TableFault) → first_of (when a (fault Outside q) ∷ when b (fault Twice q) ∷ first_of (when c (fault Leak q) ∷ when d (fault Lacks q) ∷ []) ∷ []) ≡ Some f → f.subject ≡ subject_of q
+subject_is : (q : ℕ) (a b c d : Bool) (f : TableFault) → first_of (when a (table_fault_of_kind Outside q) ∷ when b (table_fault_of_kind Twice q) ∷ first_of (when c (table_fault_of_kind Leak q) ∷ when d (table_fault_of_kind Lacks q) ∷ []) ∷ []) ≡ Some f → f.subject ≡ subject_of q
 subject_is q true b c d f h = sym (ap (λ o. subject_or o) h)
 subject_is q false true c d f h = sym (ap (λ o. subject_or o) h)
 subject_is q false false true d f h = sym (ap (λ o. subject_or o) h)
 subject_is q false false false true f h = sym (ap (λ o. subject_or o) h)
 subject_is q false false false false f h = absurd (cc)
 
-at_subject : (v : Tables) (q : ℕ) (f : TableFault) → fault_at v q ≡ Some f → f.subject ≡ subject_of q
-unfolding fault_at
-at_subject v q f h = subject_is q (is_outside v q) (is_twice v q) (is_leak (walk v q) (look v q)) (is_lack (walk v q) (look v q)) f h
+at_subject : (v : Tables) (q : ℕ) (f : TableFault) → table_fault_at v q ≡ Some f → f.subject ≡ subject_of q
+unfolding table_fault_at
+at_subject v q f h = subject_is q (is_outside v q) (is_twice v q) (is_leak (walk v q) (expected_walk v q)) (is_lack (walk v q) (expected_walk v q)) f h
 
 within : (v : Tables) (f : TableFault) → table_fault v ≡ Some f → f.subject < length v.roots
 unfolding table_fault
 within v f h =
-    let r = found_at (fault_at v) 0 (2 ^ 36 * length v.roots) f (sym (in_below (fault_at v) (2 ^ 36 * length v.roots)) ∙ h) in
+    let r = found_at (table_fault_at v) 0 (2 ^ 36 * length v.roots) f (sym (in_below (table_fault_at v) (2 ^ 36 * length v.roots)) ∙ h) in
     let high = r.high in
     let same = at_subject v r.k f r.here in
     omega (arith, high, same)
 
-few_tables : (x : Expansion) (i : Image) → length (tables_of x i).roots ≤ length x.lawful.subjects
+few_tables : (x : Expansion) (i : Image) → length (image_tables_of x i).roots ≤ length x.lawful.subjects
 unfolding tables_of_subjects
 few_tables x i =
     let rows = zip x.lawful.subjects (zip x.grants i.subjects) in
@@ -98,8 +98,8 @@ few_tables x i =
     let three = zip_short x.lawful.subjects (zip x.grants i.subjects) in
     omega (arith, one, two, three)
 
-pub fault_within : (x : Expansion) (i : Image) (f : TableFault) → table_fault (tables_of x i) ≡ Some f → f.subject < length x.lawful.subjects
-fault_within x i f h = let low = within (tables_of x i) f h in let few = few_tables x i in omega (arith, low, few)
+pub fault_within : (x : Expansion) (i : Image) (f : TableFault) → table_fault (image_tables_of x i) ≡ Some f → f.subject < length x.lawful.subjects
+fault_within x i f h = let low = within (image_tables_of x i) f h in let few = few_tables x i in omega (arith, low, few)
 
 pub device_there : (r : Resolution) (i : Image) (k : ℕ) → (k < length (source_of r).devices) ⊎ (k < length i.devices) → (k < length r.devices) ⊎ (k < length i.devices)
 unfolding source_of

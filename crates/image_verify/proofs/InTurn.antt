@@ -10,17 +10,17 @@ use Rattle.expand_kernel.specs.granted.Grants.{Grants}
 use Rattle.image_pack.specs.declared.parts.Image.{Image}
 use Rattle.image_pack.specs.declared.parts.SpanPart.{SpanPart}
 use Rattle.image_pack.specs.declared.parts.SubjectPart.{SubjectPart}
-use Rattle.image_verify.specs.Windows.{numbered, tables_of_subject, windows_on}
+use Rattle.image_verify.specs.Windows.{numbered_spans, tables_of_subject, windows_on}
 use Rattle.muen_num.specs.Range.{numbers_below}
 use Rattle.policy_lawful.specs.Resolution.{Resolution}
 use Rattle.policy_lawful.specs.declared.resolved.Subject.{Subject}
 
 -- ---- spans by number
 
-pub number_more : (spans : List SpanPart) (n : ℕ) → numbered spans (n + 1) ≡ numbered spans n ++ cons_option (find (λ s. s.number == n) spans) []
+pub number_more : (spans : List SpanPart) (n : ℕ) → numbered_spans spans (n + 1) ≡ numbered_spans spans n ++ cons_option (find (λ s. s.number == n) spans) []
 number_more spans n =
     let next : n + 1 ≡ suc n = omega arith in
-    ap (numbered spans) next ∙ filter_map-append (λ k. find (λ s. s.number == k) spans) (numbers_below n) (n ∷ [])
+    ap (numbered_spans spans) next ∙ filter_map-append (λ k. find (λ s. s.number == k) spans) (numbers_below n) (n ∷ [])
 
 -- ---- three lists side by side
 

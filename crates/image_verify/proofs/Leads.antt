@@ -6,12 +6,12 @@ use Rattle.std.specs.List.Sorted.{IsPermutation}
 use Rattle.std.proofs.lemmas.List.Elements.{All-map}
 use Rattle.std.proofs.lemmas.List.Sorted.{IsPermutation-map}
 use Rattle.std.proofs.lemmas.Option.{get_or_from_slice_get, slice_get_within}
-use Rattle.ept_check.specs.Sound.{AreWindows, HasPages, IsWhole}
+use Rattle.ept_check.specs.Sound.{AreSubjectWindows, HasPages, IsWhole}
 use Rattle.ept_check.specs.Emitted.{holds as is_in, translation, translation_in, window_at}
 use Rattle.ept_check.specs.window.GuestRange.{GuestRange}
 use Rattle.ept_check.specs.window.Window.{Window as EptWindow}
 use Rattle.expand_kernel.proofs.Ordered.{in_order_permutes, All-in_order}
-use Rattle.expand_kernel.specs.Grants.{AreGrantsOf, is_lower}
+use Rattle.expand_kernel.specs.Grants.{AreGrantsOf, is_lower_view}
 use Rattle.expand_kernel.specs.granted.Grants.{Grants}
 use Rattle.expand_kernel.proofs.Numbering.{can_map_granted}
 use Rattle.expand_kernel.specs.ByIndex.{CanMap, view_range}
@@ -22,7 +22,7 @@ use Rattle.image_soundness.specs.Sound.{address_of, led}
 use Rattle.image_verify.proofs.Addresses.{address_shown}
 use Rattle.image_verify.proofs.Rooms.{Fits, as_many, keeps, views_fit}
 use Rattle.image_verify.specs.Filled.{IsFilled}
-use Rattle.image_verify.specs.Windows.{shown_address, spans_by_number, window_on, windows_on}
+use Rattle.image_verify.specs.Windows.{shown_span_address, spans_by_number, window_on, windows_on}
 use Rattle.ept_check.specs.Memory.{is_there}
 use Rattle.muen_num.proofs.Lists.{find-map, passes_at}
 use Rattle.muen_num.proofs.Pairs.{pairs_mapped, pairs_unmapped}
@@ -70,7 +70,7 @@ module _ (x : Expansion) (files : Held) (i : Image) (h : IsFilled x files i) (k 
       pairs_mapped on is_behind g.views (pairs_unmapped view_range ends_by g.views can.apart)
 
   -- **the windows** can be checked
-  pub are_windows : AreWindows (is_there (memory_of i)) (windows_on r i s.name g.views)
+  pub are_windows : AreSubjectWindows (is_there (memory_of i)) (windows_on r i s.name g.views)
   are_windows =
       let fit : All (Fits x files i h s) g.views = rw granted.views (All-in_order _ (Fits x files i h s) views (views_fit x files i h k s at)) in
       record {
@@ -85,7 +85,7 @@ module _ (x : Expansion) (files : Held) (i : Image) (h : IsFilled x files i) (k 
 
   shown_at : (addr : ℕ) → window_at (windows_on r i s.name g.views) addr ≡ option_map on (find (on_view addr) views)
   shown_at addr =
-      let moved : IsPermutation views g.views = subst (IsPermutation views) (sym granted.views) (in_order_permutes is_lower views) in
+      let moved : IsPermutation views g.views = subst (IsPermutation views) (sym granted.views) (in_order_permutes is_lower_view views) in
       sym (found_permuted (is_in addr) (map on views) (map on g.views) (IsPermutation-map on views g.views moved) (once addr))
       ∙ find-map (is_in addr) on views
 
@@ -99,7 +99,7 @@ module _ (x : Expansion) (files : Held) (i : Image) (h : IsFilled x files i) (k 
       → translation_in (option_map on o) addr kind ≡ led (address_of p i) (access_by (option_map (view_window r s.name) o) addr kind)
   led_by addr kind None e = refl
   led_by addr kind (Some v) e =
-      by_rights (address_of p i) (allows v.rights kind) (thing_shown r s.name v v.shows) (shown_address r i (spans_by_number i.spans) s.name v) (addr - v.guest) v.rights
+      by_rights (address_of p i) (allows v.rights kind) (thing_shown r s.name v v.shows) (shown_span_address r i (spans_by_number i.spans) s.name v) (addr - v.guest) v.rights
       (address_shown r files i (keeps x files i h) h.expanded.resolved h.contents (as_many x files i h) k s v at (found_contained (on_view addr) views v e))
 
   -- **where they lead** an access, the policy's do

@@ -20,7 +20,7 @@ use Rattle.image_soundness.specs.Sound.{IsSpanOf, address_of, is_kernel, thing_s
 use Rattle.image_verify.proofs.Addresses.{HasSpan, address_shown, passes_as, state_is, there_too, thing_beside}
 use Rattle.image_verify.proofs.InSpans.{in_span_there}
 use Rattle.image_verify.specs.Filled.{IsFilled}
-use Rattle.image_verify.specs.Windows.{is_span_of, shown_address, spans_by_number, window_on}
+use Rattle.image_verify.specs.Windows.{is_span_of, shown_span_address, spans_by_number, window_on}
 use Rattle.expand_kernel.specs.Expansion.{Expansion}
 use Rattle.ept_check.specs.Memory.{is_there}
 use Rattle.muen_num.proofs.Lists.{all_at, all_unmapped, passes_at}
@@ -176,7 +176,7 @@ module _ (x : Expansion) (files : Held) (i : Image) (h : IsFilled x files i) whe
     pub whole : IsWhole (window_on r i (spans_by_number i.spans) s.name v)
     pub pages : HasPages (is_there (memory_of i)) (window_on r i (spans_by_number i.spans) s.name v)
 
-  fits_room : (s : Subject) (v : View) → is_guest v.guest v.size ≡ true → Room i (shown_address r i (spans_by_number i.spans) s.name v) v.size → Fits s v
+  fits_room : (s : Subject) (v : View) → is_guest v.guest v.size ≡ true → Room i (shown_span_address r i (spans_by_number i.spans) s.name v) v.size → Fits s v
   fits_room s v guests room =
       let w = window_on r i (spans_by_number i.spans) s.name v in
       let span : IsSpan room.span = all_at IsSpan i.spans room.index room.span keeps.spans.each room.here in
@@ -199,6 +199,6 @@ module _ (x : Expansion) (files : Held) (i : Image) (h : IsFilled x files i) whe
       let guests = AllPass-from_list_all (λ (v : View). is_guest v.guest v.size) (views_of r s) (views_kept r h.expanded.lawful h.expanded.resolved k s at) in
       λ j d l.
       let v = get_or (views_of r s) j d in
-      let address : address_of p i (thing_shown r s.name v v.shows) ≡ shown_address r i (spans_by_number i.spans) s.name v =
+      let address : address_of p i (thing_shown r s.name v v.shows) ≡ shown_span_address r i (spans_by_number i.spans) s.name v =
       address_shown r files i keeps h.expanded.resolved h.contents as_many k s v at (All-contains_itself (views_of r s) j d l) in
       fits_room s v (guests j d l) (subst (λ a. Room i a v.size) address (room_of k n (view_window r s.name v) (each j d l)))

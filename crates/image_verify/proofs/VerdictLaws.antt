@@ -25,7 +25,7 @@ use Rattle.image_verify.proofs.Checked.{stand_for}
 use Rattle.image_verify.specs.Filled.{IsFilled}
 use Rattle.image_verify.specs.Stand.{StandForTables}
 use Rattle.image_verify.specs.TablePages.{pages_of_all}
-use Rattle.image_verify.specs.Verdict.{FailsFirstFor, FirstOf, Holds, IsFailure, IsTableFault, IsTwice, IsVerdict, by_kind, common, in_order, named, plan_owner, subject_name, subject_owner, tables_of}
+use Rattle.image_verify.specs.Verdict.{FailsFirstFor, FirstOf, Holds, IsFailure, IsTableFault, IsTwice, IsVerdict, by_kind, common, in_order, named, plan_owner, resolved_subject_name, subject_owner, image_tables_of}
 use Rattle.image_verify.specs.Windows.{tables_of_subjects}
 use Rattle.image_verify.specs.declared.fault.Condition.{Condition}
 use Rattle.image_verify.specs.declared.fault.Condition.TheVariants.{Contents, Tables as TableEntries, Bitmaps, Areas, States, OwnPages, Plan}
@@ -168,7 +168,7 @@ standing x files i h = stand_for x i (tables_of_subjects x i) refl files (pages_
 filled : (x : Expansion) (files : Held) (i : Image) → IsExpanded x → IsSound (source_of x.lawful) files i → IsFilled x files i
 filled x files i e s = record { expanded = e; parts = s.parts; contents = s.contents; many = s.plan_and_events.many }
 
-are_sound : (x : Expansion) (files : Held) (i : Image) → IsExpanded x → IsSound (source_of x.lawful) files i → AreSound (tables_of x i)
+are_sound : (x : Expansion) (files : Held) (i : Image) → IsExpanded x → IsSound (source_of x.lawful) files i → AreSound (image_tables_of x i)
 are_sound x files i e s = (standing x files i (filled x files i e s)).sound s.walks s.tables
 
 none_found : (r : Resolution) (o : Option TableFault) → None ≡ option_map (named r) o → o ≡ None
@@ -177,7 +177,7 @@ none_found r (Some f) h = absurd (none-some (named r f) h)
 
 twice_found : (r : Resolution) (o : Option TableFault) (f : Fault) → Some f ≡ option_map (named r) o → ((t : TableFault) → Some t ≡ o → t.kind ≡ TwiceFault) → IsTwice f
 twice_found r None f h k = absurd (none-some f (sym h))
-twice_found r (Some t) f h k = record { subject = subject_name r t.subject; addr = t.addr; is = one_value (Some f) f (named r t) refl h ∙ ap (by_kind r t) (k t refl) }
+twice_found r (Some t) f h k = record { subject = resolved_subject_name r t.subject; addr = t.addr; is = one_value (Some f) f (named r t) refl h ∙ ap (by_kind r t) (k t refl) }
 
 -- ---- laws
 
@@ -187,8 +187,8 @@ no_fault_is_sound x files i e parts (inl h) = absurd (none-some _ h.is)
 no_fault_is_sound x files i e parts (inr (contents, first)) =
     let k = are_kept x.lawful i (IsTableFault x i) first in
     let stand = standing x files i (record { expanded = e; parts = parts; contents = contents; many = k.0.plan.many }) in
-    let none = none_found x.lawful (table_fault (tables_of x i)) k.1 in
-    let tables : AreSound (tables_of x i) = tables_sound (tables_of x i) (all_fine (is_there (memory_of i)) (tables_of_subjects x i) stand.checkable.windows) none in
+    let none = none_found x.lawful (table_fault (image_tables_of x i)) k.1 in
+    let tables : AreSound (image_tables_of x i) = tables_sound (image_tables_of x i) (all_fine (is_there (memory_of i)) (tables_of_subjects x i) stand.checkable.windows) none in
     record {
       lawful = e.lawful;
       parts = parts;
@@ -210,13 +210,13 @@ tables_only x files i o s (inr h) = last_of x.lawful i (IsTableFault x i) (each_
 -- **any fault** but that a table is read on two paths tells that it isn't sound
 pub a_fault_is_none_of_a_sound_image : (x : Expansion) (files : Held) (i : Image) (f : Fault) → IsExpanded x → IsVerdict x files i (Some f) → IsSound (source_of x.lawful) files i → IsTwice f
 a_fault_is_none_of_a_sound_image x files i f e v s =
-    twice_found x.lawful (table_fault (tables_of x i)) f (tables_only x files i (Some f) s v) (λ t is. tables_unsound (tables_of x i) t is (are_sound x files i e s))
+    twice_found x.lawful (table_fault (image_tables_of x i)) f (tables_only x files i (Some f) s v) (λ t is. tables_unsound (image_tables_of x i) t is (are_sound x files i e s))
 
 -- **a sound image** no table of which is read on two paths has none
 pub a_sound_image_has_no_fault : (x : Expansion) (files : Held) (i : Image) (o : Option Fault) → IsExpanded x → IsVerdict x files i o → IsSound (source_of x.lawful) files i → HasOnePathPerTable i → o ≡ None
 a_sound_image_has_no_fault x files i o e v s once =
     tables_only x files i o s v
-    ∙ ap (option_map (named x.lawful)) (no_faults (tables_of x i) (are_sound x files i e s) ((standing x files i (filled x files i e s)).one_path once))
+    ∙ ap (option_map (named x.lawful)) (no_faults (image_tables_of x i) (are_sound x files i e s) ((standing x files i (filled x files i e s)).one_path once))
 
 -- **there is one verdict**
 pub one_verdict : (x : Expansion) (files : Held) (i : Image) (a b : Option Fault) → IsVerdict x files i a → IsVerdict x files i b → a ≡ b

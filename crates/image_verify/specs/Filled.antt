@@ -18,7 +18,7 @@ pub record IsFilled (x : Expansion) (files : Held) (i : Image) : Type 0 where
   pub many : length i.subjects ≡ length (source_of x.lawful).subjects
 
 -- what policy and image have at an index
-pub record IsAt (x : Expansion) (i : Image) (k : ℕ) (s : Subject) (g : Grants) (q : SubjectPart) : Type 0 where
+pub record IsSubjectAt (x : Expansion) (i : Image) (k : ℕ) (s : Subject) (g : Grants) (q : SubjectPart) : Type 0 where
   pub subject : slice_get x.lawful.subjects k ≡ Some s
   pub grants : slice_get x.grants k ≡ Some g
   pub part : slice_get i.subjects k ≡ Some q

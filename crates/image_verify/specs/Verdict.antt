@@ -103,24 +103,24 @@ in_order = Bitmaps ∷ Areas ∷ States ∷ OwnPages ∷ Plan ∷ []
 -- ---- tables
 
 -- the tables of the image, with the windows of the policy where the image has what they show
-abbrev pub tables_of : Expansion → Image → Tables
-tables_of x i = tables_in (memory_of i) (pages_of_all i.spans) (tables_of_subjects x i)
+abbrev pub image_tables_of : Expansion → Image → Tables
+image_tables_of x i = tables_in (memory_of i) (pages_of_all i.spans) (tables_of_subjects x i)
 
-abbrev pub subject_name : Resolution → ℕ → List ℕ
-subject_name r k = name_at (map (λ s. s.name) r.subjects) k
+abbrev pub resolved_subject_name : Resolution → ℕ → List ℕ
+resolved_subject_name r k = name_at (map (λ s. s.name) r.subjects) k
 
 abbrev pub by_kind : Resolution → TableFault → FaultKind → Fault
 by_kind r f Outside = Fails TableEntries (subject_owner r f.subject)
-by_kind r f TwiceFault = Twice (subject_name r f.subject) f.addr
-by_kind r f LeakFault = Leak (subject_name r f.subject) f.addr
-by_kind r f LacksFault = Lacks (subject_name r f.subject) f.addr
+by_kind r f TwiceFault = Twice (resolved_subject_name r f.subject) f.addr
+by_kind r f LeakFault = Leak (resolved_subject_name r f.subject) f.addr
+by_kind r f LacksFault = Lacks (resolved_subject_name r f.subject) f.addr
 
 abbrev pub named : Resolution → TableFault → Fault
 named r f = by_kind r f f.kind
 
 -- the first fault of tables
 abbrev pub IsTableFault : Expansion → Image → Option Fault → Type 0
-IsTableFault x i o = o ≡ option_map (named x.lawful) (table_fault (tables_of x i))
+IsTableFault x i o = o ≡ option_map (named x.lawful) (table_fault (image_tables_of x i))
 
 -- ---- the whole
 

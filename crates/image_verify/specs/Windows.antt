@@ -26,24 +26,24 @@ use Rattle.policy_lawful.specs.rights.Caching.TheVariants.{Wb}
 
 -- ---- spans by number, without what they have
 
-abbrev pub numbered : List SpanPart → ℕ → List SpanPart
-numbered spans n = filter_map (λ k. find (λ s. s.number == k) spans) (numbers_below n)
+abbrev pub numbered_spans : List SpanPart → ℕ → List SpanPart
+numbered_spans spans n = filter_map (λ k. find (λ s. s.number == k) spans) (numbers_below n)
 
 unfoldable pub spans_by_number : List SpanPart → List SpanPart
-spans_by_number spans = numbered spans (length spans)
+spans_by_number spans = numbered_spans spans (length spans)
 
 -- ---- what windows show
 
 -- a span of this kind, owner and part is that of a thing, by its kind and its names; of a state page by its number alone
-abbrev pub is_named : SpanKind → List ℕ → TagPart → Thing → Bool
-is_named Own owner part (region name) = bytes_eq owner name
-is_named ChannelSpan owner part (channel name) = bytes_eq owner name
-is_named ProvidedSpan owner (Named called) (provided subject logical) = bytes_eq owner subject && bytes_eq called logical
-is_named DeviceSpan owner (Named called) (device_memory device memory) = bytes_eq owner device && bytes_eq called memory
-is_named kind owner part x = false
+abbrev pub is_named_span : SpanKind → List ℕ → TagPart → Thing → Bool
+is_named_span Own owner part (region name) = bytes_eq owner name
+is_named_span ChannelSpan owner part (channel name) = bytes_eq owner name
+is_named_span ProvidedSpan owner (Named called) (provided subject logical) = bytes_eq owner subject && bytes_eq called logical
+is_named_span DeviceSpan owner (Named called) (device_memory device memory) = bytes_eq owner device && bytes_eq called memory
+is_named_span kind owner part x = false
 
 abbrev pub is_span_of : Thing → SpanPart → Bool
-is_span_of x s = is_named s.kind s.tag.owner s.tag.part x
+is_span_of x s = is_named_span s.kind s.tag.owner s.tag.part x
 
 -- of the state page of the subject at an index
 abbrev pub state_span : Image → ℕ → Option SpanPart
@@ -59,8 +59,8 @@ shown_span r i spans subject v (Device device n) =
 shown_span r i spans subject v (State other) = state_span i other
 
 -- its address, 0 without one
-abbrev pub shown_address : Resolution → Image → List SpanPart → List ℕ → View → ℕ
-shown_address r i spans subject v = option_map_or (λ s. s.address) (shown_span r i spans subject v v.shows) 0
+abbrev pub shown_span_address : Resolution → Image → List SpanPart → List ℕ → View → ℕ
+shown_span_address r i spans subject v = option_map_or (λ s. s.address) (shown_span r i spans subject v v.shows) 0
 
 -- ---- windows
 
@@ -69,7 +69,7 @@ abbrev pub window_on : Resolution → Image → List SpanPart → List ℕ → V
 window_on r i spans subject v = record {
   guest = v.guest;
   size = v.size;
-  address = shown_address r i spans subject v;
+  address = shown_span_address r i spans subject v;
   rights = v.rights;
   caching = Wb;
   leaf = Small;

@@ -6,7 +6,7 @@ ghost use Rattle.image_soundness.specs.ThingBytes.{thing_bytes};
 ghost use Rattle.image_pack.specs.Parts.{IsParts};
 ghost use Rattle.image_pack.specs.declared.parts.Image.{Image};
 ghost use Rattle.image_soundness.specs.Sound.{IsSound};
-ghost use Rattle.image_verify.specs.Verdict.{AreOfFiles, FirstOf, IsReadyFor, IsTableFault, IsTwice, IsVerdict, device_owner, in_order, named, plan_owner, subject_name, subject_owner};
+ghost use Rattle.image_verify.specs.Verdict.{AreOfFiles, FirstOf, IsReadyFor, IsTableFault, IsTwice, IsVerdict, device_owner, in_order, named, plan_owner, resolved_subject_name, subject_owner};
 ghost use Rattle.image_verify.specs.declared.fault.Fault.{Fault};
 ghost use Rattle.image_verify.specs.declared.fault.Fault.TheVariants.{Fails};
 ghost use Rattle.image_verify.specs.declared.fault.Owner.TheVariants.{Named};
@@ -38,7 +38,7 @@ fn policy_of(expanded: &Expanded) -> &Resolved
 // The name of the subject at an index.
 fn subject_name(policy: &Resolved, index: usize) -> Name
     requires { index < length policy.now.subjects }
-    ensures { result ≡ subject_name policy.now index }
+    ensures { result ≡ resolved_subject_name policy.now index }
 {
     policy.subjects()[index].name
 }

@@ -6,7 +6,7 @@ use Rattle.std.proofs.lemmas.List.Elements.{All-filter}
 use Rattle.std.proofs.lemmas.Option.{get_or_from_slice_get, none-some, slice_get-map, slice_get_past, slice_get_within}
 use Rattle.muen_num.specs.Range.{numbers_below}
 use Rattle.muen_num.proofs.NumbersBelow.{length_numbers, one_more}
-use Rattle.device_bench.specs.Devices.{IsLow, inputs_at}
+use Rattle.device_bench.specs.Devices.{IsLowEffect, inputs_at}
 use Rattle.device_bench.specs.declared.effect.Effect.{Effect}
 use Rattle.device_bench.specs.record.Record.{Record}
 use Rattle.device_bench.specs.record.TickInput.{TickInput}
@@ -21,16 +21,16 @@ past_numbers n k l = slice_get_past (numbers_below n) k (omega (arith, length_nu
 
 -- ---- inputs
 
-found_low : (ts : List (TickInput Effect)) (index : ℕ) (i : Effect) (o : Option (TickInput Effect)) → All (λ t. IsLow t.input) ts → slice_get ts index ≡ o → option_map (λ t. t.input) o ≡ Some i → IsLow i
+found_low : (ts : List (TickInput Effect)) (index : ℕ) (i : Effect) (o : Option (TickInput Effect)) → All (λ t. IsLowEffect t.input) ts → slice_get ts index ≡ o → option_map (λ t. t.input) o ≡ Some i → IsLowEffect i
 found_low ts index i None low here is = absurd (none-some i is)
 found_low ts index i (Some t) low here is =
-    let there : IsLow (slice_index_or ts index t).input = low index t (slice_get_within ts index t here) in
-    subst IsLow (ap (λ (u : TickInput Effect). u.input) (get_or_from_slice_get ts index t t here) ∙ ap (λ o. unwrap_or o t.input) is) there
+    let there : IsLowEffect (slice_index_or ts index t).input = low index t (slice_get_within ts index t here) in
+    subst IsLowEffect (ap (λ (u : TickInput Effect). u.input) (get_or_from_slice_get ts index t t here) ∙ ap (λ o. unwrap_or o t.input) is) there
 
 -- an input that comes in a tick ends below 2 ^ 64
-pub low_input : (run : Record Effect) (tick index : ℕ) (i : Effect) → All (λ t. IsLow t.input) run.inputs → Some i ≡ slice_get (tick_inputs run tick) index → IsLow i
+pub low_input : (run : Record Effect) (tick index : ℕ) (i : Effect) → All (λ t. IsLowEffect t.input) run.inputs → Some i ≡ slice_get (tick_inputs run tick) index → IsLowEffect i
 low_input run tick index i low is =
-    found_low (inputs_at run tick) index i (slice_get (inputs_at run tick) index) (All-filter (λ (t : TickInput Effect). t.tick == tick) (λ (t : TickInput Effect). IsLow t.input) run.inputs low) refl
+    found_low (inputs_at run tick) index i (slice_get (inputs_at run tick) index) (All-filter (λ (t : TickInput Effect). t.tick == tick) (λ (t : TickInput Effect). IsLowEffect t.input) run.inputs low) refl
     (sym (slice_get-map (λ (t : TickInput Effect). t.input) (inputs_at run tick) index) ∙ sym is)
 
 module _ (setup : Setup) where

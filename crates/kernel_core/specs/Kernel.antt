@@ -41,24 +41,24 @@ pub record Live : Type 0 where
 
 -- ---- who is on a CPU
 
-abbrev pub goes_on : ℕ → ℕ → Control → Live → Live
-goes_on cpu s c k = record k { machine = entered cpu c (left cpu k.machine); on = change_at cpu (λ _. Some s) k.on }
+abbrev pub enters_cpu : ℕ → ℕ → Control → Live → Live
+enters_cpu cpu s c k = record k { machine = entered cpu c (left cpu k.machine); on = change_at cpu (λ _. Some s) k.on }
 
 -- who isn't there already goes onto the CPU, and who was there leaves it before
 abbrev pub switched : ℕ → ℕ → Control → Option ℕ → Live → Live
-switched cpu s c None k = goes_on cpu s c k
-switched cpu s c (Some t) k = if t == s then k else goes_on cpu s c k
+switched cpu s c None k = enters_cpu cpu s c k
+switched cpu s c (Some t) k = if t == s then k else enters_cpu cpu s c k
 
 -- ---- a turn
 
-abbrev pub idle : Live → Turned Live TurnLine
-idle k = record { state = k; line = None }
+abbrev pub kernel_idles : Live → Turned Live TurnLine
+kernel_idles k = record { state = k; line = None }
 
-abbrev pub line_of : Turn → TurnAction → TurnLine
-line_of t what = record { tick = t.tick; cpu = t.cpu; subject = t.subject; pc = t.pc; what = what }
+abbrev pub turn_line_of : Turn → TurnAction → TurnLine
+turn_line_of t what = record { tick = t.tick; cpu = t.cpu; subject = t.subject; pc = t.pc; what = what }
 
-abbrev pub told : Turn → TurnAction → Live → Turned Live TurnLine
-told t what k = record { state = k; line = Some (line_of t what) }
+abbrev pub turn_told : Turn → TurnAction → Live → Turned Live TurnLine
+turn_told t what k = record { state = k; line = Some (turn_line_of t what) }
 
 -- ---- the kernel acts on an exit
 
@@ -84,14 +84,14 @@ raised_by (Some e) r = raised e r
 
 abbrev pub exit_handled : Turn → ℕ → ℕ → ℕ → Option EventPart → Live → Turned Live TurnLine
 exit_handled t reason qualification addr event k =
-    told t (Exit reason qualification addr (exit_end_of reason (is_some event))) (record k {
+    turn_told t (Exit reason qualification addr (exit_end_of reason (is_some event))) (record k {
       machine = exit_finished t.cpu (finish_of reason (is_some event)) k.machine;
       router = raised_by event k.router;
     })
 
 -- after a step that ended so
 abbrev pub handled : Turn → SubjectPart → StepEnd → Live → Turned Live TurnLine
-handled t part (ends.Ran change) k = told t (Ran change) k
+handled t part (ends.Ran change) k = turn_told t (Ran change) k
 handled t part (ends.Exit reason qualification addr call) k =
     exit_handled t reason qualification addr (event_of part reason call) k
 
@@ -101,20 +101,20 @@ abbrev pub stepped : Turn → SubjectPart → Stepped → Live → Turned Live T
 stepped t part s k = handled t part s.end (record k { machine = s.machine })
 
 abbrev pub injects : Turn → ℕ → ℕ → Live → Turned Live TurnLine
-injects t s vector k = told t (Inject vector) (record k {
+injects t s vector k = turn_told t (Inject vector) (record k {
   machine = vector_injected t.cpu vector k.machine;
   router = taken s (Some vector) k.router;
 })
 
 -- what a turn goes by, of a state
-abbrev pub standing_of : SubjectState → Standing
-standing_of st =
+abbrev pub turn_standing_of : SubjectState → Standing
+turn_standing_of st =
     record { pc = st.pc; interrupts = st.interrupts; halted = st.halted; stopped = st.stopped; exited = st.exited }
 
 -- nothing is delivered
 abbrev pub goes_further : Turn → SubjectPart → SubjectState → Live → Turned Live TurnLine
 goes_further t part st k =
-    if st.halted then idle k else stepped t part (machine_step t.cpu k.ports t.tick k.machine) k
+    if st.halted then kernel_idles k else stepped t part (machine_step t.cpu k.ports t.tick k.machine) k
 
 abbrev pub delivers : Turn → ℕ → SubjectPart → SubjectState → Option ℕ → Live → Turned Live TurnLine
 delivers t s part st (Some vector) k = injects t s vector k
@@ -127,11 +127,11 @@ vector_for s first st r = if st.interrupts then deliverable r s (first || st.exi
 
 abbrev pub acts : Turn → ℕ → SubjectPart → Bool → SubjectState → Live → Turned Live TurnLine
 acts t s part first st k =
-    if st.stopped then idle k else delivers t s part st (vector_for s first st k.router) k
+    if st.stopped then kernel_idles k else delivers t s part st (vector_for s first st k.router) k
 
 -- by the state of who is on the CPU
 abbrev pub acts_in : ℕ → ℕ → ℕ → SubjectPart → Bool → Option SubjectState → Live → Turned Live TurnLine
-acts_in cpu tick s part first None k = idle k
+acts_in cpu tick s part first None k = kernel_idles k
 acts_in cpu tick s part first (Some st) k =
     acts (record { tick = tick; cpu = cpu; subject = part.name; pc = st.pc }) s part first st k
 
@@ -141,27 +141,27 @@ acts_on cpu tick s part first k = acts_in cpu tick s part first (state_on k.mach
 -- ---- whose turn it is
 
 -- of the subject with this number, by its parts and its control, and by who was on the CPU
-abbrev pub turn_of_subject : ℕ → ℕ → ℕ → Bool → Option ℕ → Option SubjectPart → Option Control → Live → Turned Live TurnLine
-turn_of_subject cpu tick s first on (Some part) (Some c) k = acts_on cpu tick s part first (switched cpu s c on k)
-turn_of_subject cpu tick s first on (Some part) None k = idle k
-turn_of_subject cpu tick s first on None c k = idle k
+abbrev pub cpu_turn_of_subject : ℕ → ℕ → ℕ → Bool → Option ℕ → Option SubjectPart → Option Control → Live → Turned Live TurnLine
+cpu_turn_of_subject cpu tick s first on (Some part) (Some c) k = acts_on cpu tick s part first (switched cpu s c on k)
+cpu_turn_of_subject cpu tick s first on (Some part) None k = kernel_idles k
+cpu_turn_of_subject cpu tick s first on None c k = kernel_idles k
 
 -- by the active member of the slot's group
-abbrev pub turn_of_member : Setup → ℕ → ℕ → Bool → Option ℕ → Option ℕ → Live → Turned Live TurnLine
-turn_of_member setup cpu tick first on (Some s) k =
-    turn_of_subject cpu tick s first on (slice_get setup.subjects s) (slice_get setup.controls s) k
-turn_of_member setup cpu tick first on None k = idle k
+abbrev pub cpu_turn_of_member : Setup → ℕ → ℕ → Bool → Option ℕ → Option ℕ → Live → Turned Live TurnLine
+cpu_turn_of_member setup cpu tick first on (Some s) k =
+    cpu_turn_of_subject cpu tick s first on (slice_get setup.subjects s) (slice_get setup.controls s) k
+cpu_turn_of_member setup cpu tick first on None k = kernel_idles k
 
 -- by the slot
-abbrev pub turn_in_slot : Setup → ℕ → ℕ → Option ℕ → Option Slot → Live → Turned Live TurnLine
-turn_in_slot setup cpu tick on (Some slot) k =
-    turn_of_member setup cpu tick slot.first on (slice_get k.router.active slot.group) k
-turn_in_slot setup cpu tick on None k = idle k
+abbrev pub cpu_turn_in_slot : Setup → ℕ → ℕ → Option ℕ → Option Slot → Live → Turned Live TurnLine
+cpu_turn_in_slot setup cpu tick on (Some slot) k =
+    cpu_turn_of_member setup cpu tick slot.first on (slice_get k.router.active slot.group) k
+cpu_turn_in_slot setup cpu tick on None k = kernel_idles k
 
 -- by who is on the CPU; a CPU that isn't there takes no turn
 abbrev pub turn_on : Setup → ℕ → ℕ → Option (Option ℕ) → Live → Turned Live TurnLine
-turn_on setup cpu tick (Some on) k = turn_in_slot setup cpu tick on (slot_in (frames_in setup.plan cpu) k.frame tick) k
-turn_on setup cpu tick None k = idle k
+turn_on setup cpu tick (Some on) k = cpu_turn_in_slot setup cpu tick on (slot_in (frames_in setup.plan cpu) k.frame tick) k
+turn_on setup cpu tick None k = kernel_idles k
 
 -- **the turn** of a CPU in a tick
 abbrev pub turn_of : Setup → ℕ → ℕ → Live → Turned Live TurnLine

@@ -6,11 +6,11 @@ use Rattle.device_bench.specs.record.Record.{Record}
 use Rattle.device_bench.specs.Devices.{inputs_at, order_at, no_inputs}
 use Rattle.device_bench.specs.declared.effect.Effect.{Effect}
 use Rattle.device_bench.specs.declared.effect.Effect.TheVariants.{Port, Mem, Irq}
-use Rattle.frame_clock.specs.Frames.{frame_at_tick, ticks_of_majors, first_frame}
-use Rattle.event_router.specs.Router.{started as router_started, pends_now}
+use Rattle.frame_clock.specs.Frames.{frame_at_tick, ticks_of_plan_majors, first_frame}
+use Rattle.event_router.specs.Router.{started as router_started, router_pends_now}
 use Rattle.frame_clock.specs.Run.{Clocked, Ran, run_to}
 use Rattle.view_text.specs.declared.TurnLine.{TurnLine}
-use Rattle.vmx_machine.specs.Machine.{MachineState, page_at, started as machine_started, left, device_wrote}
+use Rattle.vmx_machine.specs.Machine.{MachineState, page_bytes_at, started as machine_started, left, device_wrote}
 use Rattle.kernel_core.specs.declared.turn.Turn.{Turn}
 use Rattle.image_pack.specs.declared.parts.SubjectPart.{SubjectPart}
 use Rattle.guest_isa.specs.state.SubjectState.{SubjectState}
@@ -32,18 +32,18 @@ live_started setup cpus pages = record {
 
 -- the byte that chooses the next major frame: the first of this page
 abbrev pub pick_of : Option ℕ → List Page → Option ℕ
-pick_of tau0 pages = option_and_then (λ page. slice_get (page_at pages page) 0) tau0
+pick_of tau0 pages = option_and_then (λ page. slice_get (page_bytes_at pages page) 0) tau0
 
 abbrev pub begins : Setup → ℕ → Live → Live
 begins setup tick k =
-    record k { frame = frame_at_tick (ticks_of_majors setup.plan) k.frame (pick_of setup.tau0 k.machine.pages) tick }
+    record k { frame = frame_at_tick (ticks_of_plan_majors setup.plan) k.frame (pick_of setup.tau0 k.machine.pages) tick }
 
 -- ---- inputs: what devices do
 
 abbrev pub takes : Effect → Live → Live
 takes (Port port value) k = record k { ports = slice_set k.ports port value }
 takes (Mem at bytes) k = record k { machine = device_wrote at bytes k.machine }
-takes (Irq subject vector) k = record k { router = pends_now subject (Some vector) k.router }
+takes (Irq subject vector) k = record k { router = router_pends_now subject (Some vector) k.router }
 
 -- an input, if there is one
 abbrev pub takes_any : Option Effect → Live → Live

@@ -4,7 +4,7 @@ ghost use Rattle.guest_isa.specs.state.SubjectState.{SubjectState};
 ghost use Rattle.image_pack.specs.declared.parts.SubjectPart.{SubjectPart};
 ghost use Rattle.event_router.specs.Router.{started, taken};
 ghost use Rattle.frame_clock.specs.declared.plan.Plan.{Plan};
-ghost use Rattle.kernel_core.specs.Kernel.{event_of, exit_handled, raised_by, standing_of, switched, turn_of, vector_for};
+ghost use Rattle.kernel_core.specs.Kernel.{event_of, exit_handled, raised_by, turn_standing_of, switched, turn_of, vector_for};
 ghost use Rattle.device_bench.specs.Devices.{CanRun};
 ghost use Rattle.kernel_core.specs.Slots.{AreSlotsKept};
 ghost use Rattle.kernel_core.specs.Ticks.{acted, acted_line, kernel_started, with_live};
@@ -186,8 +186,8 @@ impl<M: PhysMem, T: Translate> Kernel<M, T> {
         standing: Standing,
     ) -> Option<TurnLine>
         requires { turn.now.cpu < length self.old.live.machine.cpus }
-        ensures state { (part : SubjectPart) (st : SubjectState) → slice_get self.old.setup.subjects subject ≡ Some part → standing ≡ standing_of st → self.new ≡ acted self.old turn.now subject part first st }
-        ensures line { (part : SubjectPart) (st : SubjectState) → slice_get self.old.setup.subjects subject ≡ Some part → standing ≡ standing_of st → result ≡ acted_line self.old turn.now subject part first st }
+        ensures state { (part : SubjectPart) (st : SubjectState) → slice_get self.old.setup.subjects subject ≡ Some part → standing ≡ turn_standing_of st → self.new ≡ acted self.old turn.now subject part first st }
+        ensures line { (part : SubjectPart) (st : SubjectState) → slice_get self.old.setup.subjects subject ≡ Some part → standing ≡ turn_standing_of st → result ≡ acted_line self.old turn.now subject part first st }
     {
         if standing.stopped {
             return None;
@@ -215,7 +215,7 @@ impl<M: PhysMem, T: Translate> Kernel<M, T> {
 
     // The vector that is delivered, if one is. It isn't pending any more.
     fn take_vector(&mut self, subject: u8, first: bool, standing: Standing) -> Option<u8>
-        ensures vector { (st : SubjectState) → standing ≡ standing_of st → result ≡ vector_for subject first st self.old.live.router }
+        ensures vector { (st : SubjectState) → standing ≡ turn_standing_of st → result ≡ vector_for subject first st self.old.live.router }
         ensures state { self.new ≡ with_live self.old (record self.old.live { router = taken subject result self.old.live.router }) }
         ensures none { result ≡ None → self.new ≡ self.old }
     {

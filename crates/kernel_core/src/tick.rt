@@ -3,7 +3,7 @@ ghost use Rattle.std.specs.Prelude.{◌≡◌, ◌+◌, ◌*◌, ◌<◌, ◌≤
 ghost use Rattle.muen_num.specs.Range.{numbers_below};
 ghost use Rattle.frame_clock.specs.Run.{all_taken, begun};
 ghost use Rattle.guest_isa.specs.StatePage.{state_in};
-ghost use Rattle.vmx_machine.specs.Machine.{page_at};
+ghost use Rattle.vmx_machine.specs.Machine.{page_bytes_at};
 ghost use Rattle.kernel_core.specs.Ticks.{all_left, begins, ended, kernel, pick_of, takes_any, tick_inputs, tick_order};
 
 use crate::kernel::{Kernel, control_at};
@@ -14,7 +14,7 @@ use vmx_machine::{Machine, PhysMem, Translate};
 
 // The first byte of a page, by its number.
 fn first_byte<M: PhysMem>(mem: &M, page: u32) -> Option<u8>
-    ensures { result ≡ slice_get (page_at (M.pages mem.now) page) 0 }
+    ensures { result ≡ slice_get (page_bytes_at (M.pages mem.now) page) 0 }
 {
     mem.page(u64::from(page))?.first().copied()
 }
@@ -135,7 +135,7 @@ impl<M: PhysMem, T: Translate> Kernel<M, T> {
 
     /// The state of a subject, as its state page has it. None where there is no such subject.
     pub fn state(&self, subject: usize) -> Option<SubjectState>
-        ensures { result ≡ option_map (λ c. state_in (page_at self.now.live.machine.pages c.state)) (slice_get self.now.setup.controls subject) }
+        ensures { result ≡ option_map (λ c. state_in (page_bytes_at self.now.live.machine.pages c.state)) (slice_get self.now.setup.controls subject) }
     {
         let control = control_at(self.setup.controls.items(), subject)?;
         Some(self.machine.state_in(control.state))

@@ -1,6 +1,6 @@
 //! Turns.
 ghost use Rattle.std.specs.Prelude.{◌≡◌};
-ghost use Rattle.kernel_core.specs.Kernel.{line_of, standing_of};
+ghost use Rattle.kernel_core.specs.Kernel.{turn_line_of, turn_standing_of};
 
 use guest_isa::SubjectState;
 use muen_num::Name;
@@ -29,7 +29,7 @@ pub(crate) struct Standing {
 impl Standing {
     /// That of a state.
     pub(crate) fn of(s: &SubjectState) -> Standing
-        ensures { result ≡ standing_of s.now }
+        ensures { result ≡ turn_standing_of s.now }
     {
         Standing {
             pc: s.pc,
@@ -44,7 +44,7 @@ impl Standing {
 impl Turn {
     /// Its line, where this happened.
     pub(crate) fn line(&self, what: TurnAction) -> TurnLine
-        ensures { result ≡ line_of self.now what }
+        ensures { result ≡ turn_line_of self.now what }
     {
         TurnLine {
             tick: self.tick,

@@ -7,7 +7,7 @@ use Rattle.std.proofs.lemmas.Bool.{and_from, and_parts, ltb-true}
 use Rattle.std.proofs.lemmas.List.Folds.{flat_map-map}
 use Rattle.std.proofs.lemmas.Grind.{flat_map-append}
 use Rattle.std.proofs.lemmas.Slice.Zip.{AllZip-long}
-use Rattle.expand_kernel.specs.Grants.{AreGrants, AreGrantsOf, is_lower}
+use Rattle.expand_kernel.specs.Grants.{AreGrants, AreGrantsOf, is_lower_view}
 use Rattle.expand_kernel.specs.Ordered.{in_order, inserted}
 use Rattle.expand_kernel.specs.granted.Grants.{Grants}
 use Rattle.expand_kernel.proofs.Ordered.{map_in_order}
@@ -31,7 +31,7 @@ use Rattle.policy_lawful.proofs.WindowsByIndex.{name_there, windows_by_index}
 use Rattle.region_alloc.specs.Placement.{placement_of}
 use Rattle.region_alloc.specs.Placed.{AreInside}
 use Rattle.map_report.specs.MapText.{device_line, map_text_at, map_text_of, region_lines, text_where, window_line, window_lines}
-use Rattle.map_report.specs.Views.{all_view_lines, device_lines, is_there, map_lines, memory_line, shown_tag, shows_what_is_there, tag, tagged_line, view_line, view_lines, views_at}
+use Rattle.map_report.specs.Views.{all_view_lines, device_lines, is_shown_there, map_lines, memory_line, shown_tag, shows_what_is_there, owner_tag, tagged_line, view_line, view_lines, views_at}
 use Rattle.map_report.proofs.Views.{views_there}
 
 -- ---- what passes still passes in order
@@ -53,13 +53,13 @@ module _ {X : Type 0} (test : X → Bool) (by : X → X → Bool) where
 
 -- ---- one view
 
-same_tag : (r : Resolution) (subject : List ℕ) (v : View) (shows : Shown) → is_there r shows ≡ true → shown_tag r subject v.name shows ≡ Some (thing_tag (thing_shown r subject v shows))
+same_tag : (r : Resolution) (subject : List ℕ) (v : View) (shows : Shown) → is_shown_there r shows ≡ true → shown_tag r subject v.name shows ≡ Some (thing_tag (thing_shown r subject v shows))
 same_tag r subject v (Memory k) h = refl
 same_tag r subject v (Channel k) h = refl
 same_tag r subject v (Provided k) h = refl
 same_tag r subject v (Device d m) h =
     let x = there r.devices d (ltb-true d (length r.devices) h) in
-    ap (option_map (λ y. tag y.name (Named v.name))) x.1 ∙ ap (λ name. Some (tag name (Named v.name))) (sym (name_there (λ y. y.name) r.devices d x.0 x.1))
+    ap (option_map (λ y. owner_tag y.name (Named v.name))) x.1 ∙ ap (λ name. Some (owner_tag name (Named v.name))) (sym (name_there (λ y. y.name) r.devices d x.0 x.1))
 same_tag r subject v (State k) h = refl
 
 abbrev line_of_window : List ℕ → Window Thing → List ℕ
@@ -79,11 +79,11 @@ same_lines r subject (v ∷ vs) all =
 
 of_subject : (r : Resolution) → IsResolved r → (s : Subject) (g : Grants) → subject_in_range r s ≡ true → AreGrantsOf r s g → view_lines r s.name g.views ≡ window_lines (source_of r) (subject_named r s)
 of_subject r q s g in_range h =
-    let there = all_in_order (shows_what_is_there r) is_lower (views_of r s) (views_there r s) in
+    let there = all_in_order (shows_what_is_there r) is_lower_view (views_of r s) (views_there r s) in
     let line = line_of_window s.name in
     ap (view_lines r s.name) h.views
-    ∙ same_lines r s.name (in_order is_lower (views_of r s)) there
-    ∙ sym (flat_map-map line (view_window r s.name) (in_order is_lower (views_of r s)))
+    ∙ same_lines r s.name (in_order is_lower_view (views_of r s)) there
+    ∙ sym (flat_map-map line (view_window r s.name) (in_order is_lower_view (views_of r s)))
     ∙ ap (flat_map line) (map_in_order (view_window r s.name) (λ v w. nat_le v.guest w.guest) (views_of r s))
     ∙ ap (λ ws. flat_map line (in_order (λ v w. nat_le v.guest w.guest) ws)) (sym (windows_by_index r s q in_range))
 

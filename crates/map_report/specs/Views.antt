@@ -16,16 +16,16 @@ use Rattle.policy_lawful.specs.declared.view.View.{View}
 use Rattle.policy_lawful.specs.source.Device.{Device as SourceDevice}
 use Rattle.policy_lawful.specs.source.DeviceMemory.{DeviceMemory}
 
-abbrev pub tag : List ℕ → TagPart → Tag
-tag owner part = record { owner = owner; part = part }
+abbrev pub owner_tag : List ℕ → TagPart → Tag
+owner_tag owner part = record { owner = owner; part = part }
 
 -- the printed name of what a view shows to the subject of this name, where that is there
 abbrev pub shown_tag : Resolution → List ℕ → List ℕ → Shown → Option Tag
-shown_tag r subject name (Memory index) = Some (tag name Whole)
-shown_tag r subject name (Channel index) = Some (tag name Whole)
-shown_tag r subject name (Provided index) = Some (tag subject (Named name))
-shown_tag r subject name (Device device memory) = option_map (λ d. tag d.name (Named name)) (slice_get r.devices device)
-shown_tag r subject name (State index) = Some (tag name States)
+shown_tag r subject name (Memory index) = Some (owner_tag name Whole)
+shown_tag r subject name (Channel index) = Some (owner_tag name Whole)
+shown_tag r subject name (Provided index) = Some (owner_tag subject (Named name))
+shown_tag r subject name (Device device memory) = option_map (λ d. owner_tag d.name (Named name)) (slice_get r.devices device)
+shown_tag r subject name (State index) = Some (owner_tag name States)
 
 abbrev pub tagged_line : List ℕ → View → Option Tag → List ℕ
 tagged_line subject v None = []
@@ -48,7 +48,7 @@ all_view_lines r grants first subjects =
 
 -- memory of a device
 abbrev pub memory_line : List ℕ → DeviceMemory → List ℕ
-memory_line device m = region_line (codes "device") m.physical_address m.size (tag device (Named m.name))
+memory_line device m = region_line (codes "device") m.physical_address m.size (owner_tag device (Named m.name))
 
 -- that of all devices
 abbrev pub device_lines : List SourceDevice → List ℕ
@@ -60,9 +60,9 @@ map_lines r addresses regions grants =
     region_lines addresses regions ++ device_lines r.devices ++ all_view_lines r grants 0 r.subjects
 
 -- the device whose memory it shows is there
-abbrev pub is_there : Resolution → Shown → Bool
-is_there r (Device device memory) = nat_lt device (length r.devices)
-is_there r _ = true
+abbrev pub is_shown_there : Resolution → Shown → Bool
+is_shown_there r (Device device memory) = nat_lt device (length r.devices)
+is_shown_there r _ = true
 
 abbrev pub shows_what_is_there : Resolution → View → Bool
-shows_what_is_there r v = is_there r v.shows
+shows_what_is_there r v = is_shown_there r v.shows

@@ -1,12 +1,12 @@
 //! The printed names of what views show.
 ghost use Rattle.std.specs.Prelude.{◌≡◌};
-ghost use Rattle.map_report.specs.Views.{shown_tag, tag};
+ghost use Rattle.map_report.specs.Views.{shown_tag, owner_tag};
 
 use muen_num::{Name, Tag, TagPart};
 use policy_lawful::{Resolved, Shown, View};
 
 fn part_of(owner: Name, part: TagPart) -> Tag
-    ensures { result ≡ tag owner part }
+    ensures { result ≡ owner_tag owner part }
 {
     Tag { owner, part }
 }

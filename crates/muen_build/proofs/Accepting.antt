@@ -12,7 +12,7 @@ use Rattle.muen_outside.specs.Store.{Store, find_bytes}
 use Rattle.policy_lawful.specs.refusal.Refusal.{Refusal}
 use Rattle.policy_lawful.specs.refusal.Refusal.TheVariants.{NoMemory}
 use Rattle.policy_lawful.specs.source.Source.{Source}
-use Rattle.muen_build.specs.Accepting.{Accepts, FailsWith, Files, Grows, HasContents, IsAskedBy, LacksContents, LookedBeside, Names, Passes, Refuses, RefusesContents, RefusesDocument, Stops, insert_all, looks_of, of_all}
+use Rattle.muen_build.specs.Accepting.{Accepts, FailsWith, Files, Grows, HasContents, IsAskedBy, LacksContents, LookedBeside, AskedNames, Passes, Refuses, RefusesContents, RefusesDocument, StopsAfterLooks, insert_all, looks_of, of_all}
 use Rattle.muen_build.specs.Looks.{IsAsked, Looked, names_file}
 use Rattle.muen_build.specs.Refusals.{lawful_policy_of}
 use Rattle.muen_build.specs.declared.accepted.BuildError.{BuildError}
@@ -29,7 +29,7 @@ use Rattle.muen_build.specs.Filling.{filled_of}
 -- ---- all looks of a call
 
 -- at files that contents name
-module _ (given : Files) (names : Names) (held : Option Store) (old new : History) (looks : List Look) (g : Grows given names held old new [] looks) where
+module _ (given : Files) (names : AskedNames) (held : Option Store) (old new : History) (looks : List Look) (g : Grows given names held old new [] looks) where
   pub all_beside : LookedBeside given held old new looks
   all_beside = record {
     history = g.history ∙ ap (looked old) (sym g.grown);
@@ -46,7 +46,7 @@ given_first : (name document : List ℕ) → find_bytes name ((name, document) �
 given_first name document = ap (λ b. if b then Some document else None) (same_self name)
 
 module _ (name document : List ℕ) (held : Option Store) (old new : History) (looks : List Look) where
-  pub all_looked : (names : Names) → Grows ((name, document) ∷ []) names held old new [] looks → Looked name held old new looks
+  pub all_looked : (names : AskedNames) → Grows ((name, document) ∷ []) names held old new [] looks → Looked name held old new looks
   all_looked names g =
       let b = all_beside ((name, document) ∷ []) names held old new looks g in
       record { history = b.history; single = b.single; others = b.others name document (given_first name document); told = b.told }
@@ -74,7 +74,7 @@ unlawful_fails name document held h r answer =
 module _ (name document : List ℕ) (p : Source) (is : lawful_policy_of document ≡ Ok p) where
   -- its contents are refused, or a look at them failed
   module _ (held : Option Store) (old new : History) where
-    stops_fails : (error : BuildError) → Stops ((name, document) ∷ []) (names_file p) held old new [] (RefusesDocument document) error → FailsWith name document held old new error
+    stops_fails : (error : BuildError) → StopsAfterLooks ((name, document) ∷ []) (names_file p) held old new [] (RefusesDocument document) error → FailsWith name document held old new error
     stops_fails error e = record {
       looks = e.after;
       looked = all_looked name document held old new e.after (names_file p) e.grows;
@@ -82,7 +82,7 @@ module _ (name document : List ℕ) (p : Source) (is : lawful_policy_of document
       says = e.says;
     }
 
-    pub contents_fail : (error : BuildError) → Stops ((name, document) ∷ []) (names_file p) held old new [] (Refuses (of_all (filled_of p))) error → FailsWith name document held old new error
+    pub contents_fail : (error : BuildError) → StopsAfterLooks ((name, document) ∷ []) (names_file p) held old new [] (Refuses (of_all (filled_of p))) error → FailsWith name document held old new error
     contents_fail error e =
         stops_fails error
         (stops_so ((name, document) ∷ []) (names_file p) (names_file p) held old new [] (Refuses (of_all (filled_of p))) (RefusesDocument document) error (λ file h. h)
@@ -119,7 +119,7 @@ module _ (given : Files) (r : Resolution) (resolved : IsResolved r) (held : Opti
   }
 
 module _ (given : Files) (p : Source) (held : Option Store) (old new : History) where
-  pub lacks_contents : (error : BuildError) → Stops given (names_file p) held old new [] (Refuses (of_all (filled_of p))) error → LacksContents given p held old new error
+  pub lacks_contents : (error : BuildError) → StopsAfterLooks given (names_file p) held old new [] (Refuses (of_all (filled_of p))) error → LacksContents given p held old new error
   lacks_contents error e =
       let s =
       stops_so given (names_file p) (names_file p) held old new [] (Refuses (of_all (filled_of p))) (RefusesContents p) error (λ file h. h)

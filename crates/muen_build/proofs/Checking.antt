@@ -14,9 +14,9 @@ use Rattle.muen_outside.specs.States.{History, Look}
 use Rattle.muen_outside.specs.Store.{Store}
 use Rattle.policy_lawful.specs.refusal.Refusal.{Refusal}
 use Rattle.policy_lawful.specs.source.Content.TheVariants.{File, Inline}
-use Rattle.muen_build.specs.Accepting.{Files, insert_all, Grows, Known, Names, NotFound, Passes, Refuses, Stops, Why, all_names, brought_names, filled_names, looks_of, of_all, of_brought, of_filled, part_length}
+use Rattle.muen_build.specs.Accepting.{Files, insert_all, Grows, IsLengthKnown, AskedNames, NotFound, Passes, Refuses, StopsAfterLooks, Why, all_names, brought_names, filled_names, looks_of, of_all, of_brought, of_filled, part_length}
 use Rattle.policy_lawful.specs.ByIndex.{provided_at}
-use Rattle.muen_build.specs.Filling.{Filled, brought_at, filled_of, filled_provided, filled_refused, filled_region}
+use Rattle.muen_build.specs.Filling.{Filled, filled_brought_at, filled_of, filled_provided, filled_refused, filled_region}
 use Rattle.muen_build.specs.Looks.{is_of_file, names_file}
 use Rattle.muen_build.specs.Refusals.{content_refused, too_long_for}
 use Rattle.muen_build.specs.declared.accepted.BuildError.{BuildError}
@@ -40,7 +40,7 @@ none_is (Some x) h = absurd (cc)
 
 module _ (given : Files) (f : Filled) where
   pub inline_stops : (bytes : List ℕ) (held : Option Store) (h : History) (looks : List Look) (r : Refusal) → f.content ≡ Inline bytes → Err r ≡ as_refusal (too_long_for f.tag f.size (length bytes))
-      → Stops given (filled_names f) held h h looks (Refuses (of_filled f)) (Refused r)
+      → StopsAfterLooks given (filled_names f) held h h looks (Refuses (of_filled f)) (Refused r)
   inline_stops bytes held h looks r is e =
       let long = refused_is (too_long_for f.tag f.size (length bytes)) r e in
       stops_here given (filled_names f) held h looks (Refuses (of_filled f)) r (λ files s. ap (content_refused (insert_all files given) f.tag f.size) is ∙ long)
@@ -55,20 +55,20 @@ module _ (given : Files) (f : Filled) where
     pub file_grows : (held : Option Store) (old new : History) (a b : List Look) → Grows given (bytes_eq file) held old new a b → Grows given (filled_names f) held old new a b
     file_grows held old new a b g = grows_among given (bytes_eq file) (filled_names f) held old new a b named g
 
-    pub missing_stops : (held : Option Store) (old new : History) (looks : List Look) (error : BuildError) → Stops given (bytes_eq file) held old new looks (NotFound file) error
-        → Stops given (filled_names f) held old new looks (Refuses (of_filled f)) error
+    pub missing_stops : (held : Option Store) (old new : History) (looks : List Look) (error : BuildError) → StopsAfterLooks given (bytes_eq file) held old new looks (NotFound file) error
+        → StopsAfterLooks given (filled_names f) held old new looks (Refuses (of_filled f)) error
     missing_stops held old new looks error e =
         stops_so given (bytes_eq file) (filled_names f) held old new looks (NotFound file) (Refuses (of_filled f)) error named
         (λ r after shows n files s. ap (content_refused (insert_all files given) f.tag f.size) is ∙ file_fails f file offset most (insert_all files given) r (n files s)) e
 
-    refused_as : (looks : List Look) (count : ℕ) → Known given looks file count → (files : Store) → ShowAll files looks → content_refused (insert_all files given) f.tag f.size f.content ≡ too_long_for f.tag f.size (part_length count offset most)
+    refused_as : (looks : List Look) (count : ℕ) → IsLengthKnown given looks file count → (files : Store) → ShowAll files looks → content_refused (insert_all files given) f.tag f.size f.content ≡ too_long_for f.tag f.size (part_length count offset most)
     refused_as looks count known files s = ap (content_refused (insert_all files given) f.tag f.size) is ∙ part_refused f file offset most count (insert_all files given) (known files s)
 
-    pub file_passes : (count : ℕ) (looks : List Look) → Known given looks file count → Ok tt ≡ as_refusal (too_long_for f.tag f.size (part_length count offset most)) → Passes given looks (of_filled f)
+    pub file_passes : (count : ℕ) (looks : List Look) → IsLengthKnown given looks file count → Ok tt ≡ as_refusal (too_long_for f.tag f.size (part_length count offset most)) → Passes given looks (of_filled f)
     file_passes count looks known h files s = refused_as looks count known files s ∙ none_is (too_long_for f.tag f.size (part_length count offset most)) h
 
-    pub long_stops : (before looks : List Look) (held : Option Store) (old new : History) (count : ℕ) (r : Refusal) → Grows given (bytes_eq file) held old new before looks → Known given looks file count
-        → Err r ≡ as_refusal (too_long_for f.tag f.size (part_length count offset most)) → Stops given (filled_names f) held old new before (Refuses (of_filled f)) (Refused r)
+    pub long_stops : (before looks : List Look) (held : Option Store) (old new : History) (count : ℕ) (r : Refusal) → Grows given (bytes_eq file) held old new before looks → IsLengthKnown given looks file count
+        → Err r ≡ as_refusal (too_long_for f.tag f.size (part_length count offset most)) → StopsAfterLooks given (filled_names f) held old new before (Refuses (of_filled f)) (Refused r)
     long_stops before looks held old new count r grows known h = record {
       after = looks;
       grows = file_grows held old new before looks grows;
@@ -78,16 +78,16 @@ module _ (given : Files) (f : Filled) where
 -- ---- several
 
 -- the names that any of these asks for
-abbrev pub any_names : {X : Type 0} → (X → Names) → List X → Names
+abbrev pub any_names : {X : Type 0} → (X → AskedNames) → List X → AskedNames
 any_names asks all n = list_any (λ x. asks x n) all
 
 -- what is known while they are gone through: which looks were made, and that those passed aren't refused
-pub record Passing (X : Type 0) (why : X → Why) (asks : X → Names) (given : Files) (all : List X) (before : Files) (held now_held : Option Store) (old now : History) (found : Files) (i : ℕ) : Type 0 where
+pub record Passing (X : Type 0) (why : X → Why) (asks : X → AskedNames) (given : Files) (all : List X) (before : Files) (held now_held : Option Store) (old now : History) (found : Files) (i : ℕ) : Type 0 where
   pub grows : Grows given (any_names asks all) held old now (looks_of before) (looks_of found)
   pub rest : (files : Store) → ShowAll files (looks_of found) → first_in (λ x. why x (insert_all files given)) (drop i all) ≡ first_in (λ x. why x (insert_all files given)) all
   pub same : now_held ≡ held
 
-module _ {X : Type 0} (why : X → Why) (asks : X → Names) (given : Files) (all : List X) (before : Files) (held : Option Store) (old : History) where
+module _ {X : Type 0} (why : X → Why) (asks : X → AskedNames) (given : Files) (all : List X) (before : Files) (held : Option Store) (old : History) where
   pub passing_first : Passing X why asks given all before held held old old before 0
   passing_first = record { grows = grows_not given (any_names asks all) held old (looks_of before); rest = λ files s. refl; same = refl }
 
@@ -111,8 +111,8 @@ module _ {X : Type 0} (why : X → Why) (asks : X → Names) (given : Files) (al
             same = stays ∙ p.same;
           }
 
-      pub passing_stops : (new : History) (error : BuildError) → Stops given (asks x) now_held now new (looks_of found) (Refuses (why x)) error
-          → Stops given (any_names asks all) held old new (looks_of before) (Refuses (λ files. first_in (λ x. why x files) all)) error
+      pub passing_stops : (new : History) (error : BuildError) → StopsAfterLooks given (asks x) now_held now new (looks_of found) (Refuses (why x)) error
+          → StopsAfterLooks given (any_names asks all) held old new (looks_of before) (Refuses (λ files. first_in (λ x. why x files) all)) error
       passing_stops new error e =
           stops_from given (any_names asks all) held now_held old now new (looks_of before) (looks_of found) (Refuses (λ files. first_in (λ x. why x files) all)) error p.same p.grows
           (stops_so given (asks x) (any_names asks all) now_held now new (looks_of found) (Refuses (why x)) (Refuses (λ files. first_in (λ x. why x files) all)) error asked
@@ -121,7 +121,7 @@ module _ {X : Type 0} (why : X → Why) (asks : X → Names) (given : Files) (al
 -- ---- elements that are filled each for itself
 
 module _ {X : Type 0} (f : X → Filled) (xs : List X) (given : Files) where
-  abbrev each_names : Names
+  abbrev each_names : AskedNames
   each_names = any_names (λ x. filled_names (f x)) xs
 
   mapped_names : (n : List ℕ) → each_names n ≡ true → all_names (map f xs) n ≡ true
@@ -130,8 +130,8 @@ module _ {X : Type 0} (f : X → Filled) (xs : List X) (given : Files) where
   pub mapped_grows : (held : Option Store) (old new : History) (a b : List Look) → Grows given each_names held old new a b → Grows given (all_names (map f xs)) held old new a b
   mapped_grows held old new a b g = grows_among given each_names (all_names (map f xs)) held old new a b mapped_names g
 
-  pub mapped_stops : (held : Option Store) (old new : History) (looks : List Look) (error : BuildError) → Stops given each_names held old new looks (Refuses (λ files. first_in (λ x. of_filled (f x) files) xs)) error
-      → Stops given (all_names (map f xs)) held old new looks (Refuses (of_all (map f xs))) error
+  pub mapped_stops : (held : Option Store) (old new : History) (looks : List Look) (error : BuildError) → StopsAfterLooks given each_names held old new looks (Refuses (λ files. first_in (λ x. of_filled (f x) files) xs)) error
+      → StopsAfterLooks given (all_names (map f xs)) held old new looks (Refuses (of_all (map f xs))) error
   mapped_stops held old new looks error e =
       stops_so given each_names (all_names (map f xs)) held old new looks (Refuses (λ files. first_in (λ x. of_filled (f x) files) xs)) (Refuses (of_all (map f xs))) error mapped_names
       (λ r after shows h files s. first_over-map f (filled_refused (insert_all files given)) xs ∙ h files s) e
@@ -145,17 +145,17 @@ module _ (components : List Component) (s : Subject) (given : Files) where
   abbrev provided_all : List Filled
   provided_all = map (filled_provided s.name) (provided_at components s.component)
 
-  pub brought_by_grows : (held : Option Store) (old new : History) (a b : List Look) → Grows given (all_names provided_all) held old new a b → Grows given (all_names (brought_at components s)) held old new a b
-  unfolding brought_at
+  pub brought_by_grows : (held : Option Store) (old new : History) (a b : List Look) → Grows given (all_names provided_all) held old new a b → Grows given (all_names (filled_brought_at components s)) held old new a b
+  unfolding filled_brought_at
   brought_by_grows held old new a b g = g
 
-  pub brought_by_stops : (held : Option Store) (old new : History) (looks : List Look) (error : BuildError) → Stops given (all_names provided_all) held old new looks (Refuses (of_all provided_all)) error
-      → Stops given (all_names (brought_at components s)) held old new looks (Refuses (of_all (brought_at components s))) error
-  unfolding brought_at
+  pub brought_by_stops : (held : Option Store) (old new : History) (looks : List Look) (error : BuildError) → StopsAfterLooks given (all_names provided_all) held old new looks (Refuses (of_all provided_all)) error
+      → StopsAfterLooks given (all_names (filled_brought_at components s)) held old new looks (Refuses (of_all (filled_brought_at components s))) error
+  unfolding filled_brought_at
   brought_by_stops held old new looks error e = e
 
-  pub brought_by_passes : (looks : List Look) → Passes given looks (of_all provided_all) → Passes given looks (of_all (brought_at components s))
-  unfolding brought_at
+  pub brought_by_passes : (looks : List Look) → Passes given looks (of_all provided_all) → Passes given looks (of_all (filled_brought_at components s))
+  unfolding filled_brought_at
   brought_by_passes looks p = p
 
 -- two facts of one answer
@@ -176,18 +176,18 @@ module _ (r : Resolution) (h : IsResolved r) where
   all_is : (files : Store) → of_all (filled_of (source_of r)) files ≡ option_or (of_all (map filled_region r.memory) files) (of_brought r.components r.subjects files)
   all_is files =
       ap (first_in (filled_refused files)) (sym (filled_by_index r h))
-      ∙ first_in-append (filled_refused files) (map filled_region r.memory) (flat_map (brought_at r.components) r.subjects)
-      ∙ ap (option_or (of_all (map filled_region r.memory) files)) (first_in-flat_map (filled_refused files) (brought_at r.components) r.subjects)
+      ∙ first_in-append (filled_refused files) (map filled_region r.memory) (flat_map (filled_brought_at r.components) r.subjects)
+      ∙ ap (option_or (of_all (map filled_region r.memory) files)) (first_in-flat_map (filled_refused files) (filled_brought_at r.components) r.subjects)
 
   names_are : (n : List ℕ) → names_file (source_of r) n ≡ (all_names (map filled_region r.memory) n || brought_names r.components r.subjects n)
   names_are n =
       names_filled (source_of r) n
       ∙ ap (list_any (λ f. filled_names f n)) (sym (filled_by_index r h))
-      ∙ list_any-append (λ f. filled_names f n) (map filled_region r.memory) (flat_map (brought_at r.components) r.subjects)
-      ∙ ap (λ b. all_names (map filled_region r.memory) n || b) (list_any-flat_map (λ f. filled_names f n) (brought_at r.components) r.subjects)
+      ∙ list_any-append (λ f. filled_names f n) (map filled_region r.memory) (flat_map (filled_brought_at r.components) r.subjects)
+      ∙ ap (λ b. all_names (map filled_region r.memory) n || b) (list_any-flat_map (λ f. filled_names f n) (filled_brought_at r.components) r.subjects)
 
-  brought_one : (n : List ℕ) (s : Subject) → all_names (brought_at r.components s) n ≡ list_any (λ x. is_of_file n x.content) (provided_at r.components s.component)
-  unfolding brought_at
+  brought_one : (n : List ℕ) (s : Subject) → all_names (filled_brought_at r.components s) n ≡ list_any (λ x. is_of_file n x.content) (provided_at r.components s.component)
+  unfolding filled_brought_at
   brought_one n s = list_any-map (λ f. filled_names f n) (filled_provided s.name) (provided_at r.components s.component)
 
   -- by the contents themselves
@@ -212,8 +212,8 @@ module _ (r : Resolution) (h : IsResolved r) where
   of_components n is = names_are n ∙ or_right (all_names (map filled_region r.memory) n) (brought_names r.components r.subjects n) is
 
   module _ (given : Files) (before between : Files) (held mid_held : Option Store) (old mid : History) where
-    pub memory_stops : (error : BuildError) → Stops given (all_names (map filled_region r.memory)) held old mid (looks_of before) (Refuses (of_all (map filled_region r.memory))) error
-        → Stops given (names_file (source_of r)) held old mid (looks_of before) (Refuses (of_all (filled_of (source_of r)))) error
+    pub memory_stops : (error : BuildError) → StopsAfterLooks given (all_names (map filled_region r.memory)) held old mid (looks_of before) (Refuses (of_all (map filled_region r.memory))) error
+        → StopsAfterLooks given (names_file (source_of r)) held old mid (looks_of before) (Refuses (of_all (filled_of (source_of r)))) error
     memory_stops error e =
         stops_so given (all_names (map filled_region r.memory)) (names_file (source_of r)) held old mid (looks_of before) (Refuses (of_all (map filled_region r.memory))) (Refuses (of_all (filled_of (source_of r)))) error of_memory
         (λ x after shows is files s. all_is (insert_all files given) ∙ ap (λ o. option_or o (of_brought r.components r.subjects (insert_all files given))) (is files s)) e
@@ -222,8 +222,8 @@ module _ (r : Resolution) (h : IsResolved r) where
       memory_grows : Grows given (names_file (source_of r)) held old mid (looks_of before) (looks_of between)
       memory_grows = grows_among given (all_names (map filled_region r.memory)) (names_file (source_of r)) held old mid (looks_of before) (looks_of between) of_memory grows
 
-      pub brought_stops : (new : History) (error : BuildError) → Stops given (brought_names r.components r.subjects) mid_held mid new (looks_of between) (Refuses (of_brought r.components r.subjects)) error
-          → Stops given (names_file (source_of r)) held old new (looks_of before) (Refuses (of_all (filled_of (source_of r)))) error
+      pub brought_stops : (new : History) (error : BuildError) → StopsAfterLooks given (brought_names r.components r.subjects) mid_held mid new (looks_of between) (Refuses (of_brought r.components r.subjects)) error
+          → StopsAfterLooks given (names_file (source_of r)) held old new (looks_of before) (Refuses (of_all (filled_of (source_of r)))) error
       brought_stops new error e =
           stops_from given (names_file (source_of r)) held mid_held old mid new (looks_of before) (looks_of between) (Refuses (of_all (filled_of (source_of r)))) error same memory_grows
           (stops_so given (brought_names r.components r.subjects) (names_file (source_of r)) mid_held mid new (looks_of between) (Refuses (of_brought r.components r.subjects)) (Refuses (of_all (filled_of (source_of r)))) error of_components

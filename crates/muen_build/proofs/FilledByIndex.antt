@@ -21,7 +21,7 @@ use Rattle.muen_num.specs.declared.tag.Tag.{Tag}
 use Rattle.muen_num.proofs.SearchLaws.{first_in-append, first_over-map, option_or-None}
 use Rattle.policy_lawful.specs.source.Component.{Component}
 use Rattle.policy_lawful.specs.ByIndex.{provided_at}
-use Rattle.muen_build.specs.Filling.{Filled, brought_at, filled, filled_at, filled_by, filled_of, filled_provided, filled_refused, filled_region}
+use Rattle.muen_build.specs.Filling.{Filled, filled_brought_at, filled, filled_at, filled_by, filled_of, filled_provided, filled_refused, filled_region}
 use Rattle.muen_build.specs.Looks.{is_of_file, names_file}
 use Rattle.muen_build.specs.Refusals.{contents_refused}
 
@@ -94,8 +94,8 @@ module _ (r : Resolution) (h : IsResolved r) where
       let there : used.used < length r.components = ltb-true _ _ (and_parts (nat_lt used.used (length r.components)) _ in_range).0 in
       ap (filled_by name) (found_at_index (λ (c : Component). c.name) r.components used.used (unique (source_of r) h.names).components there)
 
-  of_subject : (s : Subject) → subject_in_range r s ≡ true → filled_by s.name (component_by (source_of r) (subject_named r s).component) ≡ brought_at r.components s
-  unfolding brought_at
+  of_subject : (s : Subject) → subject_in_range r s ≡ true → filled_by s.name (component_by (source_of r) (subject_named r s).component) ≡ filled_brought_at r.components s
+  unfolding filled_brought_at
   of_subject s in_range =
       let f = and_parts _ _ in_range in
       let e = and_parts _ _ f.0 in
@@ -104,7 +104,7 @@ module _ (r : Resolution) (h : IsResolved r) where
       let b = and_parts _ _ c.0 in
       of_use s.name s.component (and_parts (option_map_or (component_in_range r) s.component true) _ b.0).0
 
-  of_subjects : (ss : List Subject) → list_all (subject_in_range r) ss ≡ true → flat_map (λ s. filled_by s.name (component_by (source_of r) s.component)) (map (subject_named r) ss) ≡ flat_map (brought_at r.components) ss
+  of_subjects : (ss : List Subject) → list_all (subject_in_range r) ss ≡ true → flat_map (λ s. filled_by s.name (component_by (source_of r) s.component)) (map (subject_named r) ss) ≡ flat_map (filled_brought_at r.components) ss
   of_subjects [] in_range = refl
   of_subjects (s ∷ ss) in_range =
       let a = and_parts (subject_in_range r s) (list_all (subject_in_range r) ss) in_range in

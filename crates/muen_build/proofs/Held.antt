@@ -14,11 +14,11 @@ use Rattle.muen_num.specs.Search.{first_in}
 use Rattle.muen_num.specs.declared.limits.TheConstants.{COMPONENT_FILE_MOST}
 use Rattle.muen_num.proofs.SearchLaws.{none_append, none_both}
 use Rattle.muen_num.proofs.Lookups.{other_way, same_self}
-use Rattle.muen_outside.specs.Looks.{AreOthers, ShowAll, ShowsAnswer}
+use Rattle.muen_outside.specs.Looks.{HaveNoLookAt, ShowAll, ShowsAnswer}
 use Rattle.muen_outside.specs.States.{Look}
 use Rattle.muen_outside.specs.Store.{Store, whole, long, reading_of, find_bytes}
 use Rattle.muen_build.specs.Accepting.{Files, WithGiven, insert_all, looks_of, of_all}
-use Rattle.muen_build.specs.Filling.{Filled, brought_at, filled_at, filled_provided, filled_refused, filled_region}
+use Rattle.muen_build.specs.Filling.{Filled, filled_brought_at, filled_at, filled_provided, filled_refused, filled_region}
 use Rattle.muen_build.specs.Reading.{content_read, read_bytes, sized, things_read}
 use Rattle.muen_build.specs.Refusals.{content_refused, contents_refused, file_refused, too_long_for}
 use Rattle.policy_lawful.specs.Resolution.{IsResolved, Resolution, source_of}
@@ -39,7 +39,7 @@ get-remove_bytes : (m : Store) (k q : List ℕ) → get (remove m k) q ≡ cond 
 get-remove_bytes m k q = get-remove nat_list_cmp_total m k q ∙ ap (λ t. cond t None (get m q)) (sym (texts_ties q k))
 
 -- looks at other names show the same without it
-still_shown : (files : Store) (file : List ℕ) (ls : List Look) → AreOthers ls file → ShowAll files ls → ShowAll (remove files file) ls
+still_shown : (files : Store) (file : List ℕ) (ls : List Look) → HaveNoLookAt ls file → ShowAll files ls → ShowAll (remove files file) ls
 still_shown files file [] others s = tt
 still_shown files file (l ∷ ls) others s =
     let same : get (remove files file) l.name ≡ get files l.name = get-remove_bytes files file l.name ∙ ap (λ t. cond t None (get files l.name)) (other_way file l.name others.0) in
@@ -113,14 +113,14 @@ module _ (given found : Files) where
       none_both (filled_refused (insert_all files given) (g x)) (of_all (map g xs) (insert_all files given)) (passes files s) in
       ap₂ (λ y ys. y ∷ ys) (content_same (g x) (g x).content (λ files s. (both files s).0) files s) (each_same g xs (λ files s. (both files s).1) files s)
 
-  brought_same : (cs : List Component) (ss : List Subject) → Over (λ files. of_all (flat_map (brought_at cs) ss) files ≡ None)
+  brought_same : (cs : List Component) (ss : List Subject) → Over (λ files. of_all (flat_map (filled_brought_at cs) ss) files ≡ None)
       → Over (λ files. flat_map (λ t. map (λ x. content_read given found x.size x.content) (provided_at cs t.component)) ss
       ≡ flat_map (λ t. map (λ x. content_bytes files x.size x.content) (provided_at cs t.component)) ss)
-  unfolding brought_at
+  unfolding filled_brought_at
   brought_same cs [] passes files s = refl
   brought_same cs (t ∷ ts) passes files s =
       let both = λ (files : Store) (s : ShowAll files (looks_of found)).
-      none_append (filled_refused (insert_all files given)) (brought_at cs t) (flat_map (brought_at cs) ts) (passes files s) in
+      none_append (filled_refused (insert_all files given)) (filled_brought_at cs t) (flat_map (filled_brought_at cs) ts) (passes files s) in
       ap₂ (λ ys zs. ys ++ zs)
       (each_same (filled_provided t.name) (provided_at cs t.component) (λ files s. (both files s).0) files s)
       (brought_same cs ts (λ files s. (both files s).1) files s)
@@ -128,7 +128,7 @@ module _ (given found : Files) where
   things_same : (r : Resolution) → Over (λ files. of_all (filled_at r) files ≡ None) → Over (λ files. things_read given found r ≡ thing_bytes files r)
   things_same r passes files s =
       let both = λ (files : Store) (s : ShowAll files (looks_of found)).
-      none_append (filled_refused (insert_all files given)) (map filled_region r.memory) (flat_map (brought_at r.components) r.subjects) (passes files s) in
+      none_append (filled_refused (insert_all files given)) (map filled_region r.memory) (flat_map (filled_brought_at r.components) r.subjects) (passes files s) in
       ap₂ (λ ys zs. ys ++ map (λ (c : Channel). replicate c.size 0) r.channels ++ zs)
       (each_same filled_region r.memory (λ files s. (both files s).0) files s)
       (brought_same r.components r.subjects (λ files s. (both files s).1) files s)

@@ -2,12 +2,12 @@
 use Rattle.std.proofs.Common.{◌≡◌, inl, inr, ℕ, true, false, List, [], ◌∷◌, ◌++◌, Option, Some, None, IfSome, sym, ap, subst, ◌∙◌, append-nil, append_assoc}
 use Rattle.std.specs.Str.{bytes_eq}
 use Rattle.std.proofs.lemmas.List.Elements.{All-append, All-nil, All-weaker}
-use Rattle.muen_outside.specs.Looks.{AreOthers, AreSingle, IsPossibleEnd, ShowAll, Shows}
+use Rattle.muen_outside.specs.Looks.{HaveNoLookAt, AreSingle, IsPossibleEnd, ShowAll, Shows}
 use Rattle.muen_outside.specs.States.{History, Look, looked}
 use Rattle.muen_outside.specs.Store.{Store}
 use Rattle.muen_outside.proofs.Explained.{told_none}
 use Rattle.policy_lawful.specs.refusal.Refusal.{Refusal}
-use Rattle.muen_build.specs.Accepting.{ErrorSays, Files, Grows, IsAskedBy, Names, Stops, WithGiven}
+use Rattle.muen_build.specs.Accepting.{ErrorSays, Files, Grows, IsAskedBy, AskedNames, StopsAfterLooks, WithGiven}
 use Rattle.muen_build.specs.declared.accepted.BuildError.{BuildError}
 use Rattle.muen_build.specs.declared.accepted.BuildError.TheVariants.{FileFault, Refused}
 use Rattle.muen_num.proofs.Lookups.{other_way}
@@ -36,11 +36,11 @@ told_one (Some m) l h = (h, tt)
 
 -- ---- one look more
 
-pub others_push : (ls : List Look) (name : List ℕ) (l : Look) → AreOthers ls name → bytes_eq name l.name ≡ false → AreOthers (ls ++ l ∷ []) name
+pub others_push : (ls : List Look) (name : List ℕ) (l : Look) → HaveNoLookAt ls name → bytes_eq name l.name ≡ false → HaveNoLookAt (ls ++ l ∷ []) name
 others_push [] name l others ne = (ne, tt)
 others_push (k ∷ ks) name l others ne = (others.0, others_push ks name l others.1 ne)
 
-pub single_push : (ls : List Look) (l : Look) → AreSingle ls → IsPossibleEnd l.most l.got → AreOthers ls l.name → AreSingle (ls ++ l ∷ [])
+pub single_push : (ls : List Look) (l : Look) → AreSingle ls → IsPossibleEnd l.most l.got → HaveNoLookAt ls l.name → AreSingle (ls ++ l ∷ [])
 single_push [] l single possible others = (possible, tt, tt)
 single_push (k ∷ ks) l single possible others =
     (single.0, others_push ks k.name l single.1 (other_way l.name k.name others.0), single_push ks l single.2 possible others.1)
@@ -53,7 +53,7 @@ no_look h = ap (λ looks. record { looks = looks; writes = h.writes }) (sym (app
 pub looked_both : (h : History) (ls more : List Look) → looked (looked h ls) more ≡ looked h (ls ++ more)
 looked_both h ls more = ap (λ looks. record { looks = looks; writes = h.writes }) (append_assoc h.looks ls more)
 
-pub grows_not : (given : Files) (names : Names) (held : Option Store) (h : History) (a : List Look) → Grows given names held h h a a
+pub grows_not : (given : Files) (names : AskedNames) (held : Option Store) (h : History) (a : List Look) → Grows given names held h h a a
 grows_not given names held h a = record {
   more = [];
   grown = sym (append-nil a);
@@ -64,7 +64,7 @@ grows_not given names held h a = record {
   others = λ name bytes is s. s;
 }
 
-pub grows_on : (given : Files) (names : Names) (held held' : Option Store) (old mid new : History) (a b c : List Look)
+pub grows_on : (given : Files) (names : AskedNames) (held held' : Option Store) (old mid new : History) (a b c : List Look)
     → held' ≡ held → Grows given names held old mid a b → Grows given names held' mid new b c → Grows given names held old new a c
 grows_on given names held held' old mid new a b c same f g = record {
   more = f.more ++ g.more;
@@ -77,7 +77,7 @@ grows_on given names held held' old mid new a b c same f g = record {
 }
 
 -- names that are asked for among more
-pub grows_among : (given : Files) (names names' : Names) (held : Option Store) (old new : History) (a b : List Look)
+pub grows_among : (given : Files) (names names' : AskedNames) (held : Option Store) (old new : History) (a b : List Look)
     → ((file : List ℕ) → names file ≡ true → names' file ≡ true) → Grows given names held old new a b → Grows given names' held old new a b
 grows_among given names names' held old new a b among g = record {
   more = g.more;
@@ -89,7 +89,7 @@ grows_among given names names' held old new a b among g = record {
   others = g.others;
 }
 
-pub grows_shows : (given : Files) (names : Names) (held : Option Store) (old new : History) (a b : List Look) → Grows given names held old new a b → (files : Store) → ShowAll files b → ShowAll files a
+pub grows_shows : (given : Files) (names : AskedNames) (held : Option Store) (old new : History) (a b : List Look) → Grows given names held old new a b → (files : Store) → ShowAll files b → ShowAll files a
 grows_shows given names held old new a b g files s = show_front files a g.more (subst (ShowAll files) g.grown s)
 
 -- ---- how it fails
@@ -103,8 +103,8 @@ says_so given looks Refuses Refuses' FileFault so e = e
 
 module _ (given : Files) where
   -- told from an earlier look on
-  pub stops_from : (names : Names) (held held' : Option Store) (old mid new : History) (a b : List Look) (Refuses : Store → Refusal → Type 0) (error : BuildError)
-      → held' ≡ held → Grows given names held old mid a b → Stops given names held' mid new b Refuses error → Stops given names held old new a Refuses error
+  pub stops_from : (names : AskedNames) (held held' : Option Store) (old mid new : History) (a b : List Look) (Refuses : Store → Refusal → Type 0) (error : BuildError)
+      → held' ≡ held → Grows given names held old mid a b → StopsAfterLooks given names held' mid new b Refuses error → StopsAfterLooks given names held old new a Refuses error
   stops_from names held held' old mid new a b Refuses error same g e = record {
     after = e.after;
     grows = grows_on given names held held' old mid new a b e.after same g e.grows;
@@ -112,10 +112,10 @@ module _ (given : Files) where
   }
 
   -- for more, and with names among more
-  pub stops_so : (names names' : Names) (held : Option Store) (old new : History) (a : List Look) (Refuses Refuses' : Store → Refusal → Type 0) (error : BuildError)
+  pub stops_so : (names names' : AskedNames) (held : Option Store) (old new : History) (a : List Look) (Refuses Refuses' : Store → Refusal → Type 0) (error : BuildError)
       → ((file : List ℕ) → names file ≡ true → names' file ≡ true)
       → ((r : Refusal) (looks : List Look) → ((files : Store) → ShowAll files looks → ShowAll files a) → WithGiven given looks (λ files. Refuses files r) → WithGiven given looks (λ files. Refuses' files r))
-      → Stops given names held old new a Refuses error → Stops given names' held old new a Refuses' error
+      → StopsAfterLooks given names held old new a Refuses error → StopsAfterLooks given names' held old new a Refuses' error
   stops_so names names' held old new a Refuses Refuses' error among so e = record {
     after = e.after;
     grows = grows_among given names names' held old new a e.after among e.grows;
@@ -123,6 +123,6 @@ module _ (given : Files) where
   }
 
   -- with no look more
-  pub stops_here : (names : Names) (held : Option Store) (h : History) (a : List Look) (Refuses : Store → Refusal → Type 0) (r : Refusal)
-      → WithGiven given a (λ files. Refuses files r) → Stops given names held h h a Refuses (Refused r)
+  pub stops_here : (names : AskedNames) (held : Option Store) (h : History) (a : List Look) (Refuses : Store → Refusal → Type 0) (r : Refusal)
+      → WithGiven given a (λ files. Refuses files r) → StopsAfterLooks given names held h h a Refuses (Refused r)
   stops_here names held h a Refuses r so = record { after = a; grows = grows_not given names held h a; says = inr so }

@@ -8,14 +8,14 @@ use Rattle.std.proofs.lemmas.List.Elements.{All-cons, All-nil}
 use Rattle.std.proofs.lemmas.Slice.Eq.{bytes_eq-Decides}
 use Rattle.muen_num.specs.declared.limits.TheConstants.{COMPONENT_FILE_MOST}
 use Rattle.muen_num.proofs.Lookups.{same_self}
-use Rattle.muen_outside.specs.Looks.{AreOthers, ShowAll, ShowsAnswer}
+use Rattle.muen_outside.specs.Looks.{HaveNoLookAt, ShowAll, ShowsAnswer}
 use Rattle.muen_outside.specs.States.{History, Look, look}
 use Rattle.muen_outside.specs.Store.{Store, Reading, whole, absent, long, reading_of, find_bytes}
 use Rattle.muen_outside.specs.declared.files.FileError.{FileError}
 use Rattle.policy_lawful.specs.Contents.{file_part}
 use Rattle.policy_lawful.specs.refusal.Refusal.{Refusal}
 use Rattle.policy_lawful.specs.refusal.Refusal.TheVariants.{FileFit, Missing, NoMemory, NoRoom, NotJson, Rule, Shape, TooLong}
-use Rattle.muen_build.specs.Accepting.{ErrorSays, Files, GotSays, Grows, Has, insert_all, IsAdded, IsAskedBy, Known, LooksAt, NotFound, NotRead, Stops, looks_of, part_length}
+use Rattle.muen_build.specs.Accepting.{ErrorSays, Files, GotSays, Grows, Has, insert_all, IsAdded, IsAskedBy, IsLengthKnown, LooksAt, NotFound, ComponentFileNotRead, StopsAfterLooks, looks_of, part_length}
 use Rattle.muen_build.specs.Looks.{file_look}
 use Rattle.muen_build.specs.Refusals.{file_refused, too_long_for}
 use Rattle.muen_build.specs.declared.accepted.BuildError.{BuildError}
@@ -30,7 +30,7 @@ module _ (given : Files) (file bytes : List ℕ) (is : find_bytes file given ≡
   given_reads : (reading : Reading) → reading_of (Some bytes) COMPONENT_FILE_MOST ≡ reading → (files : Store) → reading_of (get (insert_all files given) file) COMPONENT_FILE_MOST ≡ reading
   given_reads reading reads files = ap (λ o. reading_of o COMPONENT_FILE_MOST) (given_there files given file bytes is) ∙ reads
 
-  pub given_known : (looks : List Look) (count : ℕ) → count ≡ length bytes → count ≤ COMPONENT_FILE_MOST → Known given looks file count
+  pub given_known : (looks : List Look) (count : ℕ) → count ≡ length bytes → count ≤ COMPONENT_FILE_MOST → IsLengthKnown given looks file count
   given_known looks count many few files s = record {
     bytes = bytes;
     reads = given_reads (whole bytes) (admitted COMPONENT_FILE_MOST bytes (omega (arith, many, few))) files;
@@ -38,9 +38,9 @@ module _ (given : Files) (file bytes : List ℕ) (is : find_bytes file given ≡
   }
 
   pub given_stops : (held : Option Store) (h : History) (looks : List Look) (error : BuildError) → error ≡ Refused (TooLong file (length bytes)) → COMPONENT_FILE_MOST < length bytes
-      → Stops given (bytes_eq file) held h h looks (NotFound file) error
+      → StopsAfterLooks given (bytes_eq file) held h h looks (NotFound file) error
   given_stops held h looks error long_one many =
-      subst (Stops given (bytes_eq file) held h h looks (NotFound file)) (sym long_one)
+      subst (StopsAfterLooks given (bytes_eq file) held h h looks (NotFound file)) (sym long_one)
       (stops_here given (bytes_eq file) held h looks (NotFound file) (TooLong file (length bytes))
       (λ files s. (refl, given_reads (long (length bytes)) (too_many COMPONENT_FILE_MOST bytes many) files)))
 
@@ -57,10 +57,10 @@ shown_among files (e ∷ es) file bytes s h =
       | false ↦ λ other is. shown_among files es file bytes s.1 is
     ]) refl h
 
-pub others_found : (found : Files) (file : List ℕ) → find_bytes file found ≡ None → AreOthers (looks_of found) file
+pub others_found : (found : Files) (file : List ℕ) → find_bytes file found ≡ None → HaveNoLookAt (looks_of found) file
 others_found [] file h = tt
 others_found (e ∷ es) file h =
-    (elim (bytes_eq file e.0) as (λ b. bytes_eq file e.0 ≡ b → (if b then Some e.1 else find_bytes file es) ≡ None → AreOthers (looks_of (e ∷ es)) file) [
+    (elim (bytes_eq file e.0) as (λ b. bytes_eq file e.0 ≡ b → (if b then Some e.1 else find_bytes file es) ≡ None → HaveNoLookAt (looks_of (e ∷ es)) file) [
       | true ↦ λ same is. absurd (cc)
       | false ↦ λ other is. (other, others_found es file is)
     ]) refl h
@@ -88,7 +88,7 @@ module _ (given found : Files) (file : List ℕ) (other : find_bytes file given 
   pub found_reads : (bytes : List ℕ) → find_bytes file found ≡ Some bytes → (files : Store) → ShowAll files (looks_of found) → reading_of (get (insert_all files given) file) COMPONENT_FILE_MOST ≡ whole bytes
   found_reads bytes is files s = among (whole bytes) files (shown_among files found file bytes s is)
 
-  pub of_found : (count : ℕ) → option_map (λ bytes. length bytes) (find_bytes file found) ≡ Some count → Known given (looks_of found) file count
+  pub of_found : (count : ℕ) → option_map (λ bytes. length bytes) (find_bytes file found) ≡ Some count → IsLengthKnown given (looks_of found) file count
   of_found count h files s =
       let (bytes, is) = length_of (find_bytes file found) count h in
       record { bytes = bytes; reads = found_reads bytes is.0 files s; many = is.1 }
@@ -125,7 +125,7 @@ module _ (given found : Files) (file : List ℕ) (other : find_bytes file given 
     pub new_grows : (after : Files) (count : ℕ) → IsAdded file found after count held old new → Grows given (bytes_eq file) held old new (looks_of found) (looks_of after)
     new_grows after count a = subst (Grows given (bytes_eq file) held old new (looks_of found)) (looks_are after a.bytes a.added) (grown (Ok (whole a.bytes)) a.looks)
 
-    pub new_known : (after : Files) (count : ℕ) → IsAdded file found after count held old new → Known given (looks_of after) file count
+    pub new_known : (after : Files) (count : ℕ) → IsAdded file found after count held old new → IsLengthKnown given (looks_of after) file count
     new_known after count a files s = record {
       bytes = a.bytes;
       reads = shows_got (Ok (whole a.bytes)) (whole a.bytes) refl files (subst (ShowAll files) (sym (looks_are after a.bytes a.added)) s);
@@ -143,7 +143,7 @@ module _ (given found : Files) (file : List ℕ) (other : find_bytes file given 
     got_says got (Refused (FileFit a b d)) h = absurd h
     got_says got (Refused (NoRoom a b)) h = absurd h
 
-    pub new_stops : (error : BuildError) → NotRead file held old new error → Stops given (bytes_eq file) held old new (looks_of found) (NotFound file) error
+    pub new_stops : (error : BuildError) → ComponentFileNotRead file held old new error → StopsAfterLooks given (bytes_eq file) held old new (looks_of found) (NotFound file) error
     new_stops error n = record { after = then_look found file n.got; grows = grown n.got n.looks; says = got_says n.got error n.says }
 
 -- ---- a content

@@ -8,11 +8,11 @@ use Rattle.std.specs.Str.{bytes_eq}
 use Rattle.std.proofs.lemmas.Bool.{cases_Bool}
 use Rattle.std.proofs.lemmas.List.Elements.{All-head, All-tail}
 use Rattle.std.proofs.lemmas.Slice.Eq.{bytes_eq-Decides}
-use Rattle.muen_outside.specs.Looks.{AreOthers, ShowAll, ShowsAnswer}
+use Rattle.muen_outside.specs.Looks.{HaveNoLookAt, ShowAll, ShowsAnswer}
 use Rattle.muen_outside.specs.States.{History, Look}
 use Rattle.muen_outside.specs.Store.{Store, find_bytes}
 use Rattle.muen_outside.proofs.HeldMap.{keeps_others}
-use Rattle.muen_build.specs.Accepting.{ErrorSays, Files, HasContents, IsAskedBy, LacksContents, LookedBeside, Names, RefusesContents, WithGiven, insert_all}
+use Rattle.muen_build.specs.Accepting.{ErrorSays, Files, HasContents, IsAskedBy, LacksContents, LookedBeside, AskedNames, RefusesContents, WithGiven, insert_all}
 use Rattle.proof_build.specs.ThingBytes.{thing_bytes}
 use Rattle.muen_build.specs.Looks.{names_file}
 use Rattle.muen_build.specs.Refusals.{contents_refused}
@@ -30,7 +30,7 @@ find_both name (e ∷ es) ys =
       | false ↦ find_both name es ys
     ]
 
-module _ (names : Names) (file bytes : List ℕ) (unnamed : names file ≡ false) where
+module _ (names : AskedNames) (file bytes : List ℕ) (unnamed : names file ≡ false) where
   -- names that are asked for are others
   differs : (name : List ℕ) → names name ≡ true → bytes_eq file name ≡ false
   differs name asked =
@@ -39,12 +39,12 @@ module _ (names : Names) (file bytes : List ℕ) (unnamed : names file ≡ false
         | inr n ↦ n
       ]
 
-  others : (looks : List Look) → All (IsAskedBy names) looks → AreOthers looks file
+  others : (looks : List Look) → All (IsAskedBy names) looks → HaveNoLookAt looks file
   others [] asked = tt
   others (l ∷ ls) asked = (differs l.name (All-head (IsAskedBy names) l ls asked).0, others ls (All-tail (IsAskedBy names) l ls asked))
 
   -- files agree with the looks as they did
-  shown : (m : Store) (looks : List Look) → AreOthers looks file → ShowAll m looks → ShowAll (insert m file bytes) looks
+  shown : (m : Store) (looks : List Look) → HaveNoLookAt looks file → ShowAll m looks → ShowAll (insert m file bytes) looks
   shown m [] apart shows = tt
   shown m (l ∷ ls) apart shows = (
     subst (λ o. ShowsAnswer o l.most l.got)
@@ -56,10 +56,10 @@ module _ (names : Names) (file bytes : List ℕ) (unnamed : names file ≡ false
   given_last m [] = refl
   given_last m (e ∷ es) = ap (λ k. insert k e.0 e.1) (given_last m es)
 
-  only : (looks : List Look) (name b : List ℕ) → AreOthers looks file → find_bytes name ((file, bytes) ∷ []) ≡ Some b → AreOthers looks name
+  only : (looks : List Look) (name b : List ℕ) → HaveNoLookAt looks file → find_bytes name ((file, bytes) ∷ []) ≡ Some b → HaveNoLookAt looks name
   only looks name b apart is =
-      elim (bytes_eq name file) as (λ t. bytes_eq name file ≡ t → (if t then Some bytes else None) ≡ Some b → AreOthers looks name) [
-        | true ↦ λ e found. subst (AreOthers looks) (sym ((bytes_eq-Decides name file).0 e)) apart
+      elim (bytes_eq name file) as (λ t. bytes_eq name file ≡ t → (if t then Some bytes else None) ≡ Some b → HaveNoLookAt looks name) [
+        | true ↦ λ e found. subst (HaveNoLookAt looks) (sym ((bytes_eq-Decides name file).0 e)) apart
         | false ↦ λ e found. absurd (cc)
       ] refl is
 
@@ -68,9 +68,9 @@ module _ (names : Names) (file bytes : List ℕ) (unnamed : names file ≡ false
     with_more : (Such : Store → Type 0) → WithGiven given looks Such → WithGiven (given ++ (file, bytes) ∷ []) looks Such
     with_more Such all m shows = subst Such (sym (given_last m given)) (all (insert m file bytes) (shown m looks (others looks asked) shows))
 
-    others_of_all : ((name b : List ℕ) → find_bytes name given ≡ Some b → AreOthers looks name) → (name b : List ℕ) → find_bytes name (given ++ (file, bytes) ∷ []) ≡ Some b → AreOthers looks name
+    others_of_all : ((name b : List ℕ) → find_bytes name given ≡ Some b → HaveNoLookAt looks name) → (name b : List ℕ) → find_bytes name (given ++ (file, bytes) ∷ []) ≡ Some b → HaveNoLookAt looks name
     others_of_all of_given name b is =
-        elim (find_bytes name given) as (λ o. find_bytes name given ≡ o → option_or o (find_bytes name ((file, bytes) ∷ [])) ≡ Some b → AreOthers looks name) [
+        elim (find_bytes name given) as (λ o. find_bytes name given ≡ o → option_or o (find_bytes name ((file, bytes) ∷ [])) ≡ Some b → HaveNoLookAt looks name) [
           | Some c ↦ λ e found. of_given name c e
           | None ↦ λ e found. only looks name b (others looks asked) found
         ] refl (sym (find_both name given ((file, bytes) ∷ [])) ∙ is)

@@ -5,7 +5,7 @@ use Rattle.std.specs.FinMap.{get, insert}
 use Rattle.proof_build.specs.ThingBytes.{thing_bytes}
 use Rattle.muen_num.specs.Search.{first_in}
 use Rattle.muen_num.specs.declared.limits.TheConstants.{COMPONENT_FILE_MOST}
-use Rattle.muen_outside.specs.Looks.{AreOthers, AreSingle, EndsInFault, IsPossibleEnd, ShowAll, Shows}
+use Rattle.muen_outside.specs.Looks.{HaveNoLookAt, AreSingle, EndsInFault, IsPossibleEnd, ShowAll, Shows}
 use Rattle.muen_outside.specs.States.{History, Look, look, looked}
 use Rattle.muen_outside.specs.Store.{Store, Reading, whole, absent, long, find_bytes, reading_of}
 use Rattle.muen_outside.specs.declared.files.FileError.{FileError}
@@ -17,7 +17,7 @@ use Rattle.policy_lawful.specs.declared.resolved.Subject.{Subject}
 use Rattle.policy_lawful.specs.source.Component.{Component}
 use Rattle.policy_lawful.specs.source.Source.{Source}
 use Rattle.region_alloc.specs.Placed.{Placement}
-use Rattle.muen_build.specs.Filling.{Filled, brought_at, filled_of, filled_refused}
+use Rattle.muen_build.specs.Filling.{Filled, filled_brought_at, filled_of, filled_refused}
 use Rattle.muen_build.specs.Looks.{IsAsked, Looked, file_look, is_of_file, names_file}
 use Rattle.muen_build.specs.Refusals.{accepted_policy_of, contents_refused}
 use Rattle.muen_build.specs.declared.accepted.BuildError.{BuildError}
@@ -81,25 +81,25 @@ pub record FailsWith (name document : List ℕ) (held : Option Store) (old new :
 -- ---- looks that grow
 
 -- which names are asked for
-abbrev pub Names : Type 0
-Names = List ℕ → Bool
+abbrev pub AskedNames : Type 0
+AskedNames = List ℕ → Bool
 
-abbrev pub IsAskedBy : Names → Look → Type 0
+abbrev pub IsAskedBy : AskedNames → Look → Type 0
 IsAskedBy names l = (names l.name ≡ true) × (l.most ≡ COMPONENT_FILE_MOST)
 
 -- looks were made after these, at component files that are asked for; all are each at another name and none at one that is given,
 -- where these are so
-pub record Grows (given : Files) (names : Names) (held : Option Store) (old new : History) (before after : List Look) : Type 0 where
+pub record Grows (given : Files) (names : AskedNames) (held : Option Store) (old new : History) (before after : List Look) : Type 0 where
   pub more : List Look
   pub grown : after ≡ before ++ more
   pub history : new ≡ looked old more
   pub told : IfSome held (λ m. ShowAll m more)
   pub asked : All (IsAskedBy names) more
   pub single : AreSingle before → AreSingle after
-  pub others : (name bytes : List ℕ) → find_bytes name given ≡ Some bytes → AreOthers before name → AreOthers after name
+  pub others : (name bytes : List ℕ) → find_bytes name given ≡ Some bytes → HaveNoLookAt before name → HaveNoLookAt after name
 
 -- looks were made after these, and this is what comes of them all
-pub record Stops (given : Files) (names : Names) (held : Option Store) (old new : History) (before : List Look) (Refuses : Store → Refusal → Type 0) (error : BuildError) : Type 0 where
+pub record StopsAfterLooks (given : Files) (names : AskedNames) (held : Option Store) (old new : History) (before : List Look) (Refuses : Store → Refusal → Type 0) (error : BuildError) : Type 0 where
   pub after : List Look
   pub grows : Grows given names held old new before after
   pub says : ErrorSays given Refuses after error
@@ -110,7 +110,7 @@ pub record Stops (given : Files) (names : Names) (held : Option Store) (old new 
 pub record LookedBeside (given : Files) (held : Option Store) (old new : History) (looks : List Look) : Type 0 where
   pub history : new ≡ looked old looks
   pub single : AreSingle looks
-  pub others : (name bytes : List ℕ) → find_bytes name given ≡ Some bytes → AreOthers looks name
+  pub others : (name bytes : List ℕ) → find_bytes name given ≡ Some bytes → HaveNoLookAt looks name
   pub told : IfSome held (λ m. ShowAll m looks)
 
 -- looks were made at component files that the policy names; over all files that agree with them its contents aren't refused, and
@@ -141,8 +141,8 @@ pub record Has (files : Store) (name : List ℕ) (count : ℕ) : Type 0 where
   pub many : count ≡ length bytes
 
 -- the file is known to have so many bytes
-abbrev pub Known : Files → List Look → List ℕ → ℕ → Type 0
-Known given looks file count = WithGiven given looks (λ files. Has files file count)
+abbrev pub IsLengthKnown : Files → List Look → List ℕ → ℕ → Type 0
+IsLengthKnown given looks file count = WithGiven given looks (λ files. Has files file count)
 
 -- one look at this component file, with what it came to
 pub record LooksAt (file : List ℕ) (got : Result Reading FileError) (held : Option Store) (old new : History) : Type 0 where
@@ -159,7 +159,7 @@ GotSays file got FileFault = got ≡ Err Failed
 GotSays file got _ = ⊥
 
 -- a look at this component file gives no bytes, or memory for them was refused
-pub record NotRead (file : List ℕ) (held : Option Store) (old new : History) (error : BuildError) : Type 0 where
+pub record ComponentFileNotRead (file : List ℕ) (held : Option Store) (old new : History) (error : BuildError) : Type 0 where
   pub got : Result Reading FileError
   pub looks : LooksAt file got held old new
   pub says : GotSays file got error
@@ -204,22 +204,22 @@ of_all all files = first_in (filled_refused files) all
 
 -- the first of those that the components of these subjects bring along
 abbrev pub of_brought : List Component → List Subject → Why
-of_brought components subjects files = first_in (λ s. first_in (filled_refused files) (brought_at components s)) subjects
+of_brought components subjects files = first_in (λ s. first_in (filled_refused files) (filled_brought_at components s)) subjects
 
 -- the names of files that contents have
-abbrev pub filled_names : Filled → Names
+abbrev pub filled_names : Filled → AskedNames
 filled_names f name = is_of_file name f.content
 
-abbrev pub all_names : List Filled → Names
+abbrev pub all_names : List Filled → AskedNames
 all_names all name = list_any (λ f. filled_names f name) all
 
-abbrev pub brought_names : List Component → List Subject → Names
-brought_names components subjects name = list_any (λ s. all_names (brought_at components s) name) subjects
+abbrev pub brought_names : List Component → List Subject → AskedNames
+brought_names components subjects name = list_any (λ s. all_names (filled_brought_at components s) name) subjects
 
 -- ---- a check of contents: the files that it reads, and why it isn't passed
 
 pub record Check : Type 0 where
-  pub names : Names
+  pub names : AskedNames
   pub why : Why
 
 abbrev pub of_content : Filled → Check
@@ -241,4 +241,4 @@ abbrev pub PassesBy : Check → List Given → Files → Type 0
 PassesBy check given found = Passes (given_files given) (looks_of found) check.why
 
 abbrev pub StopsBy : Check → List Given → Option Store → History → History → Files → BuildError → Type 0
-StopsBy check given held old new before error = Stops (given_files given) check.names held old new (looks_of before) (Refuses check.why) error
+StopsBy check given held old new before error = StopsAfterLooks (given_files given) check.names held old new (looks_of before) (Refuses check.why) error

@@ -9,17 +9,17 @@ use Rattle.policy_lawful.specs.source.Region.{Region}
 use Rattle.policy_lawful.specs.source.Source.{Source}
 
 -- of a content, if it is of a file
-abbrev pub file_of : Content → List (List ℕ)
-file_of Zero = []
-file_of (Fill byte) = []
-file_of (Inline bytes) = []
-file_of (File name offset most) = name ∷ []
+abbrev pub content_file_of : Content → List (List ℕ)
+content_file_of Zero = []
+content_file_of (Fill byte) = []
+content_file_of (Inline bytes) = []
+content_file_of (File name offset most) = name ∷ []
 
 abbrev pub region_file : Region → List (List ℕ)
-region_file r = file_of r.content
+region_file r = content_file_of r.content
 
 abbrev pub provided_file : Provided → List (List ℕ)
-provided_file x = file_of x.content
+provided_file x = content_file_of x.content
 
 abbrev pub component_files : Component → List (List ℕ)
 component_files c = flat_map provided_file c.provides

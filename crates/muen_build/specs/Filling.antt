@@ -36,11 +36,11 @@ filled_region r = record { tag = record { owner = r.name; part = Whole }; size =
 abbrev pub filled_provided : List ℕ → Provided → Filled
 filled_provided subject x = record { tag = record { owner = subject; part = Named x.logical }; size = x.size; content = x.content }
 
-unfoldable pub brought_at : List Component → Subject → List Filled
-brought_at components s = map (filled_provided s.name) (provided_at components s.component)
+unfoldable pub filled_brought_at : List Component → Subject → List Filled
+filled_brought_at components s = map (filled_provided s.name) (provided_at components s.component)
 
 abbrev pub filled_at : Resolution → List Filled
-filled_at r = map filled_region r.memory ++ flat_map (brought_at r.components) r.subjects
+filled_at r = map filled_region r.memory ++ flat_map (filled_brought_at r.components) r.subjects
 
 -- ---- by names
 

@@ -3,7 +3,7 @@ use Rattle.std.specs.Prelude.{◌≡◌, ℕ, Bool, true, false, List, Option, I
 use Rattle.std.specs.List.{list_any}
 use Rattle.std.specs.Str.{bytes_eq}
 use Rattle.muen_num.specs.declared.limits.TheConstants.{COMPONENT_FILE_MOST, POLICY_MOST}
-use Rattle.muen_outside.specs.Looks.{AreOthers, AreSingle, ShowAll}
+use Rattle.muen_outside.specs.Looks.{HaveNoLookAt, AreSingle, ShowAll}
 use Rattle.muen_outside.specs.States.{History, Look, look, looked}
 use Rattle.muen_outside.specs.Store.{Store, whole}
 use Rattle.muen_build.specs.Refusals.{lawful_policy_of}
@@ -16,7 +16,7 @@ use Rattle.policy_lawful.specs.source.Source.{Source}
 pub record Looked (name : List ℕ) (held : Option Store) (old new : History) (looks : List Look) : Type 0 where
   pub history : new ≡ looked old looks
   pub single : AreSingle looks
-  pub others : AreOthers looks name
+  pub others : HaveNoLookAt looks name
   pub told : IfSome held (λ m. ShowAll m looks)
 
 -- ---- the files of a policy

@@ -4,7 +4,7 @@ ghost use Rattle.std.specs.Str.{bytes_eq};
 ghost use Rattle.muen_num.specs.Search.{as_refusal};
 ghost use Rattle.muen_outside.specs.Store.{find_bytes, whole};
 ghost use Rattle.policy_lawful.specs.Resolution.{source_of};
-ghost use Rattle.muen_build.specs.Accepting.{Grows, GrowsBy, IsAdded, Known, LooksAt, NotFound, NotRead, PassesBy, Stops, StopsBy, given_files, looks_of, of_components, of_content, of_contents, of_policy, part_length};
+ghost use Rattle.muen_build.specs.Accepting.{Grows, GrowsBy, IsAdded, IsLengthKnown, LooksAt, NotFound, ComponentFileNotRead, PassesBy, StopsAfterLooks, StopsBy, given_files, looks_of, of_components, of_content, of_contents, of_policy, part_length};
 ghost use Rattle.muen_build.specs.Filling.{filled, filled_provided, filled_region};
 ghost use Rattle.muen_build.specs.Refusals.{too_long_for};
 ghost use Rattle.muen_build.specs.declared.accepted.BuildError.TheVariants.{Refused};
@@ -48,7 +48,7 @@ fn part_length(count: u64, offset: u64, most: Option<u64>) -> u64
 // The bytes of a component file.
 fn read<F: Files>(alloc: Global, file: Name, files: &mut F) -> Result<Seq<u8>, BuildError>
     ensures ok { IfOk result (λ bytes. LooksAt file (Ok (whole bytes)) (F.held files.old) (F.history files.old) (F.history files.new)) }
-    ensures err { IfErr result (NotRead file (F.held files.old) (F.history files.old) (F.history files.new)) }
+    ensures err { IfErr result (ComponentFileNotRead file (F.held files.old) (F.history files.old) (F.history files.new)) }
     ensures held { F.held files.new ≡ F.held files.old }
 {
     match files.read(alloc, file.as_str(), COMPONENT_FILE_MOST) {
@@ -69,7 +69,7 @@ fn read_new<F: Files>(
 ) -> Result<u64, BuildError>
     requires { find_bytes file found.old ≡ None }
     ensures ok { IfOk result (λ count. IsAdded file found.old found.new count (F.held files.old) (F.history files.old) (F.history files.new)) }
-    ensures err { IfErr result (NotRead file (F.held files.old) (F.history files.old) (F.history files.new)) }
+    ensures err { IfErr result (ComponentFileNotRead file (F.held files.old) (F.history files.old) (F.history files.new)) }
     ensures held { F.held files.new ≡ F.held files.old }
 {
     let bytes = read(alloc, file, files)?;
@@ -104,8 +104,8 @@ fn file_length<F: Files>(
     files: &mut F,
 ) -> Result<u64, BuildError>
     ensures grows { IfOk result (λ _. Grows (given_files given.now) (bytes_eq file) (F.held files.old) (F.history files.old) (F.history files.new) (looks_of found.old) (looks_of found.new)) }
-    ensures known { IfOk result (Known (given_files given.now) (looks_of found.new) file) }
-    ensures err { IfErr result (Stops (given_files given.now) (bytes_eq file) (F.held files.old) (F.history files.old) (F.history files.new) (looks_of found.old) (NotFound file)) }
+    ensures known { IfOk result (IsLengthKnown (given_files given.now) (looks_of found.new) file) }
+    ensures err { IfErr result (StopsAfterLooks (given_files given.now) (bytes_eq file) (F.held files.old) (F.history files.old) (F.history files.new) (looks_of found.old) (NotFound file)) }
     ensures held { F.held files.new ≡ F.held files.old }
 {
     if let Some(bytes) = given_bytes(given, file) {

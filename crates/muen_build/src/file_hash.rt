@@ -3,7 +3,7 @@ ghost use Rattle.std.specs.Prelude.{◌≡◌, List, ℕ, ◌++◌};
 ghost use Rattle.std.specs.List.{flat_map};
 ghost use Rattle.policy_lawful.specs.NameHashes.{AreDigested, hasher_behind};
 ghost use Rattle.policy_lawful.specs.Resolution.{source_of};
-ghost use Rattle.muen_build.specs.FileNames.{component_files, file_of, named_files, provided_file, region_file};
+ghost use Rattle.muen_build.specs.FileNames.{component_files, content_file_of, named_files, provided_file, region_file};
 
 use policy_lawful::source::{Component, Content, Provided, Region};
 use policy_lawful::{NameDigest, NameHash, Resolved};
@@ -11,7 +11,7 @@ use policy_lawful::{NameDigest, NameHash, Resolved};
 // Adds the name of a content's file, if it is of one.
 #[tactic(auto, using(crate::proofs::FilesDigested::none_more))]
 fn add_file(digest: &mut NameDigest, content: &Content)
-    ensures { (names : List (List ℕ)) → AreDigested digest.old names → AreDigested digest.new (names ++ file_of content.now) }
+    ensures { (names : List (List ℕ)) → AreDigested digest.old names → AreDigested digest.new (names ++ content_file_of content.now) }
 {
     if let Content::File { name, .. } = content {
         digest.add(*name);

@@ -9,7 +9,7 @@ ghost use Rattle.std.specs.List.{All};
 ghost use Rattle.muen_num.specs.Answers.{Answers, Explains};
 ghost use Rattle.muen_outside.specs.Store.{Store};
 ghost use Rattle.policy_lawful.specs.Resolution.{kept_source, source_of};
-ghost use Rattle.muen_build.specs.Accepting.{Accepts, FailsWith, Grows, HasContents, LacksContents, Passes, Refuses, Stops, given_files, looks_of, of_all, placed_source};
+ghost use Rattle.muen_build.specs.Accepting.{Accepts, FailsWith, Grows, HasContents, LacksContents, Passes, Refuses, StopsAfterLooks, given_files, looks_of, of_all, placed_source};
 ghost use Rattle.muen_build.specs.Looks.{IsAsked, Looked, names_file};
 ghost use Rattle.muen_build.specs.Refusals.{laid_policy_of, lawful_policy_of};
 ghost use Rattle.region_alloc.specs.Placement.{no_room};
@@ -80,7 +80,7 @@ fn read_contents<F: Files>(
 ) -> Result<ComponentFiles, BuildError>
     ensures grows { IfOk result (λ found. Grows (given_files given.now) (names_file (source_of policy.now)) (F.held files.old) (F.history files.old) (F.history files.new) [] (looks_of found)) }
     ensures passes { IfOk result (λ found. Passes (given_files given.now) (looks_of found) (of_all (filled_of (source_of policy.now)))) }
-    ensures err { IfErr result (Stops (given_files given.now) (names_file (source_of policy.now)) (F.held files.old) (F.history files.old) (F.history files.new) [] (Refuses (of_all (filled_of (source_of policy.now))))) }
+    ensures err { IfErr result (StopsAfterLooks (given_files given.now) (names_file (source_of policy.now)) (F.held files.old) (F.history files.old) (F.history files.new) [] (Refuses (of_all (filled_of (source_of policy.now))))) }
     ensures held { F.held files.new ≡ F.held files.old }
 {
     let mut found = ComponentFiles::new(alloc, hash_of_files(policy.resolved()));

@@ -4,7 +4,7 @@ use Rattle.std.specs.Prelude.{slice_get}
 use Rattle.std.proofs.lemmas.List.{set_past}
 use Rattle.std.proofs.lemmas.Option.{slice_get-get_or}
 use Rattle.muen_num.specs.ListChange.{change_at}
-use Rattle.muen_num.specs.ListChangeLaws.{TheElementChanges, OtherElementsStay, LengthsStay, ChangesJoin}
+use Rattle.muen_num.specs.ListChangeLaws.{TheElementChanges, OtherElementsStay, ListLengthsStay, ChangesJoin}
 
 -- ---- an element that is written
 
@@ -38,7 +38,7 @@ item_is i xs x l e = slice_get-get_or xs i x l ∙ ap Some (sym e)
 
 -- ---- laws
 
-pub length_stays : {X : Type 0} → LengthsStay X
+pub length_stays : {X : Type 0} → ListLengthsStay X
 length_stays i f [] = refl
 length_stays zero f (z ∷ xs) = refl
 length_stays (suc i) f (z ∷ xs) = ap suc (length_stays i f xs)

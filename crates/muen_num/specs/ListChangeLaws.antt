@@ -10,8 +10,8 @@ TheElementChanges X = (i : ℕ) (f : X → X) (xs : List X) → slice_get (chang
 abbrev pub OtherElementsStay : Type 0 → Type 0
 OtherElementsStay X = (i j : ℕ) (f : X → X) (xs : List X) → j ≢ i → slice_get (change_at i f xs) j ≡ slice_get xs j
 
-abbrev pub LengthsStay : Type 0 → Type 0
-LengthsStay X = (i : ℕ) (f : X → X) (xs : List X) → length (change_at i f xs) ≡ length xs
+abbrev pub ListLengthsStay : Type 0 → Type 0
+ListLengthsStay X = (i : ℕ) (f : X → X) (xs : List X) → length (change_at i f xs) ≡ length xs
 
 -- two changes of one element are one
 abbrev pub ChangesJoin : Type 0 → Type 0

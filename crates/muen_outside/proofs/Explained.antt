@@ -7,7 +7,7 @@ use Rattle.std.proofs.lemmas.Bool.Decides.{nat_tests}
 use Rattle.std.proofs.lemmas.List.{length-replicate}
 use Rattle.muen_num.proofs.Lookups.{other_way, same_self}
 use Rattle.muen_outside.specs.declared.files.FileError.{FileError}
-use Rattle.muen_outside.specs.Looks.{ShowsAnswer, AreOthers, AreSingle, IsPossibleEnd, ShowAll}
+use Rattle.muen_outside.specs.Looks.{ShowsAnswer, HaveNoLookAt, AreSingle, IsPossibleEnd, ShowAll}
 use Rattle.muen_outside.specs.States.{Look}
 use Rattle.muen_outside.specs.Store.{Store, Reading, whole, absent, long, find_bytes}
 use Rattle.muen_outside.proofs.HeldMap.{stored, get-stored}
@@ -55,7 +55,7 @@ passed : (name other : List ℕ) (content : Option (List ℕ)) (rest : Entries) 
 passed name other None rest ne = refl
 passed name other (Some bytes) rest ne = ap (λ b. cond b (Some bytes) (find_bytes name rest)) ne
 
-none_of : (ls : List Look) (name : List ℕ) → AreOthers ls name → find_bytes name (entries_of ls) ≡ None
+none_of : (ls : List Look) (name : List ℕ) → HaveNoLookAt ls name → find_bytes name (entries_of ls) ≡ None
 none_of [] name h = refl
 none_of (l ∷ ls) name h = passed name l.name (content_of l.got) (entries_of ls) h.0 ∙ none_of ls name h.1
 
@@ -63,7 +63,7 @@ own : (name : List ℕ) (content : Option (List ℕ)) (rest : Entries) → find_
 own name None rest none = none
 own name (Some bytes) rest none = ap (λ b. cond b (Some bytes) (find_bytes name rest)) (same_self name)
 
-held_still : (name : List ℕ) (content : Option (List ℕ)) (es : Entries) (ls : List Look) → AreOthers ls name → Hold es ls → Hold (entry_of name content es) ls
+held_still : (name : List ℕ) (content : Option (List ℕ)) (es : Entries) (ls : List Look) → HaveNoLookAt ls name → Hold es ls → Hold (entry_of name content es) ls
 held_still name content es [] others h = tt
 held_still name content es (l ∷ ls) others h =
     (passed l.name name content es (other_way name l.name others.0) ∙ h.0, held_still name content es ls others.1 h.1)

@@ -6,7 +6,7 @@ use Rattle.muen_outside.specs.declared.files.FileError.{FileError}
 use Rattle.muen_outside.specs.declared.files.FileError.TheVariants.{Failed}
 use Rattle.muen_outside.specs.Found.{IsPossible}
 use Rattle.muen_outside.specs.States.{History, Look, Write, look}
-use Rattle.muen_outside.specs.Store.{Store, Reading, reading_of, KeepsOthers, insert_known}
+use Rattle.muen_outside.specs.Store.{Store, Reading, reading_of, KeepsOtherNames, insert_known}
 
 -- the looks of the calls since
 abbrev pub looks_since : History → History → List Look
@@ -33,19 +33,19 @@ IsPossibleEnd most (Ok reading) = IsPossible most reading
 IsPossibleEnd most (Err end) = Unit {0}
 
 -- no look is at a file of this name
-abbrev pub AreOthers : List Look → List ℕ → Type 0
-AreOthers [] name = Unit {0}
-AreOthers (l ∷ ls) name = (bytes_eq name l.name ≡ false) × AreOthers ls name
+abbrev pub HaveNoLookAt : List Look → List ℕ → Type 0
+HaveNoLookAt [] name = Unit {0}
+HaveNoLookAt (l ∷ ls) name = (bytes_eq name l.name ≡ false) × HaveNoLookAt ls name
 
 -- each name is looked at once at most, and each answer is one that its limit allows
 abbrev pub AreSingle : List Look → Type 0
 AreSingle [] = Unit {0}
-AreSingle (l ∷ ls) = IsPossibleEnd l.most l.got × AreOthers ls l.name × AreSingle ls
+AreSingle (l ∷ ls) = IsPossibleEnd l.most l.got × HaveNoLookAt ls l.name × AreSingle ls
 
 -- what a write leaves of what is held, where it is told
 abbrev pub WriteLeaves : List ℕ → List ℕ → Result (Unit {0}) FileError → Option Store → Option Store → Type 0
 WriteLeaves name bytes (Ok u) held held' = held' ≡ insert_known held name bytes
-WriteLeaves name bytes (Err end) held held' = KeepsOthers name held held'
+WriteLeaves name bytes (Err end) held held' = KeepsOtherNames name held held'
 
 -- what writes leave, one after another
 abbrev pub HeldAfter : List Write → Option Store → Option Store → Type 0

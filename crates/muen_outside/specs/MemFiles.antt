@@ -15,12 +15,12 @@ pub record Shelf : Type 0 where
   pub history : History
 
 -- the next call's number is listed
-abbrev pub fails_next : Shelf → Bool
-fails_next s = list_any (λ n. n == s.calls) s.fails
+abbrev pub next_file_call_fails : Shelf → Bool
+next_file_call_fails s = list_any (λ n. n == s.calls) s.fails
 
 -- the count after one more call
-abbrev pub counted : ℕ → ℕ
-counted n = min (n + 1) (2 ^ 64 - 1)
+abbrev pub next_call_count : ℕ → ℕ
+next_call_count n = min (n + 1) (2 ^ 64 - 1)
 
 abbrev pub store_of : Shelf → Store
 store_of s = from_entries s.entries

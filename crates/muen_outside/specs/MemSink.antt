@@ -17,16 +17,16 @@ pub record Filling : Type 0 where
   pub faults : ℕ
 
 -- the next call's number is listed
-abbrev pub fails_next : Filling → Bool
-fails_next s = list_any (λ n. n == s.calls) s.fails
+abbrev pub next_sink_call_fails : Filling → Bool
+next_sink_call_fails s = list_any (λ n. n == s.calls) s.fails
 
 -- how many of n bytes the next call appends
 abbrev pub taken : Filling → ℕ → ℕ
-taken s n = min (min (if fails_next s then s.keep else n) n) (s.room - length s.text)
+taken s n = min (min (if next_sink_call_fails s then s.keep else n) n) (s.room - length s.text)
 
 -- the next call fails on n bytes
 abbrev pub fails_at : Filling → ℕ → Bool
-fails_at s n = fails_next s || nat_lt (taken s n) n
+fails_at s n = next_sink_call_fails s || nat_lt (taken s n) n
 
 abbrev pub sink_of : Filling → SinkState
 sink_of s = record { given = s.text; faults = s.faults }

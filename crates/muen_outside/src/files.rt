@@ -1,7 +1,7 @@
 ghost use Rattle.std.specs.Prelude.{◌≡◌, ◌∷◌, [], Option, None, Some, OnOk, IfOk, IfSome};
 ghost use Rattle.std.specs.FinMap as map;
 ghost use Rattle.muen_outside.specs.declared.files.FileError.TheVariants.{NoMemory};
-ghost use Rattle.muen_outside.specs.Store.{Store, reading_of, KeepsOthers, insert_known};
+ghost use Rattle.muen_outside.specs.Store.{Store, reading_of, KeepsOtherNames, insert_known};
 ghost use Rattle.muen_outside.specs.States.{History, look, looked, write as write_of, written};
 ghost use Rattle.muen_outside.specs.ErrorTexts.{file_error_text};
 ghost use Rattle.muen_outside.specs.Found.{seen, answered, IsPossible};
@@ -81,5 +81,5 @@ pub trait Files {
     fn write(&mut self, alloc: Global, name: &str, bytes: &[u8]) -> Result<(), FileError>
         ensures history { history self.new ≡ written (history self.old) (write_of name.now bytes.now result ∷ []) }
         ensures ok { OnOk result (held self.new ≡ insert_known (held self.old) name.now bytes.now) }
-        ensures others { KeepsOthers name.now (held self.old) (held self.new) };
+        ensures others { KeepsOtherNames name.now (held self.old) (held self.new) };
 }

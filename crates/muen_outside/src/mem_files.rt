@@ -2,11 +2,11 @@ ghost use Rattle.std.specs.Prelude.{◌≡◌, ◌≢◌, ◌∷◌, [], ◌==�
 ghost use Rattle.std.specs.List.{list_any};
 ghost use Rattle.std.specs.Option.{option_map};
 ghost use Rattle.std.specs.FinMap as map;
-ghost use Rattle.muen_outside.specs.Store.{reading_of, KeepsOthers, insert_known, find_bytes, put_entry};
+ghost use Rattle.muen_outside.specs.Store.{reading_of, KeepsOtherNames, insert_known, find_bytes, put_entry};
 ghost use Rattle.muen_outside.specs.Found.{seen, answered, IsPossible};
 ghost use Rattle.muen_outside.specs.States.{look, looked, no_history, write as write_of, written};
 ghost use Rattle.muen_outside.specs.Entries.{entry_list};
-ghost use Rattle.muen_outside.specs.MemFiles.{counted, fails_next, store_of};
+ghost use Rattle.muen_outside.specs.MemFiles.{next_call_count, next_file_call_fails, store_of};
 
 use crate::files::{FileError, Files, Found};
 use crate::history::{Calls, Looked, Start, Wrote};
@@ -137,8 +137,8 @@ impl MemFiles {
 
     // Whether this call is to fail; counts it.
     fn begin(&mut self) -> bool
-        ensures listed { result ≡ fails_next self.old }
-        ensures calls { self.new.calls ≡ counted self.old.calls }
+        ensures listed { result ≡ next_file_call_fails self.old }
+        ensures calls { self.new.calls ≡ next_call_count self.old.calls }
         ensures same { (self.new.entries ≡ self.old.entries) × (self.new.fails ≡ self.old.fails) × (self.new.history ≡ self.old.history) }
     {
         let listed = is_listed(&self.fails, self.calls);
@@ -159,8 +159,8 @@ impl Files for MemFiles {
         ensures told { IfOk result (λ found. reading_of (map.get (store_of self.old) name.now) most ≡ seen found) }
 
         // Which calls fail, what is counted, and what stays.
-        ensures fails { (result ≡ Err FileError.Failed) ↔ IsTrue (fails_next self.old) }
-        ensures calls { self.new.calls ≡ counted self.old.calls }
+        ensures fails { (result ≡ Err FileError.Failed) ↔ IsTrue (next_file_call_fails self.old) }
+        ensures calls { self.new.calls ≡ next_call_count self.old.calls }
         ensures same { (self.new.entries ≡ self.old.entries) × (self.new.fails ≡ self.old.fails) }
     {
         let got = if self.begin() {
@@ -181,12 +181,12 @@ impl Files for MemFiles {
     fn write(&mut self, alloc: Global, name: &str, bytes: &[u8]) -> Result<(), FileError>
         ensures history { self.new.history ≡ written self.old.history (write_of name.now bytes.now result ∷ []) }
         ensures ok { OnOk result (Some (store_of self.new) ≡ insert_known (Some (store_of self.old)) name.now bytes.now) }
-        ensures others { KeepsOthers name.now (Some (store_of self.old)) (Some (store_of self.new)) }
+        ensures others { KeepsOtherNames name.now (Some (store_of self.old)) (Some (store_of self.new)) }
 
         // Which calls fail, what is counted, and what stays.
-        ensures fails { (result ≡ Err FileError.Failed) ↔ IsTrue (fails_next self.old) }
+        ensures fails { (result ≡ Err FileError.Failed) ↔ IsTrue (next_file_call_fails self.old) }
         ensures err { OnErr result (self.new.entries ≡ self.old.entries) }
-        ensures calls { self.new.calls ≡ counted self.old.calls }
+        ensures calls { self.new.calls ≡ next_call_count self.old.calls }
         ensures same { self.new.fails ≡ self.old.fails }
     {
         let end = if self.begin() {

@@ -1,7 +1,7 @@
 ghost use Rattle.std.specs.Prelude.{◌≡◌, ◌+◌, ◌≤◌, ◌<◌, ◌++◌, ◌-◌, ◌↔◌, [], take, length, false, OnOk, OnErr, IfOk, IsErr, IsTrue, vec_len, vec_capacity, min};
-ghost use Rattle.muen_outside.specs.MemFiles.{counted};
+ghost use Rattle.muen_outside.specs.MemFiles.{next_call_count};
 ghost use Rattle.muen_outside.specs.Puts.{Puts};
-ghost use Rattle.muen_outside.specs.MemSink.{taken, fails_at, fails_next, sink_of};
+ghost use Rattle.muen_outside.specs.MemSink.{taken, fails_at, next_sink_call_fails, sink_of};
 
 use crate::mem_files::is_listed;
 use crate::sink::{Sink, SinkFault};
@@ -127,10 +127,10 @@ impl Sink for MemSink {
         // Which calls fail, and how much those write.
         ensures fails { IsErr result ↔ IsTrue (fails_at self.old (length bytes.now)) }
         ensures text { self.new.text ≡ self.old.text ++ take (taken self.old (length bytes.now)) bytes.now }
-        ensures full { OnErr result (fails_next self.old ≡ false → length self.new.text ≡ self.old.room) }
+        ensures full { OnErr result (next_sink_call_fails self.old ≡ false → length self.new.text ≡ self.old.room) }
 
         // What it counts, and what stays.
-        ensures calls { self.new.calls ≡ counted self.old.calls }
+        ensures calls { self.new.calls ≡ next_call_count self.old.calls }
         ensures fault { OnErr result (self.new.faults ≡ self.old.faults + 1) }
         ensures quiet { OnOk result (self.new.faults ≡ self.old.faults) }
         ensures same { (self.new.room ≡ self.old.room) × (self.new.fails ≡ self.old.fails) × (self.new.keep ≡ self.old.keep) }

@@ -10,10 +10,10 @@ use Rattle.view_text.specs.StatePage.{state_in}
 use Rattle.view_text.specs.state.SubjectState.{SubjectState}
 use Rattle.view_text.specs.ViewText.{rows_text}
 use Rattle.image_pack.specs.declared.parts.SubjectPart.{SubjectPart}
-use Rattle.kernel_core.specs.Machine.{page_at}
+use Rattle.kernel_core.specs.Machine.{page_bytes_at}
 use Rattle.kernel_core.specs.Control.{Control}
 use Rattle.kernel_core.specs.declared.setup.Setup.{Setup}
-use Rattle.muen_run.specs.RunText.{bytes_from, numbered_subject_text, subject_text}
+use Rattle.muen_run.specs.RunText.{bytes_from, numbered_subject_text, machine_subject_text}
 use Rattle.muen_outside.specs.Buffered.{OutState, Given, Lost, Gives}
 use Rattle.muen_outside.proofs.Buffered.{given_step, step_exit}
 
@@ -31,15 +31,15 @@ pub ruleset numbered = (given_number)
 
 -- ---- one page more
 
-pub one_page : (pages : List Page) (first n : ℕ) (bytes : List ℕ) → bytes ≡ page_at pages (first + n) → bytes_from pages first n ++ bytes ≡ bytes_from pages first (n + 1)
+pub one_page : (pages : List Page) (first n : ℕ) (bytes : List ℕ) → bytes ≡ page_bytes_at pages (first + n) → bytes_from pages first n ++ bytes ≡ bytes_from pages first (n + 1)
 one_page pages first n bytes is =
     ap (λ b. bytes_from pages first n ++ b) is
-    ∙ sym (grows (λ j. page_at pages (first + j)) (suc n) n (omega arith))
+    ∙ sym (grows (λ j. page_bytes_at pages (first + j)) (suc n) n (omega arith))
     ∙ ap (bytes_from pages first) (sym (add-one n))
 
 -- ---- the lines of the subject with a number
 
-by_parts : (pages : List Page) (o : Option SubjectPart) (p : Option Control) → None ≡ option_map (λ s. s.name) o → subject_text pages o p ≡ []
+by_parts : (pages : List Page) (o : Option SubjectPart) (p : Option Control) → None ≡ option_map (λ s. s.name) o → machine_subject_text pages o p ≡ []
 by_parts pages None p e = refl
 by_parts pages (Some s) p e = absurd (none-some s.name e)
 
@@ -48,9 +48,9 @@ no_name setup pages n is = sym (by_parts pages (slice_get setup.subjects n) (sli
 
 -- the state of a state page
 abbrev pub page_state : List Page → Control → SubjectState
-page_state pages c = state_in (page_at pages c.state)
+page_state pages c = state_in (page_bytes_at pages c.state)
 
-by_control : (pages : List Page) (o : Option SubjectPart) (p : Option Control) → None ≡ option_map (page_state pages) p → subject_text pages o p ≡ []
+by_control : (pages : List Page) (o : Option SubjectPart) (p : Option Control) → None ≡ option_map (page_state pages) p → machine_subject_text pages o p ≡ []
 by_control pages None p e = refl
 by_control pages (Some s) None e = refl
 by_control pages (Some s) (Some c) e = absurd (none-some (page_state pages c) e)
@@ -58,7 +58,7 @@ by_control pages (Some s) (Some c) e = absurd (none-some (page_state pages c) e)
 pub no_state : (setup : Setup) (pages : List Page) (n : ℕ) → None ≡ option_map (page_state pages) (slice_get setup.controls n) → [] ≡ numbered_subject_text setup pages n
 no_state setup pages n is = sym (by_control pages (slice_get setup.subjects n) (slice_get setup.controls n) is)
 
-by_both : (pages : List Page) (o : Option SubjectPart) (p : Option Control) (name : List ℕ) (st : SubjectState) → Some name ≡ option_map (λ s. s.name) o → Some st ≡ option_map (page_state pages) p → rows_text name st ≡ subject_text pages o p
+by_both : (pages : List Page) (o : Option SubjectPart) (p : Option Control) (name : List ℕ) (st : SubjectState) → Some name ≡ option_map (λ s. s.name) o → Some st ≡ option_map (page_state pages) p → rows_text name st ≡ machine_subject_text pages o p
 by_both pages None p name st e h = absurd (none-some name (sym e))
 by_both pages (Some s) None name st e h = absurd (none-some st (sym h))
 by_both pages (Some s) (Some c) name st e h = λ i. rows_text (ap (λ o. unwrap_or o name) e i) (ap (λ o. unwrap_or o st) h i)

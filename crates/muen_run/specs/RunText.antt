@@ -19,7 +19,7 @@ use Rattle.device_bench.specs.record.Input.{Input}
 use Rattle.device_bench.specs.record.Record.{Record}
 use Rattle.view_text.specs.ViewText.{rows_text, turn_text, region_text}
 use Rattle.view_text.specs.declared.TurnLine.{TurnLine}
-use Rattle.kernel_core.specs.Machine.{page_at}
+use Rattle.kernel_core.specs.Machine.{page_bytes_at}
 use Rattle.kernel_core.specs.Control.{Control}
 use Rattle.kernel_core.specs.Run.{Ran}
 use Rattle.kernel_core.specs.Kernel.{Live}
@@ -30,14 +30,14 @@ use Rattle.image_load.specs.Memory.{memory_of}
 
 -- ---- the final states: what each subject's state page has
 
-abbrev pub subject_text : List Page → Option SubjectPart → Option Control → List ℕ
-subject_text pages (Some s) (Some c) = rows_text s.name (state_in (page_at pages c.state))
-subject_text pages (Some s) None = []
-subject_text pages None c = []
+abbrev pub machine_subject_text : List Page → Option SubjectPart → Option Control → List ℕ
+machine_subject_text pages (Some s) (Some c) = rows_text s.name (state_in (page_bytes_at pages c.state))
+machine_subject_text pages (Some s) None = []
+machine_subject_text pages None c = []
 
 -- of the subject with this number
 abbrev pub numbered_subject_text : Setup → List Page → ℕ → List ℕ
-numbered_subject_text setup pages n = subject_text pages (slice_get setup.subjects n) (slice_get setup.controls n)
+numbered_subject_text setup pages n = machine_subject_text pages (slice_get setup.subjects n) (slice_get setup.controls n)
 
 abbrev pub states_text : Setup → List Page → List ℕ
 states_text setup pages = flat_map (numbered_subject_text setup pages) (numbers_below (length setup.subjects))
@@ -46,7 +46,7 @@ states_text setup pages = flat_map (numbered_subject_text setup pages) (numbers_
 
 -- the bytes of so many pages from this one on
 abbrev pub bytes_from : List Page → ℕ → ℕ → List ℕ
-bytes_from pages first n = flat_map (λ j. page_at pages (first + j)) (numbers_below n)
+bytes_from pages first n = flat_map (λ j. page_bytes_at pages (first + j)) (numbers_below n)
 
 abbrev pub digest_in : List Page → SpanPart → List ℕ
 digest_in pages s = sha256 (bytes_from pages (s.address / PAGE) s.pages)

@@ -3,7 +3,7 @@ ghost use Rattle.std.specs.Prelude.{◌≡◌, ◌+◌, ◌/◌, ◌^◌, ◌<�
 ghost use Rattle.std.specs.List.{find};
 ghost use Rattle.sha2.specs.Sha256.{sha256};
 ghost use Rattle.muen_outside.specs.Prints.{Prints};
-ghost use Rattle.kernel_core.specs.Machine.{page_at};
+ghost use Rattle.kernel_core.specs.Machine.{page_bytes_at};
 ghost use Rattle.view_text.specs.ViewText.{region_text};
 ghost use Rattle.image_load.specs.Memory.{AreLow, IsLow};
 ghost use Rattle.muen_run.specs.RunText.{bytes_from, digest_in, numbered_span_text, prints_as, spans_text};
@@ -36,7 +36,7 @@ impl PrintedLine for RegionLine<'_> {
 
 // The bytes of a page. None where it isn't there.
 fn bytes_of_page<M: PhysMem>(mem: &M, page: u64) -> &[u8]
-    ensures { result.now ≡ page_at (M.pages mem.now) page }
+    ensures { result.now ≡ page_bytes_at (M.pages mem.now) page }
 {
     match mem.page(page) {
         None => &[],

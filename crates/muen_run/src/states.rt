@@ -21,9 +21,9 @@ struct StateRow {
 }
 
 impl PrintedLine for StateRow {
-    ghost use Rattle.view_text.specs.ViewText.{state_text};
+    ghost use Rattle.view_text.specs.ViewText.{state_row_text};
 
-    ghost text = { λ r. state_text r.subject r.state r.row };
+    ghost text = { λ r. state_row_text r.subject r.state r.row };
 
     fn write(&self, space: &mut [u8; 256]) -> usize {
         state_line(&self.subject, &self.state, self.row, space)

@@ -36,7 +36,7 @@ use Rattle.muen_top.specs.Asked.{Asks, AsksBoth}
 use Rattle.muen_top.specs.Calls.{StopsFor}
 use Rattle.muen_top.specs.Commands.{boot}
 use Rattle.muen_top.specs.FilesSeen.{OverLooks, Saw}
-use Rattle.muen_top.specs.Loads.{IsReadOf, IsReady, NotMade, refused, unmade, NotRead, policy_looks}
+use Rattle.muen_top.specs.Loads.{IsImageReadBack, IsReady, NotMade, refused, unmade, NotRead, policy_looks}
 use Rattle.muen_top.specs.PolicyCommands.{StopsCommand}
 use Rattle.muen_top.specs.Runs.{OnlyMemory}
 use Rattle.muen_top.specs.CommandErrors.{error_of_build, error_of_image_fault}
@@ -58,12 +58,12 @@ unread_so i (Trailing at) error h made = absurd (cc (h))
 
 module _ (policy document : List ℕ) (p : Source) (looks : List Look) (bytes : List ℕ) (built : WithDocument policy document looks (λ files. IsImageFor p files bytes)) where
   -- where it can't be read again, memory was refused
-  pub not_back : (result : Result Image CommandError) → ((i : Image) → IsImage bytes i → IsReadOf i result) → IfErr result (λ error. WithDocument policy document looks (λ files. OnlyMemory error))
+  pub not_back : (result : Result Image CommandError) → ((i : Image) → IsImage bytes i → IsImageReadBack i result) → IfErr result (λ error. WithDocument policy document looks (λ files. OnlyMemory error))
   not_back (Ok j) only = tt
   not_back (Err error) only = λ files s. let b = built files s in only b.parts b.image
 
   -- .. else its parts are such
-  pub is_back : (result : Result Image CommandError) → ((i : Image) → IsImage bytes i → IsReadOf i result) → IfOk result (λ i. WithDocument policy document looks (λ files. IsSound p files i × HasSpans p i))
+  pub is_back : (result : Result Image CommandError) → ((i : Image) → IsImage bytes i → IsImageReadBack i result) → IfOk result (λ i. WithDocument policy document looks (λ files. IsSound p files i × HasSpans p i))
   is_back (Ok j) only = λ files s. let b = built files s in subst (λ i. IsSound p (insert files policy document) i × HasSpans p i) (only b.parts b.image) (b.sound, b.spans)
   is_back (Err error) only = tt
 

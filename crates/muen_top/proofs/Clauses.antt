@@ -20,7 +20,7 @@ use Rattle.muen_top.specs.Commands.{build, verify, command_of}
 use Rattle.muen_top.specs.Complete.{IsComplete, IsWhole, NothingFails}
 use Rattle.muen_top.specs.Headline.{BuildWritesImage, PrintsText, VerifyAcceptsBuilt, VerifyTellsFault, VerifyTellsSound}
 use Rattle.muen_top.specs.Images.{Wrote, image_last, tables_last}
-use Rattle.muen_top.specs.Reports.{line_of, reason_text, sound_text, Told, Ends}
+use Rattle.muen_top.specs.Reports.{error_line, reason_text, sound_text, Told, Ends}
 use Rattle.muen_top.specs.Verdicts.{Finds}
 use Rattle.muen_top.specs.declared.status.Status.{Status}
 use Rattle.muen_top.specs.declared.status.Status.TheVariants as statuses
@@ -237,7 +237,7 @@ module _ {words : List (List ℕ)} {held held' : Option Store} {old new : Histor
 
   -- a fault that is found is told whole
   whole_found : (answer : Answer) (fault : Fault) → Finds answer (Some fault) → status ≡ statuses.NotSound → ws ≡ [] → out' ≡ out
-      → Appended (line_of (fault_text fault)) err err' → IsWhole answer ws out out' err err' status
+      → Appended (error_line (fault_text fault)) err err' → IsWhole answer ws out out' err err' status
   whole_found (judges p files bytes i) fault finds is none quiet told = inr (fault, finds, is, none, quiet, told)
   whole_found (prints text) fault finds is none quiet told = absurd finds
   whole_found (writes image tables p files) fault finds is none quiet told = absurd finds
@@ -245,7 +245,7 @@ module _ {words : List (List ℕ)} {held held' : Option Store} {old new : Histor
 
   module _ (well : NothingFails old new out out' err err') where
     -- a line is told whole
-    told_whole : (text : List ℕ) → Told text err err' → Appended (line_of text) err err'
+    told_whole : (text : List ℕ) → Told text err err' → Appended (error_line text) err err'
     told_whole text (inl told) = told
     told_whole text (inr cut) = absurd (one_more err.faults (sym (ap (λ s. s.faults) cut.state) ∙ well.lines))
 

@@ -13,7 +13,7 @@ use Rattle.muen_outside.specs.declared.files.FileError.{FileError}
 use Rattle.muen_outside.specs.declared.files.FileError.TheVariants.{Failed as FileFailed, NoMemory as FileMemory}
 use Rattle.muen_outside.specs.declared.files.Found.{Found}
 use Rattle.muen_outside.specs.Found.{IsPossible, answered, seen}
-use Rattle.muen_outside.specs.Looks.{AreOthers, EndsInFault, IsPossibleEnd, ShowAll, ShowsAnswer}
+use Rattle.muen_outside.specs.Looks.{HaveNoLookAt, EndsInFault, IsPossibleEnd, ShowAll, ShowsAnswer}
 use Rattle.muen_outside.specs.States.{History, Look, look, looked}
 use Rattle.muen_outside.specs.Store.{Store, Reading, whole, absent, long, find_bytes, reading_of}
 use Rattle.muen_top.specs.Asked.{IsAtMost}
@@ -80,7 +80,7 @@ module _ (looks : List Look) (name : List ℕ) (most : ℕ) (got : Result Readin
         fault = λ e. absurd (never e);
       }
 
-  one_more : AreOthers looks name → Saw held' mid new (look name most got ∷ []) → SeenAfter looks name most got held old new
+  one_more : HaveNoLookAt looks name → Saw held' mid new (look name most got ∷ []) → SeenAfter looks name most got held old new
   one_more others also =
       record {
         more = look name most got ∷ [];
@@ -121,7 +121,7 @@ gives_none name P Q f (NotSound x) h = absurd h
 
 module _ (looks : List Look) (name : List ℕ) (most : ℕ) (held : Option Store) where
   -- of a name at which nothing was looked
-  pub not_read_after : (old new : History) (error : CommandError) → AreOthers looks name → NotRead name most held old new error → NotReadAfter looks name most held old new error
+  pub not_read_after : (old new : History) (error : CommandError) → HaveNoLookAt looks name → NotRead name most held old new error → NotReadAfter looks name most held old new error
   not_read_after old new error others h =
       gives_none name (λ got. Saw held old new (look name most got ∷ [])) (λ got. SawAfter looks name most got held old new) (λ got saw. unknown others saw) error h
 
@@ -147,13 +147,13 @@ module _ (looks : List Look) (name : List ℕ) (most : ℕ) (held : Option Store
 
 -- ---- what is known of names
 
-pub others_both : (ls more : List Look) (name : List ℕ) → AreOthers ls name → AreOthers more name → AreOthers (ls ++ more) name
+pub others_both : (ls more : List Look) (name : List ℕ) → HaveNoLookAt ls name → HaveNoLookAt more name → HaveNoLookAt (ls ++ more) name
 others_both [] more name a b = b
 others_both (l ∷ ls) more name a b = (a.0, others_both ls more name a.1 b)
 
-others_one : (name : List ℕ) (most : ℕ) (more : List Look) (q : List ℕ) → IsAtMost name most more → bytes_eq q name ≡ false → AreOthers more q
-others_one name most more q (inl is) e = subst (λ ls. AreOthers ls q) (sym is) tt
-others_one name most more q (inr one) e = subst (λ ls. AreOthers ls q) (sym one.1) (e, tt)
+others_one : (name : List ℕ) (most : ℕ) (more : List Look) (q : List ℕ) → IsAtMost name most more → bytes_eq q name ≡ false → HaveNoLookAt more q
+others_one name most more q (inl is) e = subst (λ ls. HaveNoLookAt ls q) (sym is) tt
+others_one name most more q (inr one) e = subst (λ ls. HaveNoLookAt ls q) (sym one.1) (e, tt)
 
 -- after one file
 pub first_known : (name : List ℕ) (most : ℕ) (bytes : List ℕ) → AreKnown (look name most (Ok (whole bytes)) ∷ []) ((name, bytes) ∷ [])

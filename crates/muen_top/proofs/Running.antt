@@ -21,7 +21,7 @@ use Rattle.muen_top.specs.Asked.{Asks, AsksRecord, IsAtMost}
 use Rattle.muen_top.specs.Calls.{StopsFor}
 use Rattle.muen_top.specs.Commands.{run}
 use Rattle.muen_top.specs.FilesSeen.{OverLooks, Saw, SawAfter}
-use Rattle.muen_top.specs.Loads.{HasTables, IsReady, LacksTables, NotTables, unread, faulty, NotRead, NotReadAfter, read_before}
+use Rattle.muen_top.specs.Loads.{HasOptionalDmaTables, IsReady, LacksTables, NotTables, unread, faulty, NotRead, NotReadAfter, read_before}
 use Rattle.muen_top.specs.PolicyCommands.{HasRead, StopsCommand}
 use Rattle.muen_top.specs.CommandErrors.{error_of_dma_fault, error_of_image_fault}
 use Rattle.muen_top.specs.declared.limits.TheConstants.{DMA_MOST}
@@ -202,7 +202,7 @@ module _ {image : List ℕ} {held held' : Option Store} {old mid : History} {byt
   lacks_tables (Some dma) error h name = not_tables read dma new name error h
 
   -- all is read but the record
-  pub run_ready : (dma : Option (List ℕ)) (tables : Option TablesRead) → HasTables (image_looks image bytes) dma held' mid new tables
+  pub run_ready : (dma : Option (List ℕ)) (tables : Option TablesRead) → HasOptionalDmaTables (image_looks image bytes) dma held' mid new tables
       → IsReady (λ name. run image name dma) held old new (read_before image bytes dma tables) i (option_map (λ t. t.tables) tables)
   run_ready None None still = none_ready still
   run_ready (Some dma) (Some t) h = tables_ready read dma new t h.0 h.1

@@ -5,13 +5,13 @@ use Rattle.std.proofs.lemmas.Bool.{leb-true}
 use Rattle.std.proofs.lemmas.List.{length-append, length-replicate}
 use Rattle.muen_num.specs.declared.limits.TheConstants.{MOST_DEVICES, PAGE}
 use Rattle.image_pack.specs.fault.Field.{Field}
-use Rattle.image_pack.specs.Form.{Form, tag, field, gap, bytes_of}
+use Rattle.image_pack.specs.Form.{Form, tag, field, gap, fixed_bytes}
 use Rattle.image_pack.proofs.Leaves.{wide32, wide64}
 use Rattle.image_pack.proofs.Sizes.{IsSized, byte_sized, condition, done_sized, items_sized, number_sized, only_sized, rows}
 use Rattle.dma_tables.proofs.ConditionsHold.{conditions_kept}
 use Rattle.dma_tables.proofs.FileSizes.{device_sized, marked_size}
-use Rattle.dma_tables.specs.DmaFile.{after_device, device, dma_file, mark_bytes}
-use Rattle.dma_tables.specs.Tables.{device_size}
+use Rattle.dma_tables.specs.DmaFile.{after_dma_device, device, dma_file, dma_mark_bytes}
+use Rattle.dma_tables.specs.Tables.{dma_device_size}
 use Rattle.dma_tables.specs.declared.file.DmaFile.{DmaFile}
 use Rattle.policy_lawful.specs.source.Source.{Source}
 use Rattle.muen_top.specs.Tables.{IsTablesFor}
@@ -49,11 +49,11 @@ fixed_short n size get f more sized rest = field_short (λ s. n) size get f more
 
 -- ---- the file
 
-pages_short : (n : ℕ) (t : DmaFile) → (bytes_of n).fits t.pages → length ((bytes_of n).spell t.pages) ≤ length t.pages
-unfolding bytes_of
+pages_short : (n : ℕ) (t : DmaFile) → (fixed_bytes n).fits t.pages → length ((fixed_bytes n).spell t.pages) ≤ length t.pages
+unfolding fixed_bytes
 pages_short n t fits = omega arith
 
-file_short : IsShort (λ t. length mark_bytes + (8 + (4 + (1 + (3 + (2176 + (length t.pages + 0))))))) dma_file
+file_short : IsShort (λ t. length dma_mark_bytes + (8 + (4 + (1 + (3 + (2176 + (length t.pages + 0))))))) dma_file
 unfolding dma_file
 file_short =
     tag_short _ _ _ _ (
@@ -62,7 +62,7 @@ file_short =
     fixed_short 1 _ _ _ _ (only_sized 1 _ _ _ byte_sized) (λ count c.
     gap_short 3 _ _ _ (
     fixed_short 2176 _ _ _ _
-    (rows count MOST_DEVICES device_size _ (leb-true count MOST_DEVICES (condition _ _ _ count c)) (items_sized (after_device tt) (device tt) _ count device_size (device_sized tt))) (λ devices d.
+    (rows count MOST_DEVICES dma_device_size _ (leb-true count MOST_DEVICES (condition _ _ _ count c)) (items_sized (after_dma_device tt) (device tt) _ count dma_device_size (device_sized tt))) (λ devices d.
     field_short (λ t. length t.pages) (λ t. 0) _ _ _ (pages_short (PAGE * pages)) (λ bytes e.
     (done_sized _).few)))))))
 
@@ -71,7 +71,7 @@ tables_small p file is =
     let keeps = conditions_kept is.tables is.file.tables in
     let many = keeps.many in
     let few = is.are.few in
-    let size : length (dma_file.spell is.tables) ≤ length mark_bytes + (8 + (4 + (1 + (3 + (2176 + (length is.tables.pages + 0)))))) = file_short is.tables is.file.tables in
+    let size : length (dma_file.spell is.tables) ≤ length dma_mark_bytes + (8 + (4 + (1 + (3 + (2176 + (length is.tables.pages + 0)))))) = file_short is.tables is.file.tables in
     let mark = marked_size in
     let bound : length (dma_file.spell is.tables) ≤ DMA_MOST = omega (arith, many, few, size, mark) in
     subst (λ (b : List ℕ). length b ≤ DMA_MOST) (sym is.file.bytes_are) bound

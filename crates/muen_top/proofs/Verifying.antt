@@ -23,7 +23,7 @@ use Rattle.muen_num.specs.Answers.{Answers}
 use Rattle.muen_num.specs.declared.limits.TheConstants.{IMAGE_MOST, POLICY_MOST}
 use Rattle.muen_num.proofs.Lookups.{same_self}
 use Rattle.muen_outside.specs.declared.files.FileError.{FileError}
-use Rattle.muen_outside.specs.Looks.{AreOthers, AreSingle, EndsInFault, ShowAll}
+use Rattle.muen_outside.specs.Looks.{HaveNoLookAt, AreSingle, EndsInFault, ShowAll}
 use Rattle.muen_outside.specs.States.{History, Look, looked}
 use Rattle.muen_outside.specs.Store.{Store, Reading, whole, find_bytes, reading_of}
 use Rattle.policy_lawful.specs.Lawful.{kept_or}
@@ -88,7 +88,7 @@ image_refused_so image policy held old new bytes saw fault error h made =
 -- none of these is at a name of one of those
 EachOthers : List Look → List Look → Type 0
 EachOthers [] more = Unit {0}
-EachOthers (l ∷ ls) more = AreOthers more l.name × EachOthers ls more
+EachOthers (l ∷ ls) more = HaveNoLookAt more l.name × EachOthers ls more
 
 -- looks after looks at other names are each at a name of its own
 single_both : (ls more : List Look) → AreSingle ls → AreSingle more → EachOthers ls more → AreSingle (ls ++ more)
@@ -97,7 +97,7 @@ single_both [] more a b e = b
 single_both (l ∷ ls) more a b e = (a.0, others_both ls more l.name a.1 e.0, single_both ls more a.2 b e.1)
 
 -- a look at a name after looks at others
-others_at_most : (name : List ℕ) (most : ℕ) (ls more : List Look) → IsAtMost name most ls → AreOthers more name → EachOthers ls more
+others_at_most : (name : List ℕ) (most : ℕ) (ls more : List Look) → IsAtMost name most ls → HaveNoLookAt more name → EachOthers ls more
 unfolding EachOthers
 others_at_most name most ls more (inl is) o = subst (λ xs. EachOthers xs more) (sym is) tt
 others_at_most name most ls more (inr one) o = subst (λ xs. EachOthers xs more) (sym one.1) (o, tt)
@@ -230,13 +230,13 @@ module _ {image policy : List ℕ} {held held' held'' : Option Store} {old mid n
   all = both two ++ looks
 
   -- none of these looks is at the document
-  not_document : AreOthers looks policy
+  not_document : HaveNoLookAt looks policy
   not_document = others.beside.others policy document (ap (λ b. if b then Some document else find_bytes policy ((image, bytes) ∷ [])) (same_self policy))
 
   -- nor at the image
-  not_image : AreOthers looks image
+  not_image : HaveNoLookAt looks image
   not_image =
-      elim (bytes_eq image policy) as (λ b. bytes_eq image policy ≡ b → AreOthers looks image) [
+      elim (bytes_eq image policy) as (λ b. bytes_eq image policy ≡ b → HaveNoLookAt looks image) [
         | true ↦ λ e. others.beside.others image document (ap (λ b. if b then Some document else find_bytes image ((image, bytes) ∷ [])) e)
         | false ↦ λ e.
             others.beside.others image bytes

@@ -10,7 +10,7 @@ use Rattle.muen_outside.specs.declared.files.FileError.TheVariants.{Failed}
 use Rattle.muen_top.specs.Answers.{Answer, prints, writes, judges, stops}
 use Rattle.muen_top.specs.Calls.{Answered}
 use Rattle.muen_top.specs.Images.{Wrote}
-use Rattle.muen_top.specs.Reports.{line_of, reason_status, reason_text, sound_text}
+use Rattle.muen_top.specs.Reports.{error_line, reason_status, reason_text, sound_text}
 use Rattle.muen_top.specs.Verdicts.{HasVerdict}
 use Rattle.muen_top.specs.declared.status.Status.{Status}
 use Rattle.muen_top.specs.declared.status.Status.TheVariants as statuses
@@ -29,9 +29,9 @@ IsWhole (writes image tables p files) ws out out' err err' status =
     (status ≡ statuses.Done) × Wrote image tables p files (Ok tt) ws × (out' ≡ out) × (err' ≡ err)
 IsWhole (judges p files bytes i) ws out out' err err' status =
     (HasVerdict p files bytes i None × (status ≡ statuses.Done) × (ws ≡ []) × Appended sound_text out out' × (err' ≡ err))
-    ⊎ ((fault : Fault) × HasVerdict p files bytes i (Some fault) × (status ≡ statuses.NotSound) × (ws ≡ []) × (out' ≡ out) × Appended (line_of (fault_text fault)) err err')
+    ⊎ ((fault : Fault) × HasVerdict p files bytes i (Some fault) × (status ≡ statuses.NotSound) × (ws ≡ []) × (out' ≡ out) × Appended (error_line (fault_text fault)) err err')
 IsWhole (stops reason) ws out out' err err' status =
-    (status ≡ reason_status reason) × (ws ≡ []) × (out' ≡ out) × Appended (line_of (reason_text reason)) err err'
+    (status ≡ reason_status reason) × (ws ≡ []) × (out' ≡ out) × Appended (error_line (reason_text reason)) err err'
 
 -- where nothing fails, and memory suffices, the call does the whole of what the words are answered
 abbrev pub IsComplete : List (List ℕ) → History → History → SinkState → SinkState → SinkState → SinkState → Status → Type 0

@@ -1,7 +1,7 @@
 -- What a command has seen of files that it looks at one after another.
 use Rattle.std.specs.Prelude.{◌≡◌, ℕ, List, [], ◌∷◌, Option, Some, IfSome, Result, Ok, Err}
 use Rattle.std.specs.FinMap.{get}
-use Rattle.muen_outside.specs.Looks.{AreOthers, AreSingle, ShowAll}
+use Rattle.muen_outside.specs.Looks.{HaveNoLookAt, AreSingle, ShowAll}
 use Rattle.muen_outside.specs.States.{History, Look, look, looked}
 use Rattle.muen_outside.specs.Store.{Store, Reading, reading_of}
 use Rattle.muen_outside.specs.declared.files.FileError.{FileError}
@@ -22,4 +22,4 @@ pub record Saw (held : Option Store) (old new : History) (looks : List Look) : T
 pub data SawAfter (looks : List Look) (name : List ℕ) (most : ℕ) (got : Result Reading FileError) (held : Option Store) (old new : History) : Type 0 where
   known : (content : List ℕ) → OverLooks looks (λ m. get m name ≡ Some content) → got ≡ Ok (reading_of (Some content) most) → new ≡ old → SawAfter looks name most got held old new
   not_copied : got ≡ Err FileMemory → new ≡ old → SawAfter looks name most got held old new
-  unknown : AreOthers looks name → Saw held old new (look name most got ∷ []) → SawAfter looks name most got held old new
+  unknown : HaveNoLookAt looks name → Saw held old new (look name most got ∷ []) → SawAfter looks name most got held old new

@@ -14,7 +14,7 @@ use Rattle.muen_build.specs.Accepting.{Accepts, FailsWith, Files, WithDocument, 
 use Rattle.muen_build.specs.Looks.{IsAsked, Looked, document_look}
 use Rattle.muen_build.specs.declared.accepted.BuildError.{BuildError}
 use Rattle.muen_num.specs.declared.limits.TheConstants.{RECORD_MOST}
-use Rattle.muen_outside.specs.Looks.{AreOthers}
+use Rattle.muen_outside.specs.Looks.{HaveNoLookAt}
 use Rattle.muen_outside.specs.States.{History, Look, look}
 use Rattle.muen_outside.specs.Store.{Store, Reading, whole, absent, long, find_bytes, reading_of}
 use Rattle.muen_outside.specs.declared.files.FileError.{FileError}
@@ -63,7 +63,7 @@ NotWithin name bytes most _ = ⊥
 -- the looks show that these bytes stand under it; or none of them is at it
 abbrev pub IsKnown : List Look → List ℕ → Option (List ℕ) → Type 0
 IsKnown looks name (Some bytes) = OverLooks looks (λ m. get m name ≡ Some bytes)
-IsKnown looks name None = AreOthers looks name
+IsKnown looks name None = HaveNoLookAt looks name
 
 -- the looks show what these files hold, and none is at another
 abbrev pub AreKnown : List Look → Files → Type 0
@@ -84,14 +84,14 @@ abbrev pub TellsDmaFault : List ℕ → CommandError → Type 0
 TellsDmaFault bytes error = (fault : ImageFault) × Tells (unpacked dma_file bytes) (Err fault) × (error ≡ error_of_dma_fault fault)
 
 -- the bytes of the file of this name were read, and they are of these tables
-abbrev pub HasTables : List Look → Option (List ℕ) → Option Store → History → History → Option TablesRead → Type 0
-HasTables looks None held old new None = new ≡ old
-HasTables looks (Some dma) held old new (Some t) = SawAfter looks dma DMA_MOST (Ok (whole t.bytes)) held old new × IsDmaFile t.bytes t.tables
-HasTables looks _ held old new _ = ⊥
+abbrev pub HasOptionalDmaTables : List Look → Option (List ℕ) → Option Store → History → History → Option TablesRead → Type 0
+HasOptionalDmaTables looks None held old new None = new ≡ old
+HasOptionalDmaTables looks (Some dma) held old new (Some t) = SawAfter looks dma DMA_MOST (Ok (whole t.bytes)) held old new × IsDmaFile t.bytes t.tables
+HasOptionalDmaTables looks _ held old new _ = ⊥
 
 -- .. those of a name that there is
 abbrev pub AreTables : List Look → List ℕ → Option Store → History → History → TablesRead → Type 0
-AreTables looks dma held old new t = HasTables looks (Some dma) held old new (Some t)
+AreTables looks dma held old new t = HasOptionalDmaTables looks (Some dma) held old new (Some t)
 
 -- why there are none: the file isn't read, or it is none of tables
 pub data NotTables (looks : List Look) (dma : List ℕ) (held : Option Store) (old new : History) (error : CommandError) : Type 0 where
@@ -132,9 +132,9 @@ IsReadyToBoot policy held old new x = IsReady (boot policy) held old new ((polic
 -- ---- the image of an accepted policy, read again
 
 -- what reading the bytes of an image of these parts comes to
-abbrev pub IsReadOf : Image → Result Image CommandError → Type 0
-IsReadOf i (Ok j) = i ≡ j
-IsReadOf i (Err error) = OnlyMemory error
+abbrev pub IsImageReadBack : Image → Result Image CommandError → Type 0
+IsImageReadBack i (Ok j) = i ≡ j
+IsImageReadBack i (Err error) = OnlyMemory error
 
 -- these are the parts of an image that is sound for this policy, whose spans it has, over whatever files agree with the looks at the
 -- document of this name and at these component files
@@ -153,7 +153,7 @@ policy_looks policy document found = document_look policy document ∷ looks_of 
 
 -- the files that its contents name, the parts of its image, which are sound over whatever files agree with the looks, and tables
 -- that fit it
-pub record IsMade (policy document : List ℕ) (held : Option Store) (old new : History) (found : Files) (i : Image) (tables : DmaFile) : Type 0 where
+pub record IsMadeFromLooks (policy document : List ℕ) (held : Option Store) (old new : History) (found : Files) (i : Image) (tables : DmaFile) : Type 0 where
   pub source : Source
   pub looked : Looked policy held old new (looks_of found)
   pub asked : All (IsAsked document) (looks_of found)
@@ -162,7 +162,7 @@ pub record IsMade (policy document : List ℕ) (held : Option Store) (old new : 
 
 -- .. that was made
 abbrev pub HasMade : List ℕ → List ℕ → Option Store → History → History → Made → Type 0
-HasMade policy document held old new m = IsMade policy document held old new m.files m.parts m.tables
+HasMade policy document held old new m = IsMadeFromLooks policy document held old new m.files m.parts m.tables
 
 -- why it gives none: the policy isn't accepted, or memory was refused for the image or the tables
 pub data NotMade (policy document : List ℕ) (held : Option Store) (old new : History) (error : CommandError) : Type 0 where

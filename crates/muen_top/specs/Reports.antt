@@ -67,12 +67,12 @@ reason_status (record_refused fault) = statuses.RecordRefused
 -- ---- how a call has ended
 
 -- the line that is put on the error sink
-abbrev pub line_of : List ℕ → List ℕ
-line_of text = codes "muen: " ++ (text ++ codes "\n")
+abbrev pub error_line : List ℕ → List ℕ
+error_line text = codes "muen: " ++ (text ++ codes "\n")
 
 -- the line was appended, or a front of it where the sink has failed
 abbrev pub Told : List ℕ → SinkState → SinkState → Type 0
-Told text old new = Appended (line_of text) old new ⊎ Failed (line_of text) old new
+Told text old new = Appended (error_line text) old new ⊎ Failed (error_line text) old new
 
 -- a call that answers so has this status, and tells its reason, if there is one
 abbrev pub Ends : Answer → SinkState → SinkState → Status → Type 0

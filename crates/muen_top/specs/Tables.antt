@@ -4,7 +4,7 @@ use Rattle.std.specs.FinMap.{get}
 use Rattle.dma_emit.specs.Base.{IsBase}
 use Rattle.dma_emit.specs.Domains.{domains_of}
 use Rattle.dma_emit.specs.Emitted.{IsFileOf}
-use Rattle.dma_emit.specs.Reached.{kind_of, placed_at}
+use Rattle.dma_emit.specs.Reached.{device_access_kind, placed_at}
 use Rattle.dma_tables.specs.DmaWalk.{dma_walk}
 use Rattle.dma_tables.specs.Tables.{IsDmaFile}
 use Rattle.dma_tables.specs.declared.file.TheConstants.{MOST_DMA_PAGES}
@@ -33,7 +33,7 @@ pub record AreTablesFor (p : Source) (t : DmaFile) : Type 0 where
   pub file : IsFileOf (domains_of placement) t
   pub few : length t.pages < PAGE * MOST_DMA_PAGES
   pub base : IsBase p (length t.pages) t.base
-  pub walk : (device : List ℕ) (addr : ℕ) (write : Bool) → dma_walk t device addr write ≡ placed_at placement (dma_access p device addr (kind_of write))
+  pub walk : (device : List ℕ) (addr : ℕ) (write : Bool) → dma_walk t device addr write ≡ placed_at placement (dma_access p device addr (device_access_kind write))
 
 -- these bytes are a file of the tables of this policy's domains
 pub record IsTablesFor (p : Source) (bytes : List ℕ) : Type 0 where

@@ -11,7 +11,7 @@ ghost use Rattle.policy_lawful.specs.Resolution.{source_of};
 ghost use Rattle.record_text.specs.Law.{IsOrderly};
 ghost use Rattle.muen_top.specs.Calls.{ComesOfCommand};
 ghost use Rattle.muen_top.specs.Commands.{boot as boot_command};
-ghost use Rattle.muen_top.specs.Loads.{ArePartsFor, HasMade, IsReadOf, IsReadyToBoot, NotMade, OnlyMemoryWith};
+ghost use Rattle.muen_top.specs.Loads.{ArePartsFor, HasMade, IsImageReadBack, IsReadyToBoot, NotMade, OnlyMemoryWith};
 ghost use Rattle.muen_top.specs.PolicyCommands.{IsAnsweredByRun, StopsCommand, StopsEach};
 
 use crate::loading::{load, load_too};
@@ -30,7 +30,7 @@ use std::alloc::Global;
 
 // The parts of the image of these bytes.
 fn read_back<'a>(alloc: Global, bytes: &[u8]) -> Result<Parts, CommandError<'a>>
-    ensures { (i : Image) → IsImage bytes.now i → IsReadOf i result }
+    ensures { (i : Image) → IsImage bytes.now i → IsImageReadBack i result }
 {
     let parts = unpack(alloc, bytes)?;
     Ok(parts)

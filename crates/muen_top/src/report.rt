@@ -2,7 +2,7 @@
 ghost use Rattle.std.specs.Prelude.{◌≡◌, codes};
 ghost use Rattle.muen_num.specs.Pieces.{whole};
 ghost use Rattle.muen_outside.specs.Puts.{Puts};
-ghost use Rattle.muen_top.specs.Reports.{error_text, line_of, refusal_status, status_of, usage_text, Reported};
+ghost use Rattle.muen_top.specs.Reports.{error_text, error_line, refusal_status, status_of, usage_text, Reported};
 
 use crate::outcome::{CommandError, Outcome};
 use crate::status::Status;
@@ -55,7 +55,7 @@ fn output_fault() -> Pieces<'static>
 
 // The line with this text.
 fn put_line<S: Sink>(text: &Pieces<'_>, err: &mut S) -> Result<(), SinkFault>
-    ensures { Puts (line_of (whole text.now)) (S.state err.old) (S.state err.new) result }
+    ensures { Puts (error_line (whole text.now)) (S.state err.old) (S.state err.new) result }
 {
     let Pieces(a, b, c, d, e, f, g, last) = *text;
     put_pieces(&["muen: ", a, b, c, d, e, f, g, last, "\n"], err)

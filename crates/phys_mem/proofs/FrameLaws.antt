@@ -2,7 +2,7 @@
 use Rattle.std.proofs.Common.{◌≡◌, ◌≢◌, ℕ, zero, suc, ◌+◌, ◌/◌, ◌≤◌, true, false, eqb, List, [], ◌∷◌, ◌++◌, length, take, drop, get_or, set, Option, Some, None, OnSome, MatchOption, refl, sym, ap, ◌∙◌, append_assoc, arith}
 use Rattle.std.proofs.lemmas.Bool.Decides.{nat_tests}
 use Rattle.machine_layout.specs.Memory.{Page, page_of, change}
-use Rattle.phys_mem.specs.Found.{IsAt, IsNowhere}
+use Rattle.phys_mem.specs.Found.{IsInFrame, IsNowhere}
 use Rattle.phys_mem.specs.Frames.{pages_by, pages_in, NoneBelow, IsFirst}
 use Rattle.std.proofs.lemmas.List.{length-drop, get_or_read}
 use Rattle.std.proofs.lemmas.Slice.{between_to_end}
@@ -70,7 +70,7 @@ pages_step ns ns' fs fs' rest page k all a b same p long e =
     rw (a, b, tail, pages_push ns fs k page same, p) (append_assoc (pages_by ns fs) _ _ ∙ (ap (λ ps. pages_by ns fs ++ ps) (sym next) ∙ e))
 
 -- from the first index of a number to where its page is kept
-pub kept_at : (ns : List ℕ) (fs : List (List ℕ)) (k : ℕ) (r : Option ℕ) → length ns ≡ length fs → MatchOption r (NoneBelow ns k (length ns)) (IsFirst ns k) → MatchOption r (IsNowhere ns fs k) (IsAt ns fs k)
+pub kept_at : (ns : List ℕ) (fs : List (List ℕ)) (k : ℕ) (r : Option ℕ) → length ns ≡ length fs → MatchOption r (NoneBelow ns k (length ns)) (IsFirst ns k) → MatchOption r (IsNowhere ns fs k) (IsInFrame ns fs k)
 kept_at ns fs k None same h = record { page = no_page ns fs k h; changed = change_nowhere ns fs k h }
 kept_at ns fs k (Some i) same h =
     record {
@@ -80,7 +80,7 @@ kept_at ns fs k (Some i) same h =
     }
 
 -- the frame where a page is kept has other bytes
-pub changed_at : (ns : List ℕ) (fs : List (List ℕ)) (k i : ℕ) (page new : List ℕ) (f : List ℕ → List ℕ) → IsAt ns fs k i → page ≡ get_or fs i page → new ≡ f page → pages_by ns (set fs i new) ≡ change (pages_by ns fs) k f
+pub changed_at : (ns : List ℕ) (fs : List (List ℕ)) (k i : ℕ) (page new : List ℕ) (f : List ℕ → List ℕ) → IsInFrame ns fs k i → page ≡ get_or fs i page → new ≡ f page → pages_by ns (set fs i new) ≡ change (pages_by ns fs) k f
 changed_at ns fs k i page new f at read is =
     let here : page ≡ get_or fs i [] = get_or_read fs i page at.within read [] in
     ap (λ p. pages_by ns (set fs i p)) (is ∙ ap f here) ∙ sym (at.changed f)

@@ -6,7 +6,7 @@ use Rattle.std.proofs.lemmas.Bool.{cases_lt}
 use Rattle.std.proofs.lemmas.List.Elements.{All-cons, All-nil}
 use Rattle.machine_layout.specs.Memory.{Page}
 use Rattle.phys_mem.specs.Frames.{pages_by, pages_in, IsRising, NoneBelow, IsFirst}
-use Rattle.phys_mem.specs.Spans.{AreApart, AreSpans, IsSpan, end_of, pages_of_spans}
+use Rattle.phys_mem.specs.Spans.{AreApart, AreSpans, IsMemorySpan, memory_span_end, pages_of_spans}
 use Rattle.phys_mem.specs.declared.spans.MemorySpan.{MemorySpan}
 
 -- ---- a search
@@ -82,7 +82,7 @@ first_page low address h = omega arith
 spans_rising : (ss : List MemorySpan) (low : ℕ) → AreSpans ss → ((i : ℕ) (d : MemorySpan) → i < length ss → 4096 * low ≤ (get_or ss i d).address) → RisingFrom low (numbers_of (pages_of_spans ss))
 spans_rising [] low h above = tt
 spans_rising (s ∷ ss) low h above =
-    let here : IsSpan s = h.each 0 s (omega arith) in
+    let here : IsMemorySpan s = h.each 0 s (omega arith) in
     pages_rising (length s.bytes / 4096) (s.address / 4096) low s.bytes (pages_of_spans ss) (first_page low s.address (above 0 s (omega arith))) (spans_rising ss (s.address / 4096 + length s.bytes / 4096) (later_spans s ss h) (λ i d l. end_page s.address (length s.bytes) (get_or ss i d).address here.aligned here.whole (h.apart 0 (suc i) d (omega arith) (omega arith))))
 
 numbers_by : (ns : List ℕ) (fs : List (List ℕ)) → length ns ≡ length fs → numbers_of (pages_by ns fs) ≡ ns
@@ -112,7 +112,7 @@ low_end address n a b l = omega arith
 spans_low : (ss : List MemorySpan) → AreSpans ss → AreLow (numbers_of (pages_of_spans ss))
 spans_low [] h = All-nil (λ n. n < 2 ^ 28)
 spans_low (s ∷ ss) h =
-    let here : IsSpan s = h.each 0 s (omega arith) in
+    let here : IsMemorySpan s = h.each 0 s (omega arith) in
     pages_low (length s.bytes / 4096) (s.address / 4096) s.bytes (pages_of_spans ss) (low_end s.address (length s.bytes) here.aligned here.whole here.low) (spans_low ss (later_spans s ss h))
 
 -- the numbers of memory that is made of spans are below 2 ^ 28
@@ -125,7 +125,7 @@ numbers_low ns fs ss h same e =
 
 pub span_small : (rest next : List MemorySpan) (s : MemorySpan) (bytes : List ℕ) → AreSpans rest → rest ≡ s ∷ next → bytes ≡ s.bytes → s.address / 4096 + length bytes < 2 ^ 64
 span_small rest next s bytes h step is =
-    let here : IsSpan s = (subst AreSpans step h).each 0 s (omega arith) in
+    let here : IsMemorySpan s = (subst AreSpans step h).each 0 s (omega arith) in
     let low = here.low in
     rw is (omega (arith, low))
 
@@ -144,15 +144,15 @@ spans_done ps all (s ∷ rest) h e = absurd (omega arith)
 
 -- ---- two spans
 
-ends_apart : (a b : MemorySpan) → end_of a ≤ b.address → AreApart (a ∷ b ∷ [])
+ends_apart : (a b : MemorySpan) → memory_span_end a ≤ b.address → AreApart (a ∷ b ∷ [])
 ends_apart a b h i zero d l m = absurd (omega arith)
 ends_apart a b h zero (suc zero) d l m = h
 ends_apart a b h (suc i) (suc zero) d l m = absurd (omega arith)
 ends_apart a b h i (suc (suc j)) d l m = absurd (omega arith)
 
-pub two_spans : (ss : List MemorySpan) (a b : MemorySpan) → ss ≡ a ∷ b ∷ [] → IsSpan a → IsSpan b → end_of a ≤ b.address → AreSpans ss
+pub two_spans : (ss : List MemorySpan) (a b : MemorySpan) → ss ≡ a ∷ b ∷ [] → IsMemorySpan a → IsMemorySpan b → memory_span_end a ≤ b.address → AreSpans ss
 two_spans ss a b e first second apart =
     rw e (record {
-      each = All-cons IsSpan a (b ∷ []) first (All-cons IsSpan b [] second (All-nil IsSpan));
+      each = All-cons IsMemorySpan a (b ∷ []) first (All-cons IsMemorySpan b [] second (All-nil IsMemorySpan));
       apart = ends_apart a b apart;
     })

@@ -13,7 +13,7 @@ abbrev pub frames_kept : FrameMem → List Page
 frames_kept m = pages_by m.numbers.items m.frames.items
 
 -- page k is kept in frame i
-pub record IsAt (ns : List ℕ) (fs : List (List ℕ)) (k i : ℕ) : Type 0 where
+pub record IsInFrame (ns : List ℕ) (fs : List (List ℕ)) (k i : ℕ) : Type 0 where
   pub within : i < length fs
   pub page : page_of (pages_by ns fs) k ≡ Some (slice_index_or fs i [])
   pub changed : (f : List ℕ → List ℕ) → change (pages_by ns fs) k f ≡ pages_by ns (slice_set fs i (f (slice_index_or fs i [])))

@@ -24,7 +24,7 @@ pub struct FrameMem {
 
 impl FrameMem {
     ghost use Rattle.std.specs.Prelude.{MatchOption, IfOk};
-    ghost use Rattle.phys_mem.specs.Found.{frames_kept, IsAt, IsNowhere};
+    ghost use Rattle.phys_mem.specs.Found.{frames_kept, IsInFrame, IsNowhere};
     ghost use Rattle.phys_mem.specs.Spans.{AreSpans, pages_of_spans};
 
     /// Memory that has these spans and nothing else. They are made of whole pages, ascend, share no
@@ -49,7 +49,7 @@ impl FrameMem {
 
     // Where the page of this number is kept.
     fn find_page(&self, number: u64) -> Option<usize>
-        ensures { MatchOption result (IsNowhere self.now.numbers.items self.now.frames.items number) (IsAt self.now.numbers.items self.now.frames.items number) }
+        ensures { MatchOption result (IsNowhere self.now.numbers.items self.now.frames.items number) (IsInFrame self.now.numbers.items self.now.frames.items number) }
     {
         self.tables.find(number)
     }

@@ -1,7 +1,7 @@
 //! Indexes by numbers, through two tables.
 ghost use Rattle.std.specs.Prelude.{◌≡◌, ◌^◌, ◌<◌, ◌==◌, if◌then◌else◌, ℕ, None, Some, length, slice_index_or, OnOk, IfOk};
 ghost use Rattle.std.specs.List.{All};
-ghost use Rattle.phys_mem.specs.IndexTables.{AreTables, IsMade, Tells, told};
+ghost use Rattle.phys_mem.specs.IndexTables.{AreTables, IsTableAdded, Tells, index_told};
 
 use muen_num::NoMemory;
 use std::alloc::Global;
@@ -34,7 +34,7 @@ fn no_indexes(alloc: Global, count: usize) -> Result<Vec<Option<usize>>, NoMemor
 impl IndexTables {
     // The index of a number.
     pub(crate) fn find(&self, number: u64) -> Option<usize>
-        ensures { result ≡ told self.now.upper.items self.now.lower.items number }
+        ensures { result ≡ index_told self.now.upper.items self.now.lower.items number }
     {
         let high = number / LOWER;
         if high >= UPPER as u64 {
@@ -48,7 +48,7 @@ impl IndexTables {
 
     // No number has an index.
     fn new(alloc: Global) -> Result<IndexTables, NoMemory>
-        ensures { IfOk result (λ t. (k : ℕ) → told t.upper.items t.lower.items k ≡ None) }
+        ensures { IfOk result (λ t. (k : ℕ) → index_told t.upper.items t.lower.items k ≡ None) }
     {
         let upper = no_indexes(alloc, UPPER)?;
         let lower = Vec::new(alloc);
@@ -58,7 +58,7 @@ impl IndexTables {
     // Where the lower table of an upper part begins, made where there is none yet.
     fn table_for(&mut self, high: usize) -> Result<usize, NoMemory>
         requires { high < 16384 }
-        ensures { IfOk result (λ base. IsMade self.old.upper.items self.old.lower.items self.new.upper.items self.new.lower.items high base) }
+        ensures { IfOk result (λ base. IsTableAdded self.old.upper.items self.old.lower.items self.new.upper.items self.new.lower.items high base) }
     {
         if let Some(base) = self.upper[high] {
             return Ok(base);
@@ -72,8 +72,8 @@ impl IndexTables {
     // Puts in the index of a number.
     fn enter(&mut self, number: u64, index: usize) -> Result<(), NoMemory>
         requires { number < 2 ^ 28 }
-        ensures { OnOk result ((k : ℕ) → told self.new.upper.items self.new.lower.items k
-            ≡ (if k == number then Some index else told self.old.upper.items self.old.lower.items k)) }
+        ensures { OnOk result ((k : ℕ) → index_told self.new.upper.items self.new.lower.items k
+            ≡ (if k == number then Some index else index_told self.old.upper.items self.old.lower.items k)) }
     {
         let base = self.table_for((number / LOWER) as usize)?;
         self.lower[base + (number % LOWER) as usize] = Some(index);

@@ -34,7 +34,7 @@ fn find(numbers: &[u64], number: u64) -> Option<usize>
 
 impl RegionMem {
     ghost use Rattle.std.specs.Prelude.{MatchOption, IfOk};
-    ghost use Rattle.phys_mem.specs.Found.{pages_kept, IsAt, IsNowhere};
+    ghost use Rattle.phys_mem.specs.Found.{pages_kept, IsInFrame, IsNowhere};
     ghost use Rattle.phys_mem.specs.Spans.{AreSpans, pages_of_spans};
 
     /// Memory that has these spans and nothing else. They are made of whole pages, ascend, share no
@@ -54,7 +54,7 @@ impl RegionMem {
 
     // Where the page of this number is kept.
     fn find_page(&self, number: u64) -> Option<usize>
-        ensures { MatchOption result (IsNowhere self.now.numbers.items self.now.frames.items number) (IsAt self.now.numbers.items self.now.frames.items number) }
+        ensures { MatchOption result (IsNowhere self.now.numbers.items self.now.frames.items number) (IsInFrame self.now.numbers.items self.now.frames.items number) }
     {
         find(&self.numbers, number)
     }

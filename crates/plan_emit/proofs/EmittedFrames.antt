@@ -7,7 +7,7 @@ use Rattle.std.proofs.lemmas.Bool.{and_parts, ltb-true}
 use Rattle.std.proofs.lemmas.List.{get_or-map, length-map}
 use Rattle.std.proofs.lemmas.Option.{get_or_from_slice_get}
 use Rattle.muen_num.specs.Range.{numbers_below}
-use Rattle.frame_clock.specs.Plan.{cpus_in, cpus_of, frame_of, frames_in}
+use Rattle.frame_clock.specs.Plan.{cpus_in, cpus_of, frame_of_minor, frames_in}
 use Rattle.policy_lawful.specs.Frames as policy
 use Rattle.policy_lawful.specs.Frames.{entry_frames, frames_of, major_frames_of}
 use Rattle.policy_lawful.specs.Resolution.{Resolution, cpu_named, major_named, major_in_range, source_of}
@@ -37,25 +37,25 @@ cpus_emitted r k =
 
 -- ---- frames
 
-same_frame : (r : Resolution) (f : MinorFrame) → repeated (group_names r) ≡ None → frame_there r f ≡ true → policy.frame_of (source_of r) (frame_named r f) ≡ Some (frame_of (minor_part f))
+same_frame : (r : Resolution) (f : MinorFrame) → repeated (group_names r) ≡ None → frame_there r f ≡ true → policy.frame_of (source_of r) (frame_named r f) ≡ Some (frame_of_minor (minor_part f))
 unfolding source_of
 same_frame r f unique in_range =
     ap (option_map (λ n. record { group = n; ticks = f.ticks }))
     (index_of_group r f.group unique (ltb-true f.group (length r.scheduling.groups) in_range))
 
-same_frames : (r : Resolution) (fs : List MinorFrame) → repeated (group_names r) ≡ None → list_all (frame_there r) fs ≡ true → filter_map (policy.frame_of (source_of r)) (map (frame_named r) fs) ≡ map frame_of (map minor_part fs)
+same_frames : (r : Resolution) (fs : List MinorFrame) → repeated (group_names r) ≡ None → list_all (frame_there r) fs ≡ true → filter_map (policy.frame_of (source_of r)) (map (frame_named r) fs) ≡ map frame_of_minor (map minor_part fs)
 same_frames r [] unique in_range = refl
 same_frames r (f ∷ fs) unique in_range =
     let parts = and_parts (frame_there r f) (list_all (frame_there r) fs) in_range in
     let here = same_frame r f unique parts.0 in
     let rest = same_frames r fs unique parts.1 in
-    rw here (ap (λ gs. frame_of (minor_part f) ∷ gs) rest)
+    rw here (ap (λ gs. frame_of_minor (minor_part f) ∷ gs) rest)
 
-same_cpu : (r : Resolution) (cpu : ℕ) (m : MajorFrame) → repeated (group_names r) ≡ None → major_in_range r m ≡ true → map frame_of (cpu_part m.cpus cpu) ≡ major_frames_of (source_of r) cpu (major_named r m)
+same_cpu : (r : Resolution) (cpu : ℕ) (m : MajorFrame) → repeated (group_names r) ≡ None → major_in_range r m ≡ true → map frame_of_minor (cpu_part m.cpus cpu) ≡ major_frames_of (source_of r) cpu (major_named r m)
 same_cpu r cpu m unique in_range =
     let test : CpuFrames → Bool = λ c. c.cpu == cpu in
     let named : find (λ c. c.cpu == cpu) (map (cpu_named r) m.cpus) ≡ option_map (cpu_named r) (find test m.cpus) = find-map (λ c. c.cpu == cpu) (cpu_named r) m.cpus in
-    (elim (find test m.cpus) as (λ o. find test m.cpus ≡ o → map frame_of (option_map_or (λ c. map minor_part c.minor_frames) o []) ≡ option_map_or (entry_frames (source_of r)) (option_map (cpu_named r) o) []) [
+    (elim (find test m.cpus) as (λ o. find test m.cpus ≡ o → map frame_of_minor (option_map_or (λ c. map minor_part c.minor_frames) o []) ≡ option_map_or (entry_frames (source_of r)) (option_map (cpu_named r) o) []) [
       | None ↦ λ _. refl
       | Some c ↦ λ is. sym (same_frames r c.minor_frames unique (found_among test (entry_there r) m.cpus c is in_range))
     ] refl)
@@ -71,8 +71,8 @@ pub frames_emitted : (r : Resolution) → PlanKept r → (cpu : ℕ) → cpu < r
 unfolding frames_in frames_of source_of
 frames_emitted r k cpu l =
     let cpus = r.processor.logical_cpus in
-    map-map (λ m. map frame_of (slice_index_or m.cpus cpu [])) (major_part cpus) r.scheduling.major_frames
-    ∙ all_same (λ m. map frame_of (slice_index_or (map (cpu_part m.cpus) (numbers_below cpus)) cpu [])) (λ m. major_frames_of (source_of r) cpu (major_named r m)) (major_in_range r)
-    (λ m in_range. ap (map frame_of) (at_number m.cpus cpus cpu l) ∙ same_cpu r cpu m k.unique in_range)
+    map-map (λ m. map frame_of_minor (slice_index_or m.cpus cpu [])) (major_part cpus) r.scheduling.major_frames
+    ∙ all_same (λ m. map frame_of_minor (slice_index_or (map (cpu_part m.cpus) (numbers_below cpus)) cpu [])) (λ m. major_frames_of (source_of r) cpu (major_named r m)) (major_in_range r)
+    (λ m in_range. ap (map frame_of_minor) (at_number m.cpus cpus cpu l) ∙ same_cpu r cpu m k.unique in_range)
     r.scheduling.major_frames k.majors_in_range
     ∙ sym (map-map (major_frames_of (source_of r) cpu) (major_named r) r.scheduling.major_frames)

@@ -208,16 +208,16 @@ unfoldable pub call_or_trap : Data → Result (Unit {0}) Fault
 call_or_trap d = if is_call_or_trap d then Ok tt else fault [] CallOrTrap
 
 -- the way that these spell: a call, else a trap
-abbrev pub way_of : Option ℕ → Option ℕ → SourceWay
-way_of (Some number) trap = Call number
-way_of None trap = Trap (unwrap_or trap 0)
+abbrev pub way_of_keys : Option ℕ → Option ℕ → SourceWay
+way_of_keys (Some number) trap = Call number
+way_of_keys None trap = Trap (unwrap_or trap 0)
 
 unfoldable pub event_source : Object EventSource
 event_source = object (tested call_or_trap do
   event ← required (codes "event") read_name
   call ← if_present (codes "call") read_number
   trap ← if_present (codes "trap") read_number
-  made (record { event = event; way = way_of call trap }))
+  made (record { event = event; way = way_of_keys call trap }))
 
 unfoldable pub event_target : Object EventTarget
 event_target = object do

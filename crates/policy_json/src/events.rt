@@ -1,7 +1,7 @@
 //! Events, who raises them and whom they reach.
 ghost use Rattle.std.specs.Prelude.{◌≡◌};
 ghost use Rattle.serde_json.specs.View.{view};
-ghost use Rattle.policy_json.specs.Table.{is_call_or_trap, way_of};
+ghost use Rattle.policy_json.specs.Table.{is_call_or_trap, way_of_keys};
 
 use crate::object::{Object, has, if_present, require, required};
 use policy_types::Want;
@@ -36,7 +36,7 @@ fn is_call_or_trap(value: &Value) -> bool
 }
 
 fn way_of(call: Option<u64>, trap: Option<u64>) -> SourceWay
-    ensures { result ≡ way_of call trap }
+    ensures { result ≡ way_of_keys call trap }
 {
     match call {
         Some(number) => SourceWay::Call(number),

@@ -27,8 +27,8 @@ use Rattle.policy_lawful.specs.source.Component.{Component}
 use Rattle.policy_lawful.specs.source.ComponentUse.{ComponentUse}
 use Rattle.policy_lawful.specs.source.MapEntry.{MapEntry}
 use Rattle.policy_lawful.specs.source.Source.{Source}
-use Rattle.policy_names.specs.Entries.{EntriesStand, entry_among, entry_offence, entry_there}
-use Rattle.policy_names.specs.Outline.{outline}
+use Rattle.policy_names.specs.Entries.{EntriesStand, entry_among, map_entry_offence, entry_there}
+use Rattle.policy_names.specs.Outline.{bare_resolution}
 use Rattle.policy_names.specs.Parts.{names_of_wanted}
 use Rattle.policy_names.specs.Indexes.{StandsFor}
 use Rattle.policy_names.specs.declared.parts.WantedNames.{WantedNames}
@@ -44,7 +44,7 @@ either true false o at xs ys = option_or-None (at ys)
 either false true o at xs ys = option_or-None (at xs)
 either false false o at xs ys = refl
 
-entry_of : (p : Source) (by : List ℕ) (c : Component) (e : MapEntry) → first_in (undeclared by) (entry_references p (Some c) e) ≡ entry_offence p (names_of_wanted c) by e
+entry_of : (p : Source) (by : List ℕ) (c : Component) (e : MapEntry) → first_in (undeclared by) (entry_references p (Some c) e) ≡ map_entry_offence p (names_of_wanted c) by e
 entry_of p by c e =
     let regions = map (λ x. x.logical) c.memory in
     let channels = map (λ x. x.logical) c.channels in
@@ -55,9 +55,9 @@ entry_of p by c e =
 same_names : (c : Component) (names : WantedNames) → Some (names_of_wanted c) ≡ Some names → names_of_wanted c ≡ names
 same_names c names h = ap (λ o. unwrap_or o names) h
 
-entry_over : (p : Source) (by : List ℕ) (e : MapEntry) (names : WantedNames) (o : Option Component) → option_map names_of_wanted o ≡ Some names → first_in (undeclared by) (entry_references p o e) ≡ entry_offence p names by e
+entry_over : (p : Source) (by : List ℕ) (e : MapEntry) (names : WantedNames) (o : Option Component) → option_map names_of_wanted o ≡ Some names → first_in (undeclared by) (entry_references p o e) ≡ map_entry_offence p names by e
 entry_over p by e names None h = absurd (cc)
-entry_over p by e names (Some c) h = subst (λ n. first_in (undeclared by) (entry_references p (Some c) e) ≡ entry_offence p n by e) (same_names c names h) (entry_of p by c e)
+entry_over p by e names (Some c) h = subst (λ n. first_in (undeclared by) (entry_references p (Some c) e) ≡ map_entry_offence p n by e) (same_names c names h) (entry_of p by c e)
 
 -- a list of what is there
 part : (f : WantedNames → List (List ℕ)) (o : Option Component) (names : WantedNames) → option_map names_of_wanted o ≡ Some names → option_map_or (λ c. f (names_of_wanted c)) o [] ≡ f names
@@ -74,20 +74,20 @@ module _ (p : Source) (by : List ℕ) (e : MapEntry) (index : ℕ) (names : Want
   channels_at : option_map_or (λ c. map (λ x. x.logical) c.channels) (slice_get p.components index) [] ≡ names.channels
   channels_at = part (λ n. n.channels) (slice_get p.components index) names at_index
 
-  entry_same : (w : Wanted) (r : ResolvedEntry) → entry_named (outline p) index w r ≡ entry_among p names w r
+  entry_same : (w : Wanted) (r : ResolvedEntry) → entry_named (bare_resolution p) index w r ≡ entry_among p names w r
   entry_same (WantedMemory k) r = ap (λ (n : List (List ℕ)). record { logical = name_at n k; physical = name_at (map (λ r. r.name) p.memory) r.physical; rights = r.rights }) regions_at
   entry_same (WantedChannel k) r = ap (λ (n : List (List ℕ)). record { logical = name_at n k; physical = name_at (map (λ c. c.name) p.channels) r.physical; rights = r.rights }) channels_at
 
-  there_same : (w : Wanted) (k : ℕ) → entry_in_range (outline p) index w k ≡ entry_there p names w k
+  there_same : (w : Wanted) (k : ℕ) → entry_in_range (bare_resolution p) index w k ≡ entry_there p names w k
   there_same (WantedMemory j) k = ap (λ (n : List (List ℕ)). nat_lt j (length n) && nat_lt k (length p.memory)) regions_at
   there_same (WantedChannel j) k = ap (λ (n : List (List ℕ)). nat_lt j (length n) && nat_lt k (length p.channels)) channels_at
 
   -- what is told of an entry among the names of its component
-  pub entry_resolved : (result : Result ResolvedEntry Refusal) → Keeps (broken 2 (entry_offence p names by e)) (StandsFor (λ r. entry_among p names r.logical r) (λ r. entry_there p names r.logical r.physical) e) result
-      → Keeps (broken 2 (first_in (undeclared by) (entry_references p (slice_get p.components index) e))) (StandsFor (λ r. entry_named (outline p) index r.logical r) (λ r. entry_in_range (outline p) index r.logical r.physical) e) result
+  pub entry_resolved : (result : Result ResolvedEntry Refusal) → Keeps (broken 2 (map_entry_offence p names by e)) (StandsFor (λ r. entry_among p names r.logical r) (λ r. entry_there p names r.logical r.physical) e) result
+      → Keeps (broken 2 (first_in (undeclared by) (entry_references p (slice_get p.components index) e))) (StandsFor (λ r. entry_named (bare_resolution p) index r.logical r) (λ r. entry_in_range (bare_resolution p) index r.logical r.physical) e) result
   entry_resolved result keeps =
-      keeps_as (StandsFor (λ r. entry_among p names r.logical r) (λ r. entry_there p names r.logical r.physical) e) (StandsFor (λ r. entry_named (outline p) index r.logical r) (λ r. entry_in_range (outline p) index r.logical r.physical) e)
-      (broken 2 (entry_offence p names by e)) (broken 2 (first_in (undeclared by) (entry_references p (slice_get p.components index) e)))
+      keeps_as (StandsFor (λ r. entry_among p names r.logical r) (λ r. entry_there p names r.logical r.physical) e) (StandsFor (λ r. entry_named (bare_resolution p) index r.logical r) (λ r. entry_in_range (bare_resolution p) index r.logical r.physical) e)
+      (broken 2 (map_entry_offence p names by e)) (broken 2 (first_in (undeclared by) (entry_references p (slice_get p.components index) e)))
       (ap (broken 2) (entry_over p by e names (slice_get p.components index) at_index))
       (λ r h. record { same = entry_same r.logical r ∙ h.same; there = there_same r.logical r.physical ∙ h.there })
       result keeps
@@ -124,12 +124,12 @@ module _ (p : Source) (by : List ℕ) (c : ComponentUse) (index : ℕ)
       ∙ ap (λ o. first_in (λ e. first_in (undeclared by) (entry_references p o e)) c.map) found)
 
   -- the use with indexes stands for it
-  use_stands : (r : ResolvedUse) → EntriesStand p index c r → StandsFor (component_named (outline p)) (component_in_range (outline p)) c r
+  use_stands : (r : ResolvedUse) → EntriesStand p index c r → StandsFor (component_named (bare_resolution p)) (component_in_range (bare_resolution p)) c r
   use_stands r entries =
       let used : name_at (map (λ c. c.name) p.components) r.used ≡ c.used = ap (name_at (map (λ c. c.name) p.components)) entries.used ∙ stands.same in
       let within : nat_lt r.used (length p.components) ≡ true = ap (λ k. nat_lt k (length p.components)) entries.used ∙ ap (nat_lt index) (sym many) ∙ stands.there in
-      let same : map (λ e. entry_named (outline p) r.used e.logical e) r.map ≡ c.map = ap (λ k. map (λ (e : ResolvedEntry). entry_named (outline p) k e.logical e) r.map) entries.used ∙ entries.map.same in
-      let there : list_all (λ e. entry_in_range (outline p) r.used e.logical e.physical) r.map ≡ true = ap (λ k. list_all (λ (e : ResolvedEntry). entry_in_range (outline p) k e.logical e.physical) r.map) entries.used ∙ entries.map.there in
+      let same : map (λ e. entry_named (bare_resolution p) r.used e.logical e) r.map ≡ c.map = ap (λ k. map (λ (e : ResolvedEntry). entry_named (bare_resolution p) k e.logical e) r.map) entries.used ∙ entries.map.same in
+      let there : list_all (λ e. entry_in_range (bare_resolution p) r.used e.logical e.physical) r.map ≡ true = ap (λ k. list_all (λ (e : ResolvedEntry). entry_in_range (bare_resolution p) k e.logical e.physical) r.map) entries.used ∙ entries.map.there in
       record {
         same = λ i. record { used = used i; map = same i };
         there = and_from _ _ within there;
@@ -138,9 +138,9 @@ module _ (p : Source) (by : List ℕ) (c : ComponentUse) (index : ℕ)
   -- so what is told of its entries tells all of it
   pub resolved : (result : Result ResolvedUse Refusal) → broken 2 (undeclared by (map (λ c. c.name) p.components, c.used)) ≡ None
       → Keeps (broken 2 (first_in (λ e. first_in (undeclared by) (entry_references p (slice_get p.components index) e)) c.map)) (EntriesStand p index c) result
-      → Keeps (broken 2 (first_in (undeclared by) (component_references p (Some c)))) (StandsFor (component_named (outline p)) (component_in_range (outline p)) c) result
+      → Keeps (broken 2 (first_in (undeclared by) (component_references p (Some c)))) (StandsFor (component_named (bare_resolution p)) (component_in_range (bare_resolution p)) c) result
   resolved result declared keeps =
       let rest = first_in (λ e. first_in (undeclared by) (entry_references p (slice_get p.components index) e)) c.map in
       let same : broken 2 (first_in (undeclared by) (component_references p (Some c))) ≡ broken 2 rest =
       ap (broken 2) in_turn ∙ ap (λ o. broken 2 (option_or o rest)) (none_broken 2 (undeclared by (map (λ c. c.name) p.components, c.used)) declared) in
-      keeps_as (EntriesStand p index c) (StandsFor (component_named (outline p)) (component_in_range (outline p)) c) (broken 2 rest) (broken 2 (first_in (undeclared by) (component_references p (Some c)))) same use_stands result keeps
+      keeps_as (EntriesStand p index c) (StandsFor (component_named (bare_resolution p)) (component_in_range (bare_resolution p)) c) (broken 2 rest) (broken 2 (first_in (undeclared by) (component_references p (Some c)))) same use_stands result keeps

@@ -24,7 +24,7 @@ use Rattle.policy_lawful.specs.source.Device.{Device}
 use Rattle.policy_lawful.specs.source.DeviceUse.{DeviceUse}
 use Rattle.policy_lawful.specs.source.Source.{Source}
 use Rattle.policy_names.specs.DeviceParts.{PartsStand, parts_offence}
-use Rattle.policy_names.specs.Outline.{outline}
+use Rattle.policy_names.specs.Outline.{bare_resolution}
 use Rattle.policy_names.specs.Parts.{names_of_device}
 use Rattle.policy_names.specs.Indexes.{StandsFor}
 use Rattle.policy_names.specs.declared.parts.DeviceNames.{DeviceNames}
@@ -88,7 +88,7 @@ module _ (p : Source) (by : List ℕ) (d : DeviceUse) (index : ℕ) (names : Dev
       ∙ rw (first_over-map (λ m. (names.memory, m.memory)) (undeclared by) d.memory, first_over-map (λ x. (names.io_ports, x)) (undeclared by) d.io_ports, first_over-map (λ q. (names.irqs, q.irq)) (undeclared by) d.irqs) refl)
 
   -- the use with indexes stands for it
-  use_stands : (r : ResolvedUse) → PartsStand names index d r → StandsFor (device_named (outline p)) (device_in_range (outline p)) d r
+  use_stands : (r : ResolvedUse) → PartsStand names index d r → StandsFor (device_named (bare_resolution p)) (device_in_range (bare_resolution p)) d r
   use_stands r parts =
       let many : length (map (λ d. d.name) p.devices) ≡ length p.devices = length-map p.devices (λ d. d.name) in
       let within : nat_lt r.device (length p.devices) ≡ true = ap (λ k. nat_lt k (length p.devices)) parts.device ∙ ap (nat_lt index) (sym many) ∙ stands.there in
@@ -113,8 +113,8 @@ module _ (p : Source) (by : List ℕ) (d : DeviceUse) (index : ℕ) (names : Dev
   -- so what is told of its parts tells all of it
   pub resolved : (result : Result ResolvedUse Refusal) → broken 2 (undeclared by (map (λ d. d.name) p.devices, d.device)) ≡ None
       → Keeps (broken 2 (parts_offence names by d)) (PartsStand names index d) result
-      → Keeps (broken 2 (first_in (undeclared by) (device_references p d))) (StandsFor (device_named (outline p)) (device_in_range (outline p)) d) result
+      → Keeps (broken 2 (first_in (undeclared by) (device_references p d))) (StandsFor (device_named (bare_resolution p)) (device_in_range (bare_resolution p)) d) result
   resolved result declared keeps =
       let same : broken 2 (first_in (undeclared by) (device_references p d)) ≡ broken 2 (parts_offence names by d) =
       ap (broken 2) in_turn ∙ ap (λ o. broken 2 (option_or o (parts_offence names by d))) (none_broken 2 (undeclared by (map (λ d. d.name) p.devices, d.device)) declared) in
-      keeps_as (PartsStand names index d) (StandsFor (device_named (outline p)) (device_in_range (outline p)) d) (broken 2 (parts_offence names by d)) (broken 2 (first_in (undeclared by) (device_references p d))) same use_stands result keeps
+      keeps_as (PartsStand names index d) (StandsFor (device_named (bare_resolution p)) (device_in_range (bare_resolution p)) d) (broken 2 (parts_offence names by d)) (broken 2 (first_in (undeclared by) (device_references p d))) same use_stands result keeps

@@ -21,7 +21,7 @@ use Rattle.policy_lawful.specs.refusal.Refusal.{Refusal}
 use Rattle.policy_lawful.specs.refusal.Refusal.TheVariants.{NoMemory}
 use Rattle.policy_lawful.specs.source.Source.{Source}
 use Rattle.policy_names.specs.Names.{names_broken}
-use Rattle.policy_names.specs.Outline.{bare_group, bare_subject, outline, with_resolved}
+use Rattle.policy_names.specs.Outline.{bare_group, bare_subject, bare_resolution, with_resolved}
 use Rattle.policy_names.specs.Indexes.{StandsFor}
 use Rattle.policy_names.proofs.Refusals.{one_behind_another}
 
@@ -37,24 +37,24 @@ offence_2_in_turn p = rw (option_or-None (first_in (λ m. first_in (undeclared (
 pub ruleset in_turn = (offence_2_in_turn, one_behind_another)
 
 module _ (p : Source) (ss : List Subject) (gs : List Group) (ms : List MajorFrame)
-    (subjects : StandsFor (map (subject_named (outline p))) (list_all (subject_in_range (outline p))) p.subjects ss)
-    (groups : StandsFor (map (group_named (outline p))) (list_all (group_in_range (outline p))) p.scheduling.groups gs)
-    (majors : StandsFor (map (major_named (outline p))) (list_all (major_in_range (outline p))) p.scheduling.major_frames ms) where
+    (subjects : StandsFor (map (subject_named (bare_resolution p))) (list_all (subject_in_range (bare_resolution p))) p.subjects ss)
+    (groups : StandsFor (map (group_named (bare_resolution p))) (list_all (group_in_range (bare_resolution p))) p.scheduling.groups gs)
+    (majors : StandsFor (map (major_named (bare_resolution p))) (list_all (major_in_range (bare_resolution p))) p.scheduling.major_frames ms) where
   -- the subjects have their names, and so have the groups
-  of_subjects : map (λ s. s.name) (outline p).subjects ≡ map (λ s. s.name) ss
-  of_subjects = map-map (λ s. s.name) bare_subject p.subjects ∙ ap (map (λ s. s.name)) (sym subjects.same) ∙ map-map (λ s. s.name) (subject_named (outline p)) ss
+  of_subjects : map (λ s. s.name) (bare_resolution p).subjects ≡ map (λ s. s.name) ss
+  of_subjects = map-map (λ s. s.name) bare_subject p.subjects ∙ ap (map (λ s. s.name)) (sym subjects.same) ∙ map-map (λ s. s.name) (subject_named (bare_resolution p)) ss
 
-  of_groups : map (λ g. g.name) (outline p).scheduling.groups ≡ map (λ g. g.name) gs
-  of_groups = map-map (λ g. g.name) bare_group p.scheduling.groups ∙ ap (map (λ g. g.name)) (sym groups.same) ∙ map-map (λ g. g.name) (group_named (outline p)) gs
+  of_groups : map (λ g. g.name) (bare_resolution p).scheduling.groups ≡ map (λ g. g.name) gs
+  of_groups = map-map (λ g. g.name) bare_group p.scheduling.groups ∙ ap (map (λ g. g.name)) (sym groups.same) ∙ map-map (λ g. g.name) (group_named (bare_resolution p)) gs
 
   -- so that the subjects, the groups and the frames stand for the same beside them
   subjects_same : map (subject_named (with_resolved p ss (record { groups = gs; major_frames = ms; tau0 = p.scheduling.tau0 }))) ss ≡ p.subjects
-  subjects_same = ap (λ names. map (subject_named_among (outline p) names) ss) (sym of_subjects) ∙ subjects.same
+  subjects_same = ap (λ names. map (subject_named_among (bare_resolution p) names) ss) (sym of_subjects) ∙ subjects.same
 
   subjects_there : list_all (subject_in_range (with_resolved p ss (record { groups = gs; major_frames = ms; tau0 = p.scheduling.tau0 }))) ss ≡ true
   subjects_there =
-      subst (λ n. list_all (subject_in_range_among (outline p) n) ss ≡ true)
-      (sym (length-map (outline p).subjects (λ s. s.name)) ∙ ap length of_subjects ∙ length-map ss (λ s. s.name)) subjects.there
+      subst (λ n. list_all (subject_in_range_among (bare_resolution p) n) ss ≡ true)
+      (sym (length-map (bare_resolution p).subjects (λ s. s.name)) ∙ ap length of_subjects ∙ length-map ss (λ s. s.name)) subjects.there
 
   groups_same : map (group_named (with_resolved p ss (record { groups = gs; major_frames = ms; tau0 = p.scheduling.tau0 }))) gs ≡ p.scheduling.groups
   groups_same = ap (λ names. map (λ (g : Group). record { name = g.name; cpu = g.cpu; subjects = map (name_at names) g.subjects }) gs) (sym of_subjects) ∙ groups.same
@@ -62,7 +62,7 @@ module _ (p : Source) (ss : List Subject) (gs : List Group) (ms : List MajorFram
   groups_there : list_all (group_in_range (with_resolved p ss (record { groups = gs; major_frames = ms; tau0 = p.scheduling.tau0 }))) gs ≡ true
   groups_there =
       subst (λ n. list_all (λ (g : Group). list_all (λ i. nat_lt i n) g.subjects) gs ≡ true)
-      (sym (length-map (outline p).subjects (λ s. s.name)) ∙ ap length of_subjects ∙ length-map ss (λ s. s.name)) groups.there
+      (sym (length-map (bare_resolution p).subjects (λ s. s.name)) ∙ ap length of_subjects ∙ length-map ss (λ s. s.name)) groups.there
 
   majors_same : map (major_named (with_resolved p ss (record { groups = gs; major_frames = ms; tau0 = p.scheduling.tau0 }))) ms ≡ p.scheduling.major_frames
   majors_same =
@@ -72,7 +72,7 @@ module _ (p : Source) (ss : List Subject) (gs : List Group) (ms : List MajorFram
   majors_there : list_all (major_in_range (with_resolved p ss (record { groups = gs; major_frames = ms; tau0 = p.scheduling.tau0 }))) ms ≡ true
   majors_there =
       subst (λ n. list_all (λ (m : MajorFrame). list_all (λ c. list_all (λ f. nat_lt f.group n) c.minor_frames) m.cpus) ms ≡ true)
-      (sym (length-map (outline p).scheduling.groups (λ g. g.name)) ∙ ap length of_groups ∙ length-map gs (λ g. g.name)) majors.there
+      (sym (length-map (bare_resolution p).scheduling.groups (λ g. g.name)) ∙ ap length of_groups ∙ length-map gs (λ g. g.name)) majors.there
 
   -- the policy with them stands for the whole
   pub whole : StandsFor source_of are_in_range p (with_resolved p ss (record { groups = gs; major_frames = ms; tau0 = p.scheduling.tau0 }))

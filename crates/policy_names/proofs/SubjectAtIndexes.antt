@@ -21,7 +21,7 @@ use Rattle.policy_lawful.specs.source.EventTarget.{EventTarget}
 use Rattle.policy_lawful.specs.source.Monitor.{Monitor}
 use Rattle.policy_lawful.specs.source.Source.{Source}
 use Rattle.policy_lawful.specs.source.Subject.{Subject}
-use Rattle.policy_names.specs.Outline.{bare_subject, outline}
+use Rattle.policy_names.specs.Outline.{bare_subject, bare_resolution}
 use Rattle.policy_names.specs.Indexes.{StandsFor, all_below}
 use Rattle.policy_names.specs.SubjectParts.{SignalsStand, WindowsStand, signals_offence, windows_offence}
 use Rattle.policy_names.proofs.Refusals.{one_behind_another}
@@ -93,15 +93,15 @@ pub ruleset in_stages = (in_turn, one_behind_another)
 
 -- the subject with these indexes stands for it
 pub stands : (p : Source) (s : Subject) (r : ResolvedSubject) → (r.name ≡ s.name) × ((r.cpu ≡ s.cpu) × ((r.entry ≡ s.entry) × (r.msrs ≡ s.msrs)))
-    → StandsFor (option_map (component_named (outline p))) (λ c. option_map_or (component_in_range (outline p)) c true) s.component r.component
+    → StandsFor (option_map (component_named (bare_resolution p))) (λ c. option_map_or (component_in_range (bare_resolution p)) c true) s.component r.component
     → WindowsStand p s r.memory r.channels r.devices → SignalsStand p s r.sources r.targets r.monitors
-    → StandsFor (subject_named (outline p)) (subject_in_range (outline p)) s r
+    → StandsFor (subject_named (bare_resolution p)) (subject_in_range (bare_resolution p)) s r
 stands p s r plain component windows signals =
-    let names : map (λ x. x.name) (outline p).subjects ≡ map (λ x. x.name) p.subjects = map-map (λ x. x.name) bare_subject p.subjects in
-    let many : length (outline p).subjects ≡ length p.subjects = length-map p.subjects bare_subject in
-    let monitors : map (λ m. record { subject = name_at (map (λ x. x.name) (outline p).subjects) m.subject; virtual_address = m.virtual_address; rights = m.rights }) r.monitors ≡ s.monitors =
+    let names : map (λ x. x.name) (bare_resolution p).subjects ≡ map (λ x. x.name) p.subjects = map-map (λ x. x.name) bare_subject p.subjects in
+    let many : length (bare_resolution p).subjects ≡ length p.subjects = length-map p.subjects bare_subject in
+    let monitors : map (λ m. record { subject = name_at (map (λ x. x.name) (bare_resolution p).subjects) m.subject; virtual_address = m.virtual_address; rights = m.rights }) r.monitors ≡ s.monitors =
     ap (λ (n : List (List ℕ)). map (λ (m : ResolvedMonitor). record { subject = name_at n m.subject; virtual_address = m.virtual_address; rights = m.rights }) r.monitors) names ∙ signals.monitors.same in
-    let monitored : list_all (λ m. nat_lt m.subject (length (outline p).subjects)) r.monitors ≡ true = ap (λ n. list_all (λ (m : ResolvedMonitor). nat_lt m.subject n) r.monitors) many ∙ signals.monitors.there in
+    let monitored : list_all (λ m. nat_lt m.subject (length (bare_resolution p).subjects)) r.monitors ≡ true = ap (λ n. list_all (λ (m : ResolvedMonitor). nat_lt m.subject n) r.monitors) many ∙ signals.monitors.there in
     record {
       same = λ i. record {
         name = plain.0 i;

@@ -13,14 +13,14 @@ use Rattle.policy_lawful.specs.declared.resolved.Wanted.TheVariants.{Memory as W
 use Rattle.policy_lawful.specs.source.ComponentUse.{ComponentUse}
 use Rattle.policy_lawful.specs.source.MapEntry.{MapEntry}
 use Rattle.policy_lawful.specs.source.Source.{Source}
-use Rattle.policy_names.specs.Outline.{outline}
+use Rattle.policy_names.specs.Outline.{bare_resolution}
 use Rattle.policy_names.specs.Indexes.{StandsFor}
 use Rattle.policy_names.specs.declared.parts.WantedNames.{WantedNames}
 
 -- the first name that isn't there: the physical one among the channels where the logical one wants one, else among the
 -- regions
-abbrev pub entry_offence : Source → WantedNames → List ℕ → MapEntry → Option Offence
-entry_offence p names by e =
+abbrev pub map_entry_offence : Source → WantedNames → List ℕ → MapEntry → Option Offence
+map_entry_offence p names by e =
     if is_declared names.channels e.logical then undeclared by (map (λ c. c.name) p.channels, e.physical)
     else option_or (undeclared by (names.regions, e.logical)) (undeclared by (map (λ r. r.name) p.memory, e.physical))
 
@@ -53,4 +53,4 @@ entries_offence p by index c = first_in (λ e. first_in (undeclared by) (entry_r
 -- the entries of a use stand for those of another, and its component stands at this index
 pub record EntriesStand (p : Source) (index : ℕ) (c : ComponentUse) (r : ResolvedUse) : Type 0 where
   pub used : r.used ≡ index
-  pub map : StandsFor {X = List ResolvedEntry} {Y = List MapEntry} (map (λ e. entry_named (outline p) index e.logical e)) (list_all (λ e. entry_in_range (outline p) index e.logical e.physical)) c.map r.map
+  pub map : StandsFor {X = List ResolvedEntry} {Y = List MapEntry} (map (λ e. entry_named (bare_resolution p) index e.logical e)) (list_all (λ e. entry_in_range (bare_resolution p) index e.logical e.physical)) c.map r.map

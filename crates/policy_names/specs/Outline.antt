@@ -53,24 +53,24 @@ abbrev pub bare_group : Group → ResolvedGroup
 bare_group g = record { name = g.name; cpu = g.cpu; subjects = [] }
 
 -- each name at its index, and no references
-abbrev pub outline : Source → Resolution
-outline p = with_resolved p (map bare_subject p.subjects) (record { groups = map bare_group p.scheduling.groups; major_frames = []; tau0 = p.scheduling.tau0 })
+abbrev pub bare_resolution : Source → Resolution
+bare_resolution p = with_resolved p (map bare_subject p.subjects) (record { groups = map bare_group p.scheduling.groups; major_frames = []; tau0 = p.scheduling.tau0 })
 
 -- ---- what stands for it by indexes
 
 -- the use of a component that a use by indexes is, and whether its indexes are in range; there may be none
 abbrev pub use_named : Source → Option ResolvedUse → Option ComponentUse
-use_named p c = option_map (component_named (outline p)) c
+use_named p c = option_map (component_named (bare_resolution p)) c
 
 abbrev pub use_in_range : Source → Option ResolvedUse → Bool
-use_in_range p c = option_map_or (component_in_range (outline p)) c true
+use_in_range p c = option_map_or (component_in_range (bare_resolution p)) c true
 
 -- so of all major frames, and the first group that they name and that isn't declared
 abbrev pub majors_named : Source → List ResolvedMajor → List MajorFrame
-majors_named p majors = map (major_named (outline p)) majors
+majors_named p majors = map (major_named (bare_resolution p)) majors
 
 abbrev pub majors_in_range : Source → List ResolvedMajor → Bool
-majors_in_range p majors = list_all (major_in_range (outline p)) majors
+majors_in_range p majors = list_all (major_in_range (bare_resolution p)) majors
 
 abbrev pub majors_undeclared : Source → List MajorFrame → Option Offence
 majors_undeclared p majors = first_in (λ m. first_in (undeclared (major_name m.0)) (frame_references p m.1)) (enumerate_from 0 majors)

@@ -20,7 +20,7 @@ use Rattle.policy_lawful.specs.source.Mapping.{Mapping}
 use Rattle.policy_lawful.specs.source.Monitor.{Monitor}
 use Rattle.policy_lawful.specs.source.Source.{Source}
 use Rattle.policy_lawful.specs.source.Subject.{Subject}
-use Rattle.policy_names.specs.Outline.{outline}
+use Rattle.policy_names.specs.Outline.{bare_resolution}
 use Rattle.policy_names.specs.Indexes.{StandsFor}
 
 -- the first region, channel, device or part of a device that isn't there
@@ -32,9 +32,9 @@ windows_offence p s =
 
 -- these stand for the subject's mappings, channels and devices
 pub record WindowsStand (p : Source) (s : Subject) (windows : List ResolvedMapping) (ends : List ResolvedChannel) (grants : List ResolvedDevice) : Type 0 where
-  pub regions : StandsFor {X = List ResolvedMapping} {Y = List Mapping} (map (mapping_named (outline p))) (list_all (λ m. nat_lt m.region (length p.memory))) s.memory windows
-  pub channels : StandsFor {X = List ResolvedChannel} {Y = List ChannelUse} (map (channel_named (outline p))) (list_all (λ c. nat_lt c.channel (length p.channels))) s.channels ends
-  pub devices : StandsFor {X = List ResolvedDevice} {Y = List DeviceUse} (map (device_named (outline p))) (list_all (device_in_range (outline p))) s.devices grants
+  pub regions : StandsFor {X = List ResolvedMapping} {Y = List Mapping} (map (mapping_named (bare_resolution p))) (list_all (λ m. nat_lt m.region (length p.memory))) s.memory windows
+  pub channels : StandsFor {X = List ResolvedChannel} {Y = List ChannelUse} (map (channel_named (bare_resolution p))) (list_all (λ c. nat_lt c.channel (length p.channels))) s.channels ends
+  pub devices : StandsFor {X = List ResolvedDevice} {Y = List DeviceUse} (map (device_named (bare_resolution p))) (list_all (device_in_range (bare_resolution p))) s.devices grants
 
 -- the first event or monitored subject that isn't there
 unfoldable pub signals_offence : Source → Subject → Option Offence

@@ -5,8 +5,8 @@ ghost use Rattle.policy_lawful.specs.Resolution.{component_in_range, component_n
 ghost use Rattle.policy_lawful.specs.Rules.{component_references, entry_references, undeclared};
 ghost use Rattle.policy_lawful.specs.Keeps.{Keeps};
 ghost use Rattle.policy_lawful.specs.Offences.{broken};
-ghost use Rattle.policy_names.specs.Entries.{EntriesStand, EntryStands, entries_offence, entry_offence};
-ghost use Rattle.policy_names.specs.Outline.{outline};
+ghost use Rattle.policy_names.specs.Entries.{EntriesStand, EntryStands, entries_offence, map_entry_offence};
+ghost use Rattle.policy_names.specs.Outline.{bare_resolution};
 
 use crate::declared::{find, not_declared, refer};
 use crate::parts::WantedNames;
@@ -34,9 +34,9 @@ impl Refers for source::MapEntry {
 
     ghost offence = { λ p u e. first_in (undeclared u.subject) (entry_references p (slice_get p.components u.component) e) };
 
-    ghost named = { λ p u e. entry_named (outline p) u.component e.logical e };
+    ghost named = { λ p u e. entry_named (bare_resolution p) u.component e.logical e };
 
-    ghost in_range = { λ p u e. entry_in_range (outline p) u.component e.logical e.physical };
+    ghost in_range = { λ p u e. entry_in_range (bare_resolution p) u.component e.logical e.physical };
 
     fn resolve(&self, _: Global, scope: &Scope, by: Use) -> Result<resolved::MapEntry, Refusal> {
         match scope.wanted_at(by.component) {
@@ -54,7 +54,7 @@ fn resolve_entry(
     by: Name,
     entry: &source::MapEntry,
 ) -> Result<resolved::MapEntry, Refusal>
-    ensures { let p = scope.now.source.now in Keeps (broken 2 (entry_offence p names.now by entry.now)) (EntryStands p names.now entry.now) result }
+    ensures { let p = scope.now.source.now in Keeps (broken 2 (map_entry_offence p names.now by entry.now)) (EntryStands p names.now entry.now) result }
 {
     if let Some(index) = find(&names.channels, entry.logical) {
         return Ok(resolved::MapEntry {
@@ -80,9 +80,9 @@ impl Refers for source::ComponentUse {
 
     ghost offence = { λ p by c. first_in (undeclared by) (component_references p (Some c)) };
 
-    ghost named = { λ p _. component_named (outline p) };
+    ghost named = { λ p _. component_named (bare_resolution p) };
 
-    ghost in_range = { λ p _. component_in_range (outline p) };
+    ghost in_range = { λ p _. component_in_range (bare_resolution p) };
 
     fn resolve(
         &self,

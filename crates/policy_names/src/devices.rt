@@ -5,7 +5,7 @@ ghost use Rattle.policy_lawful.specs.Rules.{device_references, undeclared};
 ghost use Rattle.policy_lawful.specs.Keeps.{Keeps};
 ghost use Rattle.policy_lawful.specs.Offences.{broken};
 ghost use Rattle.policy_names.specs.DeviceParts.{PartsStand, parts_offence};
-ghost use Rattle.policy_names.specs.Outline.{outline};
+ghost use Rattle.policy_names.specs.Outline.{bare_resolution};
 
 use crate::declared::refer;
 use crate::parts::DeviceNames;
@@ -23,9 +23,9 @@ impl Refers for source::DeviceUse {
 
     ghost offence = { λ p by d. first_in (undeclared by) (device_references p d) };
 
-    ghost named = { λ p _. device_named (outline p) };
+    ghost named = { λ p _. device_named (bare_resolution p) };
 
-    ghost in_range = { λ p _. device_in_range (outline p) };
+    ghost in_range = { λ p _. device_in_range (bare_resolution p) };
 
     fn resolve(
         &self,

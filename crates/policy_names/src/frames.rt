@@ -6,7 +6,7 @@ ghost use Rattle.policy_lawful.specs.Keeps.{Keeps};
 ghost use Rattle.policy_lawful.specs.Offences.{broken};
 ghost use Rattle.policy_lawful.specs.Resolution.{cpu_named, major_in_range, major_named};
 ghost use Rattle.policy_lawful.specs.Rules.{frame_references, major_name, undeclared};
-ghost use Rattle.policy_names.specs.Outline.{majors_in_range, majors_named, majors_undeclared, outline};
+ghost use Rattle.policy_names.specs.Outline.{majors_in_range, majors_named, majors_undeclared, bare_resolution};
 ghost use Rattle.policy_names.specs.Indexes.{StandsFor};
 
 use crate::refers::{Refers, resolve_all, resolve_all_in};
@@ -24,9 +24,9 @@ impl Refers for source::CpuFrames {
 
     ghost offence = { λ p by c. first_in (undeclared by) (map (λ f. (map (λ g. g.name) p.scheduling.groups, f.group)) c.minor_frames) };
 
-    ghost named = { λ p _. cpu_named (outline p) };
+    ghost named = { λ p _. cpu_named (bare_resolution p) };
 
-    ghost in_range = { λ p _ c. list_all (λ f. nat_lt f.group (length (outline p).scheduling.groups)) c.minor_frames };
+    ghost in_range = { λ p _ c. list_all (λ f. nat_lt f.group (length (bare_resolution p).scheduling.groups)) c.minor_frames };
 
     #[tactic(auto, using(crate::proofs::Elements::names))]
     fn resolve(
@@ -50,9 +50,9 @@ impl Refers for source::MajorFrame {
 
     ghost offence = { λ p index m. first_in (undeclared (major_name index)) (frame_references p m) };
 
-    ghost named = { λ p _. major_named (outline p) };
+    ghost named = { λ p _. major_named (bare_resolution p) };
 
-    ghost in_range = { λ p _. major_in_range (outline p) };
+    ghost in_range = { λ p _. major_in_range (bare_resolution p) };
 
     #[tactic(auto, using(crate::proofs::Elements::lists))]
     fn resolve(

@@ -5,7 +5,7 @@ ghost use Rattle.policy_lawful.specs.Keeps.{Keeps};
 ghost use Rattle.policy_lawful.specs.Offences.{broken};
 ghost use Rattle.policy_lawful.specs.Resolution.{subject_in_range, subject_named};
 ghost use Rattle.policy_lawful.specs.Rules.{component_references, subject_references, undeclared};
-ghost use Rattle.policy_names.specs.Outline.{outline, use_in_range, use_named};
+ghost use Rattle.policy_names.specs.Outline.{bare_resolution, use_in_range, use_named};
 ghost use Rattle.policy_names.specs.Indexes.{StandsFor};
 ghost use Rattle.policy_names.specs.SubjectParts.{SignalsStand, WindowsStand, signals_offence, windows_offence};
 
@@ -23,9 +23,9 @@ impl Refers for source::Subject {
 
     ghost offence = { λ p _ s. first_in (undeclared s.name) (subject_references p s) };
 
-    ghost named = { λ p _. subject_named (outline p) };
+    ghost named = { λ p _. subject_named (bare_resolution p) };
 
-    ghost in_range = { λ p _. subject_in_range (outline p) };
+    ghost in_range = { λ p _. subject_in_range (bare_resolution p) };
 
     #[tactic(auto, using(crate::proofs::SubjectAtIndexes::in_stages))]
     fn resolve(&self, alloc: Global, scope: &Scope, _: ()) -> Result<resolved::Subject, Refusal> {

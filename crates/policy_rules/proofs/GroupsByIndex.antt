@@ -22,7 +22,7 @@ use Rattle.policy_lawful.proofs.Indexes.{found_at_index, same_name}
 use Rattle.policy_lawful.proofs.SourceElements.{parts_in_range}
 use Rattle.policy_lawful.proofs.UniqueNames.{subject_names, subjects_unique}
 use Rattle.policy_lawful.proofs.WindowsByIndex.{name_of_subject}
-use Rattle.policy_rules.specs.Groups.{cpu_of_subject, is_member, is_group, group_offence, times_in, member_offence, AreTimes, groups_offence, counted_offence}
+use Rattle.policy_rules.specs.Groups.{cpu_of_subject, is_subject_on_cpu, is_resolved_group, group_offence, times_in, member_offence, AreMemberCounts, groups_offence, counted_offence}
 use Rattle.muen_num.proofs.SameAnswers.{first_in-map, first_numbered_same, both_numbered, list_all_same, some_items, sum_by_same}
 
 subject_at_index : (r : Resolution) (index : ℕ) → repeated (subject_names r) ≡ None → index < length r.subjects
@@ -33,13 +33,13 @@ subject_at_index r index unique within =
     ∙ option_map-option_map (λ s. s.cpu) (subject_named r) (find (λ s. bytes_eq s.name (name_at (subject_names r) index)) r.subjects)
     ∙ ap (option_map (λ s. s.cpu)) (found_at_index (λ s. s.name) r.subjects index unique within)
 
-same_group : (r : Resolution) (g : ResolvedGroup) → repeated (subject_names r) ≡ None → group_in_range r g ≡ true → rules.is_group (source_of r) (group_named r g) ≡ is_group r.subjects g
+same_group : (r : Resolution) (g : ResolvedGroup) → repeated (subject_names r) ≡ None → group_in_range r g ≡ true → rules.is_group (source_of r) (group_named r g) ≡ is_resolved_group r.subjects g
 same_group r g unique in_range =
-    let member : (index : ℕ) → nat_lt index (length r.subjects) ≡ true → is_on (subject_cpu (source_of r) (name_at (subject_names r) index)) g.cpu ≡ is_member r.subjects g.cpu index =
+    let member : (index : ℕ) → nat_lt index (length r.subjects) ≡ true → is_on (subject_cpu (source_of r) (name_at (subject_names r) index)) g.cpu ≡ is_subject_on_cpu r.subjects g.cpu index =
     λ index ok. ap (λ o. is_on o g.cpu) (subject_at_index r index unique (ltb-true index (length r.subjects) ok)) in
-    let members : list_all (λ name. is_on (subject_cpu (source_of r) name) g.cpu) (map (name_at (subject_names r)) g.subjects) ≡ list_all (is_member r.subjects g.cpu) g.subjects =
+    let members : list_all (λ name. is_on (subject_cpu (source_of r) name) g.cpu) (map (name_at (subject_names r)) g.subjects) ≡ list_all (is_subject_on_cpu r.subjects g.cpu) g.subjects =
     list_all-map (λ name. is_on (subject_cpu (source_of r) name) g.cpu) (name_at (subject_names r)) g.subjects
-    ∙ list_all_same (λ index. is_on (subject_cpu (source_of r) (name_at (subject_names r) index)) g.cpu) (is_member r.subjects g.cpu) (λ index. nat_lt index (length r.subjects)) member g.subjects in_range in
+    ∙ list_all_same (λ index. is_on (subject_cpu (source_of r) (name_at (subject_names r) index)) g.cpu) (is_subject_on_cpu r.subjects g.cpu) (λ index. nat_lt index (length r.subjects)) member g.subjects in_range in
     ap (λ b. b && list_all (λ name. is_on (subject_cpu (source_of r) name) g.cpu) (map (name_at (subject_names r)) g.subjects)) (some_items (name_at (subject_names r)) g.subjects)
     ∙ ap (λ b. not (length g.subjects == 0) && b) members
 
@@ -85,7 +85,7 @@ once : (m n : ℕ) → min 2 m ≡ min 2 n → (m == 1) ≡ (n == 1)
 once m n h = grind (arith, nat_tests)
 
 pub by_counts : (subjects : List ResolvedSubject) (groups : List ResolvedGroup) (times : List ℕ)
-    → AreTimes times (length subjects) groups
+    → AreMemberCounts times (length subjects) groups
     → first_in (counted_offence times) (enumerate_from 0 subjects) ≡ first_in (member_offence groups) (enumerate_from 0 subjects)
 by_counts subjects groups times counted =
     let same : (k : ℕ) (s : ResolvedSubject) → k < length subjects → counted_offence times (0 + k, s) ≡ member_offence groups (0 + k, s) = λ k s l.

@@ -27,7 +27,7 @@ use Rattle.policy_lawful.specs.source.MinorFrame.{MinorFrame}
 use Rattle.policy_lawful.specs.Views.{view_extent, views_of}
 use Rattle.policy_lawful.proofs.ExtentsByIndex.{extents_by_index}
 use Rattle.policy_lawful.proofs.WindowsByIndex.{component_at, component_there, subject_parts}
-use Rattle.policy_rules.specs.Limits.{device_memory_limit, limits_offence, major_limit, msrs_in, name_limit, regions_of_subject, subject_limit_at}
+use Rattle.policy_rules.specs.Limits.{device_memory_limit, limits_offence, resolved_major_limit, msr_count_in, name_limit, regions_of_subject, subject_limit_at}
 use Rattle.rules_extents.specs.Windows.{device_extent, device_extents}
 
 -- ---- the memory of all devices
@@ -71,7 +71,7 @@ names_named c =
 subject_named_limit : (r : Resolution) → IsResolved r → (s : Subject) → subject_in_range r s ≡ true → subject_limit (source_of r) (subject_named r s) ≡ subject_limit_at r s
 subject_named_limit r q s in_range =
     let many : length (window_extents (source_of r) (subject_named r s)) ≡ length (views_of r s) = ap length (extents_by_index r s q in_range) ∙ length-map (views_of r s) view_extent in
-    ap (λ n. unless (nat_le n MOST_WINDOWS && nat_le (sum_by msrs_in s.msrs) MOST_MSRS) (alone s.name)) many
+    ap (λ n. unless (nat_le n MOST_WINDOWS && nat_le (sum_by msr_count_in s.msrs) MOST_MSRS) (alone s.name)) many
 
 provided_named : (r : Resolution) → IsResolved r → (o : Option ComponentUse) → option_map_or (component_in_range r) o true ≡ true
     → option_map_or (λ c. length c.provides) (component_by (source_of r) (option_map (component_named r) o)) 0 ≡ length (provided_at r.components o)
@@ -92,7 +92,7 @@ entries_named r (c ∷ cs) =
     let many : length (cpu_named r c).minor_frames ≡ length c.minor_frames = length-map {B = MinorFrame} c.minor_frames _ in
     λ i. (nat_le (ticks_named r c i) MOST_TICKS && nat_le (many i) MOST_MINOR_FRAMES) && entries_named r cs i
 
-major_limit_named : (r : Resolution) (k : ℕ) (m : MajorFrame) → rules.major_limit (k, major_named r m) ≡ major_limit (k, m)
+major_limit_named : (r : Resolution) (k : ℕ) (m : MajorFrame) → rules.major_limit (k, major_named r m) ≡ resolved_major_limit (k, m)
 major_limit_named r k m = ap (λ b. unless b (alone (major_name k))) (entries_named r m.cpus)
 
 -- ---- all limits
@@ -107,5 +107,5 @@ limits_by_index r q =
     let subjects = first_in-map (subject_named r) (subject_limit (source_of r)) (subject_limit_at r) (subject_in_range r) (λ s h. subject_named_limit r q s h) r.subjects in_range in
     let regions : sum_by (regions_for (source_of r)) (map (subject_named r) r.subjects) ≡ sum_by (regions_of_subject r) r.subjects =
     sum_by-map (regions_for (source_of r)) (subject_named r) r.subjects ∙ sum_by_same (λ s. regions_for (source_of r) (subject_named r s)) (regions_of_subject r) (subject_in_range r) (λ s h. regions_named r q s h) r.subjects in_range in
-    let within = both_named rules.major_limit major_limit (major_named r) (major_limit_named r) r.scheduling.major_frames in
+    let within = both_named rules.major_limit resolved_major_limit (major_named r) (major_limit_named r) r.scheduling.major_frames in
     simp (many, majors, names, subjects, regions, within, option_or_assoc, option_or-None)

@@ -19,23 +19,23 @@ use Rattle.policy_lawful.specs.declared.resolved.CpuFrames.{CpuFrames as Resolve
 use Rattle.policy_lawful.specs.declared.resolved.MinorFrame.{MinorFrame as ResolvedFrame}
 use Rattle.policy_lawful.proofs.SourceElements.{cpu_at_index, frame_named, parts_in_range, ticks_named}
 use Rattle.policy_lawful.proofs.UniqueNames.{group_names, groups_unique}
-use Rattle.policy_rules.specs.Majors.{is_frame, has_first_ticks, is_entry, entry_offence, missing_offence, major_offence}
+use Rattle.policy_rules.specs.Majors.{is_resolved_frame, has_first_ticks, is_resolved_major_entry, cpu_frames_offence, missing_offence, resolved_major_offence}
 use Rattle.muen_num.proofs.SameAnswers.{first_in_same, first_numbered-map, first_after-map, list_all_same, some_items}
 
 frame_in_range : Resolution → ResolvedFrame → Bool
 frame_in_range r f = nat_lt f.group (length r.scheduling.groups)
 
 same_frame : (r : Resolution) (cpu : ℕ) (f : ResolvedFrame) → repeated (group_names r) ≡ None → frame_in_range r f ≡ true
-    → rules.is_frame (source_of r) cpu (frame_named r f) ≡ is_frame r.scheduling.groups cpu f
+    → rules.is_frame (source_of r) cpu (frame_named r f) ≡ is_resolved_frame r.scheduling.groups cpu f
 unfolding frame_in_range
 same_frame r cpu f unique in_range =
     ap (λ o. nat_lt 0 f.ticks && is_on o cpu) (cpu_at_index r f.group unique (ltb-true f.group (length r.scheduling.groups) in_range))
 
 same_frames : (r : Resolution) (cpu : ℕ) (fs : List ResolvedFrame) → repeated (group_names r) ≡ None → list_all (frame_in_range r) fs ≡ true
-    → list_all (rules.is_frame (source_of r) cpu) (map (frame_named r) fs) ≡ list_all (is_frame r.scheduling.groups cpu) fs
+    → list_all (rules.is_frame (source_of r) cpu) (map (frame_named r) fs) ≡ list_all (is_resolved_frame r.scheduling.groups cpu) fs
 same_frames r cpu fs unique in_range =
     list_all-map (rules.is_frame (source_of r) cpu) (frame_named r) fs
-    ∙ list_all_same (λ f. rules.is_frame (source_of r) cpu (frame_named r f)) (is_frame r.scheduling.groups cpu) (frame_in_range r) (λ f. same_frame r cpu f unique) fs in_range
+    ∙ list_all_same (λ f. rules.is_frame (source_of r) cpu (frame_named r f)) (is_resolved_frame r.scheduling.groups cpu) (frame_in_range r) (λ f. same_frame r cpu f unique) fs in_range
 
 same_first_ticks : (r : Resolution) (before : List ResolvedCpu) (c : ResolvedCpu)
     → option_map_or (λ b. rules.ticks_in b == rules.ticks_in (cpu_named r c)) (slice_get (map (cpu_named r) before) 0) true ≡ has_first_ticks before c
@@ -51,7 +51,7 @@ cpu_in_range : Resolution → ResolvedCpu → Bool
 cpu_in_range r c = list_all (frame_in_range r) c.minor_frames
 
 same_entry : (r : Resolution) (before : List ResolvedCpu) (c : ResolvedCpu) → repeated (group_names r) ≡ None → cpu_in_range r c ≡ true
-    → rules.is_entry (source_of r) (map (cpu_named r) before) (cpu_named r c) ≡ is_entry r.scheduling.groups before c
+    → rules.is_entry (source_of r) (map (cpu_named r) before) (cpu_named r c) ≡ is_resolved_major_entry r.scheduling.groups before c
 unfolding cpu_in_range
 same_entry r before c unique in_range =
     four_same _ _ _ _ _ _ _ _
@@ -61,12 +61,12 @@ same_entry r before c unique in_range =
     (same_first_ticks r before c)
 
 same_major : (r : Resolution) (k : ℕ) (m : ResolvedMajor) → repeated (group_names r) ≡ None → major_in_range r m ≡ true
-    → rules.major_offence (source_of r) (k, major_named r m) ≡ major_offence r.scheduling.groups r.processor.logical_cpus (k, m)
+    → rules.major_offence (source_of r) (k, major_named r m) ≡ resolved_major_offence r.scheduling.groups r.processor.logical_cpus (k, m)
 unfolding source_of cpu_in_range frame_in_range
 same_major r k m unique in_range =
     let entries : first_after (λ before c. unless (rules.is_entry (source_of r) before c) (two (major_name k) (cpu_name c.cpu))) [] (map (cpu_named r) m.cpus)
-    ≡ first_after (entry_offence r.scheduling.groups k) [] m.cpus =
-    first_after-map (cpu_named r) (λ before c. unless (rules.is_entry (source_of r) before c) (two (major_name k) (cpu_name c.cpu))) (entry_offence r.scheduling.groups k) (cpu_in_range r)
+    ≡ first_after (cpu_frames_offence r.scheduling.groups k) [] m.cpus =
+    first_after-map (cpu_named r) (λ before c. unless (rules.is_entry (source_of r) before c) (two (major_name k) (cpu_name c.cpu))) (cpu_frames_offence r.scheduling.groups k) (cpu_in_range r)
     (λ before c ok. ap (λ b. unless b (two (major_name k) (cpu_name c.cpu))) (same_entry r before c unique ok)) [] m.cpus in_range in
     let missing : first_in (λ cpu. unless (list_any (λ c. c.cpu == cpu) (map (cpu_named r) m.cpus)) (two (major_name k) (cpu_name cpu))) (numbers_below r.processor.logical_cpus)
     ≡ first_in (missing_offence m.cpus k) (numbers_below r.processor.logical_cpus) =
@@ -75,10 +75,10 @@ same_major r k m unique in_range =
     simp (option_or-None, entries, missing)
 
 pub majors_by_index : (r : Resolution) → IsResolved r
-    → option_or (first_in (major_offence r.scheduling.groups r.processor.logical_cpus) (enumerate_from 0 r.scheduling.major_frames)) (tau0_offence (source_of r) r.scheduling.tau0) ≡ offence_16 (source_of r)
+    → option_or (first_in (resolved_major_offence r.scheduling.groups r.processor.logical_cpus) (enumerate_from 0 r.scheduling.major_frames)) (tau0_offence (source_of r) r.scheduling.tau0) ≡ offence_16 (source_of r)
 unfolding offence_16 source_of
 majors_by_index r resolved =
     let unique = groups_unique r resolved.names in
     ap (λ o. option_or o (tau0_offence (source_of r) r.scheduling.tau0))
-    (sym (first_numbered-map (major_named r) (rules.major_offence (source_of r)) (major_offence r.scheduling.groups r.processor.logical_cpus) (major_in_range r)
+    (sym (first_numbered-map (major_named r) (rules.major_offence (source_of r)) (resolved_major_offence r.scheduling.groups r.processor.logical_cpus) (major_in_range r)
     (λ k m ok. same_major r k m unique ok) 0 r.scheduling.major_frames (parts_in_range r resolved.in_range).majors))

@@ -29,7 +29,7 @@ use Rattle.policy_lawful.specs.declared.view.View.{View}
 use Rattle.policy_lawful.proofs.RegionsByIndex.{maps_at, writes_at}
 use Rattle.policy_lawful.proofs.NameSets.{declared_is}
 use Rattle.policy_rules.specs.Names.{HasAll}
-use Rattle.policy_rules.specs.Writers.{HasUsers, added, fault_at, not_shared, other_among, sharing_fault, stranger_among, user_of, users_fault, users_of, uses_of, with_user}
+use Rattle.policy_rules.specs.Writers.{HasUsers, with_user_if, region_users_fault, not_shared, other_among, sharing_fault, stranger_among, user_of, users_fault, users_of, uses_of, with_user}
 use Rattle.policy_rules.specs.declared.writers.User.{User}
 
 -- ---- searches
@@ -203,19 +203,19 @@ module _ (r : Resolution) (q : IsResolved r) (k : ℕ) (x : Region) (is : slice_
 
 -- ---- all regions
 
-pub writers_by_index : (r : Resolution) (users : List (List User)) → IsResolved r → HasUsers r users r.subjects → first_in (fault_at users) (enumerate_from 0 r.memory) ≡ offence_8 (source_of r)
+pub writers_by_index : (r : Resolution) (users : List (List User)) → IsResolved r → HasUsers r users r.subjects → first_in (region_users_fault users) (enumerate_from 0 r.memory) ≡ offence_8 (source_of r)
 unfolding offence_8 source_of
 writers_by_index r users q has =
-    let one : (k : ℕ) (x : Region) → slice_get r.memory k ≡ Some x → writing_offence (source_of r) x ≡ fault_at users (0 + k, x) = λ k x is.
+    let one : (k : ℕ) (x : Region) → slice_get r.memory k ≡ Some x → writing_offence (source_of r) x ≡ region_users_fault users (0 + k, x) = λ k x is.
     sym (region_named r q k x is)
     ∙ ap (λ us. users_fault us x) (sym (has.at k (slice_get_within r.memory k x is)))
-    ∙ ap (λ i. fault_at users (i, x)) (omega arith) in
-    sym (first_numbered_same (writing_offence (source_of r)) (fault_at users) 0 r.memory one)
+    ∙ ap (λ i. region_users_fault users (i, x)) (omega arith) in
+    sym (first_numbered_same (writing_offence (source_of r)) (region_users_fault users) 0 r.memory one)
 
 -- ---- users, one subject after another
 
 -- one window more
-pub added_is : (old : List User) (b : Bool) (u : User) → added old b u ≡ with_user old (cond b (Some u) None)
+pub added_is : (old : List User) (b : Bool) (u : User) → with_user_if old b u ≡ with_user old (cond b (Some u) None)
 added_is old true u = refl
 added_is old false u = refl
 

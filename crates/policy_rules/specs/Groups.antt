@@ -14,14 +14,14 @@ use Rattle.policy_lawful.specs.declared.resolved.Group.{Group}
 abbrev pub cpu_of_subject : List Subject → ℕ → Option ℕ
 cpu_of_subject subjects index = option_map (λ s. s.cpu) (slice_get subjects index)
 
-abbrev pub is_member : List Subject → ℕ → ℕ → Bool
-is_member subjects cpu index = is_on (cpu_of_subject subjects index) cpu
+abbrev pub is_subject_on_cpu : List Subject → ℕ → ℕ → Bool
+is_subject_on_cpu subjects cpu index = is_on (cpu_of_subject subjects index) cpu
 
-abbrev pub is_group : List Subject → Group → Bool
-is_group subjects g = not (length g.subjects == 0) && list_all (is_member subjects g.cpu) g.subjects
+abbrev pub is_resolved_group : List Subject → Group → Bool
+is_resolved_group subjects g = not (length g.subjects == 0) && list_all (is_subject_on_cpu subjects g.cpu) g.subjects
 
 abbrev pub group_offence : List Subject → Group → Option Offence
-group_offence subjects g = unless (is_group subjects g) (alone g.name)
+group_offence subjects g = unless (is_resolved_group subjects g) (alone g.name)
 
 -- how often an index stands among the members of these groups
 abbrev pub times_in : List Group → ℕ → ℕ
@@ -32,8 +32,8 @@ abbrev pub member_offence : List Group → ℕ × Subject → Option Offence
 member_offence groups (index, s) = unless (times_in groups index == 1) (alone s.name)
 
 -- so many counts are of the members of these groups; counts of 2 and more are alike
-abbrev pub AreTimes : List ℕ → ℕ → List Group → Type 0
-AreTimes times count groups = (k : ℕ) → k < count → min 2 (slice_index times k) ≡ min 2 (times_in groups k)
+abbrev pub AreMemberCounts : List ℕ → ℕ → List Group → Type 0
+AreMemberCounts times count groups = (k : ℕ) → k < count → min 2 (slice_index times k) ≡ min 2 (times_in groups k)
 
 -- the groups, then the subjects
 abbrev pub groups_offence : List Subject → List Group → Option Offence

@@ -43,12 +43,12 @@ names_limit channels components events =
     (at_most (length events + count_by (λ c. is_some c.has_event) channels) MOST_EVENTS (codes "events"))
 
 -- how many MSRs there are in a range, none where it ends before it starts
-abbrev pub msrs_in : Msrs → ℕ
-msrs_in x = (x.end + 1) - x.start
+abbrev pub msr_count_in : Msrs → ℕ
+msr_count_in x = (x.end + 1) - x.start
 
 -- on a subject's windows and MSRs, where it has so many windows
 abbrev pub subject_limit_with : ℕ → Subject → Option Offence
-subject_limit_with windows s = unless (nat_le windows MOST_WINDOWS && nat_le (sum_by msrs_in s.msrs) MOST_MSRS) (alone s.name)
+subject_limit_with windows s = unless (nat_le windows MOST_WINDOWS && nat_le (sum_by msr_count_in s.msrs) MOST_MSRS) (alone s.name)
 
 abbrev pub subject_limit_at : Resolution → Subject → Option Offence
 subject_limit_at r s = subject_limit_with (length (views_of r s)) s
@@ -66,12 +66,12 @@ regions_limit r =
     at_most (length r.memory + length r.channels + sum_by (regions_of_subject r) r.subjects) MOST_REGIONS (codes "memory")
 
 -- on major frames
-abbrev pub major_limit : ℕ × MajorFrame → Option Offence
-major_limit (k, m) = unless (list_all is_short m.cpus) (alone (major_name k))
+abbrev pub resolved_major_limit : ℕ × MajorFrame → Option Offence
+resolved_major_limit (k, m) = unless (list_all is_short m.cpus) (alone (major_name k))
 
 abbrev pub majors_limit : List MajorFrame → Option Offence
 majors_limit majors =
-    option_or (unless (nat_le 1 (length majors) && nat_le (length majors) MOST_MAJOR_FRAMES) (alone (codes "majorFrames"))) (first_in major_limit (enumerate_from 0 majors))
+    option_or (unless (nat_le 1 (length majors) && nat_le (length majors) MOST_MAJOR_FRAMES) (alone (codes "majorFrames"))) (first_in resolved_major_limit (enumerate_from 0 majors))
 
 -- on what is declared before the subjects
 abbrev pub declared_limit : Resolution → Option Offence

@@ -18,34 +18,34 @@ use Rattle.policy_lawful.specs.declared.resolved.MinorFrame.{MinorFrame}
 abbrev pub cpu_of_group : List Group → ℕ → Option ℕ
 cpu_of_group groups index = option_map (λ g. g.cpu) (slice_get groups index)
 
-abbrev pub is_frame : List Group → ℕ → MinorFrame → Bool
-is_frame groups cpu f = nat_lt 0 f.ticks && is_on (cpu_of_group groups f.group) cpu
+abbrev pub is_resolved_frame : List Group → ℕ → MinorFrame → Bool
+is_resolved_frame groups cpu f = nat_lt 0 f.ticks && is_on (cpu_of_group groups f.group) cpu
 
 abbrev pub has_first_ticks : List CpuFrames → CpuFrames → Bool
 has_first_ticks before c = option_map_or (λ b. ticks_in b == ticks_in c) (slice_get before 0) true
 
-abbrev pub is_listed : List CpuFrames → ℕ → Bool
-is_listed cpus cpu = list_any (λ c. c.cpu == cpu) cpus
+abbrev pub is_listed_cpu : List CpuFrames → ℕ → Bool
+is_listed_cpu cpus cpu = list_any (λ c. c.cpu == cpu) cpus
 
-abbrev pub is_entry : List Group → List CpuFrames → CpuFrames → Bool
-is_entry groups before c =
-    not (is_listed before c.cpu)
+abbrev pub is_resolved_major_entry : List Group → List CpuFrames → CpuFrames → Bool
+is_resolved_major_entry groups before c =
+    not (is_listed_cpu before c.cpu)
     && not (length c.minor_frames == 0)
-    && list_all (is_frame groups c.cpu) c.minor_frames
+    && list_all (is_resolved_frame groups c.cpu) c.minor_frames
     && has_first_ticks before c
 
-abbrev pub entry_offence : List Group → ℕ → List CpuFrames → CpuFrames → Option Offence
-entry_offence groups k before c = unless (is_entry groups before c) (two (major_name k) (cpu_name c.cpu))
+abbrev pub cpu_frames_offence : List Group → ℕ → List CpuFrames → CpuFrames → Option Offence
+cpu_frames_offence groups k before c = unless (is_resolved_major_entry groups before c) (two (major_name k) (cpu_name c.cpu))
 
 abbrev pub missing_offence : List CpuFrames → ℕ → ℕ → Option Offence
-missing_offence cpus k cpu = unless (is_listed cpus cpu) (two (major_name k) (cpu_name cpu))
+missing_offence cpus k cpu = unless (is_listed_cpu cpus cpu) (two (major_name k) (cpu_name cpu))
 
 -- the listed entries, then the CPUs that aren't named
-abbrev pub major_offence : List Group → ℕ → ℕ × MajorFrame → Option Offence
-major_offence groups count (k, m) =
-    option_or (first_after (entry_offence groups k) [] m.cpus) (first_in (missing_offence m.cpus k) (numbers_below count))
+abbrev pub resolved_major_offence : List Group → ℕ → ℕ × MajorFrame → Option Offence
+resolved_major_offence groups count (k, m) =
+    option_or (first_after (cpu_frames_offence groups k) [] m.cpus) (first_in (missing_offence m.cpus k) (numbers_below count))
 
 -- the first of any major frame
 abbrev pub frames_offence : Resolution → Option Offence
 frames_offence r =
-    first_in (major_offence r.scheduling.groups r.processor.logical_cpus) (enumerate_from 0 r.scheduling.major_frames)
+    first_in (resolved_major_offence r.scheduling.groups r.processor.logical_cpus) (enumerate_from 0 r.scheduling.major_frames)

@@ -32,9 +32,9 @@ abbrev pub users_of : Resolution → ℕ → List Subject → List User
 users_of r index subjects = flat_map (uses_of r index) subjects
 
 -- a list that has one more, or not
-abbrev pub added : List User → Bool → User → List User
-added old false u = old
-added old true u = old ++ u ∷ []
+abbrev pub with_user_if : List User → Bool → User → List User
+with_user_if old false u = old
+with_user_if old true u = old ++ u ∷ []
 
 -- a list that has this one more, if there is one
 abbrev pub with_user : List User → Option User → List User
@@ -74,5 +74,5 @@ users_fault users x =
     if length x.shared_memory == 0 then other_among users x.name (find (λ u. u.writes) users) else sharing_fault users x
 
 -- of a region with its index
-abbrev pub fault_at : List (List User) → ℕ × Region → Option Offence
-fault_at users (index, x) = users_fault (slice_index_or users index []) x
+abbrev pub region_users_fault : List (List User) → ℕ × Region → Option Offence
+region_users_fault users (index, x) = users_fault (slice_index_or users index []) x

@@ -5,7 +5,7 @@ ghost use Rattle.muen_num.specs.Search.{first_in};
 ghost use Rattle.policy_lawful.specs.Rules.{offence_17};
 ghost use Rattle.policy_lawful.specs.Resolution.{source_of};
 ghost use Rattle.policy_lawful.specs.Counts.{Adds};
-ghost use Rattle.policy_rules.specs.Groups.{is_member, is_group, group_offence, times_in, AreTimes, groups_offence, counted_offence};
+ghost use Rattle.policy_rules.specs.Groups.{is_subject_on_cpu, is_resolved_group, group_offence, times_in, AreMemberCounts, groups_offence, counted_offence};
 
 use muen_num::{NoMemory, first, first_numbered};
 use policy_lawful::resolved::{Group, Subject};
@@ -15,7 +15,7 @@ use std::alloc::{AllocError, Global};
 
 // Whether the subject at an index is on this CPU.
 fn is_member(subjects: &[Subject], cpu: u64, index: usize) -> bool
-    ensures { result ≡ is_member subjects.now cpu index }
+    ensures { result ≡ is_subject_on_cpu subjects.now cpu index }
 {
     match subjects.get(index) {
         None => false,
@@ -24,14 +24,14 @@ fn is_member(subjects: &[Subject], cpu: u64, index: usize) -> bool
 }
 
 fn are_members(subjects: &[Subject], cpu: u64, indexes: &[usize]) -> bool
-    ensures { result ≡ list_all (is_member subjects.now cpu) indexes.now }
+    ensures { result ≡ list_all (is_subject_on_cpu subjects.now cpu) indexes.now }
 {
     indexes.iter().all(|index| is_member(subjects, cpu, *index))
 }
 
 // It has members, and all are on its CPU.
 fn is_group(subjects: &[Subject], group: &Group) -> bool
-    ensures { result ≡ is_group subjects.now group.now }
+    ensures { result ≡ is_resolved_group subjects.now group.now }
 {
     !group.subjects.is_empty() && are_members(subjects, group.cpu, group.subjects.items())
 }
@@ -57,7 +57,7 @@ fn count_members(groups: &[Group], counts: &mut Counts)
 
 // How often each of so many indexes stands among the members of the groups.
 fn times_of(alloc: Global, groups: &[Group], count: usize) -> Result<Counts, AllocError>
-    ensures { IfOk result (λ counts. AreTimes counts count groups.now) }
+    ensures { IfOk result (λ counts. AreMemberCounts counts count groups.now) }
 {
     let mut counts = Counts::zeros(alloc, count)?;
     count_members(groups, &mut counts);

@@ -5,7 +5,7 @@ ghost use Rattle.muen_num.specs.Search.{first_in};
 ghost use Rattle.policy_lawful.specs.Resolution.{source_of};
 ghost use Rattle.policy_lawful.specs.Rules.{device_limit, offence_20};
 ghost use Rattle.policy_lawful.specs.ByIndex.{is_short};
-ghost use Rattle.policy_rules.specs.Limits.{blocks_limit, declared_limit, device_memory_limit, devices_limit, major_limit, majors_limit, msrs_in, name_limit, names_limit, regions_limit, regions_of_subject, subject_limit_at, subject_limit_with, subjects_limit};
+ghost use Rattle.policy_rules.specs.Limits.{blocks_limit, declared_limit, device_memory_limit, devices_limit, resolved_major_limit, majors_limit, msr_count_in, name_limit, names_limit, regions_limit, regions_of_subject, subject_limit_at, subject_limit_with, subjects_limit};
 
 use crate::keys::Key;
 use muen_num::limits::{
@@ -140,7 +140,7 @@ fn of_declared(alloc: Global, policy: &Linked) -> Result<Option<Offence>, NoMemo
 // ---- subjects
 
 fn msrs_in(range: &Msrs) -> u128
-    ensures value { result ≡ msrs_in range.now }
+    ensures value { result ≡ msr_count_in range.now }
     ensures room { result ≤ 2 ^ 64 }
 {
     (u128::from(range.end) + 1).saturating_sub(u128::from(range.start))
@@ -148,7 +148,7 @@ fn msrs_in(range: &Msrs) -> u128
 
 // All MSRs of these ranges.
 fn msrs(ranges: &[Msrs]) -> u128
-    ensures { result ≡ sum_by msrs_in ranges.now }
+    ensures { result ≡ sum_by msr_count_in ranges.now }
 {
     let mut total = 0;
     for range in ranges {
@@ -238,7 +238,7 @@ fn are_short(entries: &[CpuFrames]) -> bool
 
 // The first major frame that is too long.
 fn frames(majors: &[MajorFrame]) -> Option<Offence>
-    ensures { result ≡ first_in major_limit (enumerate_from 0 majors.now) }
+    ensures { result ≡ first_in resolved_major_limit (enumerate_from 0 majors.now) }
 {
     first_numbered(majors, |index, major| {
         Offence::alone(major_name(index)).unless(are_short(major.cpus.items()))

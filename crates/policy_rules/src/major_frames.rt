@@ -8,7 +8,7 @@ ghost use Rattle.muen_num.specs.Search.{first_in, first_after};
 ghost use Rattle.policy_lawful.specs.Offences.{two};
 ghost use Rattle.policy_lawful.specs.Rules.{major_name, cpu_name, is_on, offence_16, tau0_offence};
 ghost use Rattle.policy_lawful.specs.Resolution.{IsResolved, source_of};
-ghost use Rattle.policy_rules.specs.Majors.{cpu_of_group, is_frame, has_first_ticks, is_listed, is_entry, entry_offence, missing_offence, major_offence, frames_offence};
+ghost use Rattle.policy_rules.specs.Majors.{cpu_of_group, is_resolved_frame, has_first_ticks, is_listed_cpu, is_resolved_major_entry, cpu_frames_offence, missing_offence, resolved_major_offence, frames_offence};
 
 use crate::tau0::tau0;
 use muen_num::first_numbered;
@@ -29,13 +29,13 @@ fn is_on(groups: &[Group], index: usize, cpu: u64) -> bool
 
 // A minor frame of this CPU: it has ticks, and its group is on the CPU.
 fn is_frame(groups: &[Group], cpu: u64, frame: &MinorFrame) -> bool
-    ensures { result ≡ is_frame groups.now cpu frame.now }
+    ensures { result ≡ is_resolved_frame groups.now cpu frame.now }
 {
     0 < frame.ticks && is_on(groups, frame.group, cpu)
 }
 
 fn are_frames(groups: &[Group], cpu: u64, frames: &[MinorFrame]) -> bool
-    ensures { result ≡ list_all (is_frame groups.now cpu) frames.now }
+    ensures { result ≡ list_all (is_resolved_frame groups.now cpu) frames.now }
 {
     frames.iter().all(|frame| is_frame(groups, cpu, frame))
 }
@@ -51,7 +51,7 @@ fn has_first_ticks(before: &[CpuFrames], entry: &CpuFrames) -> bool
 }
 
 fn is_listed(cpus: &[CpuFrames], cpu: u64) -> bool
-    ensures { result ≡ is_listed cpus.now cpu }
+    ensures { result ≡ is_listed_cpu cpus.now cpu }
 {
     cpus.iter().any(|entry| entry.cpu == cpu)
 }
@@ -59,7 +59,7 @@ fn is_listed(cpus: &[CpuFrames], cpu: u64) -> bool
 // An entry behind these: its CPU isn't among theirs; it has a minor frame; each is one of its CPU;
 // its ticks are those of the first entry.
 fn is_entry(groups: &[Group], before: &[CpuFrames], entry: &CpuFrames) -> bool
-    ensures { result ≡ is_entry groups.now before.now entry.now }
+    ensures { result ≡ is_resolved_major_entry groups.now before.now entry.now }
 {
     !is_listed(before, entry.cpu)
         && !entry.minor_frames.is_empty()
@@ -79,7 +79,7 @@ fn at_cpu(index: usize, cpu: u64) -> Offence
 // The first entry that offends. Each is held against those before it, which are of different CPUs,
 // so with CPUs below 8 at most nine are looked at.
 fn first_entry(groups: &[Group], index: usize, cpus: &[CpuFrames]) -> Option<Offence>
-    ensures { result ≡ first_after (entry_offence groups.now index) [] cpus.now }
+    ensures { result ≡ first_after (cpu_frames_offence groups.now index) [] cpus.now }
 {
     for (i, entry) in cpus.iter().enumerate() {
         if !is_entry(groups, &cpus[..i], entry) {
@@ -105,14 +105,14 @@ fn first_missing(cpus: &[CpuFrames], index: usize, count: u64) -> Option<Offence
 // Of a major frame and its index: the first entry that offends, else the first CPU that isn't
 // listed.
 fn of_entries(groups: &[Group], count: u64, index: usize, cpus: &[CpuFrames]) -> Option<Offence>
-    ensures { result ≡ option_or (first_after (entry_offence groups.now index) [] cpus.now) (first_in (missing_offence cpus.now index) (numbers_below count)) }
+    ensures { result ≡ option_or (first_after (cpu_frames_offence groups.now index) [] cpus.now) (first_in (missing_offence cpus.now index) (numbers_below count)) }
 {
     first_entry(groups, index, cpus).or_else(|| first_missing(cpus, index, count))
 }
 
 // The first such offence of all major frames, for so many CPUs.
 fn of_majors(groups: &[Group], count: u64, majors: &[MajorFrame]) -> Option<Offence>
-    ensures { result ≡ first_in (major_offence groups.now count) (enumerate_from 0 majors.now) }
+    ensures { result ≡ first_in (resolved_major_offence groups.now count) (enumerate_from 0 majors.now) }
 {
     first_numbered(
         majors,

@@ -7,7 +7,7 @@ ghost use Rattle.std.specs.Str.{bytes_eq};
 ghost use Rattle.policy_lawful.specs.Offences.{two};
 ghost use Rattle.policy_lawful.specs.Rules.{offence_8};
 ghost use Rattle.policy_rules.specs.Names.{HasAll};
-ghost use Rattle.policy_rules.specs.Writers.{HasUsers, added, fault_at, not_shared, other_among, sharing_fault, stranger_among, user_of, users_fault, with_user};
+ghost use Rattle.policy_rules.specs.Writers.{HasUsers, with_user_if, region_users_fault, not_shared, other_among, sharing_fault, stranger_among, user_of, users_fault, with_user};
 
 use muen_num::{AccessKind, Name, NoMemory, Seq};
 use policy_lawful::source::Region;
@@ -26,7 +26,7 @@ struct User {
 
 // Notes a user at a region's index, where that is there.
 fn note(users: &mut [Seq<User>], index: usize, user: User) -> Result<(), NoMemory>
-    ensures { OnOk result ((k : ℕ) → k < length users.old → slice_index_or users.new k [] ≡ added (slice_index_or users.old k []) (index == k) user) }
+    ensures { OnOk result ((k : ℕ) → k < length users.old → slice_index_or users.new k [] ≡ with_user_if (slice_index_or users.old k []) (index == k) user) }
 {
     if index < users.len() {
         users[index].push(user)?;
@@ -211,7 +211,7 @@ fn of_regions(
     users: &[Seq<User>],
 ) -> Result<Option<Offence>, NoMemory>
     requires { length users.now ≡ length regions.now }
-    ensures { IfOk result (λ o. o ≡ first_in (fault_at users.now) (enumerate_from 0 regions.now)) }
+    ensures { IfOk result (λ o. o ≡ first_in (region_users_fault users.now) (enumerate_from 0 regions.now)) }
 {
     for (index, region) in regions.iter().enumerate() {
         if let Some(offence) = of_region(alloc, region, users[index].items())? {

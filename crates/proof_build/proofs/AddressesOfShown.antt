@@ -7,7 +7,7 @@ use Rattle.std.proofs.lemmas.Bool.{and_parts, eqb-true}
 use Rattle.std.proofs.lemmas.List.Elements.{All-map}
 use Rattle.std.proofs.lemmas.Option.{slice_get-map}
 use Rattle.ept_emit.specs.declared.window.Window.{Window}
-use Rattle.ept_emit.specs.Emitted.{HasAddresses}
+use Rattle.ept_emit.specs.Emitted.{HasWindowPages}
 use Rattle.expand_kernel.specs.Grants.{AreGrantsOf}
 use Rattle.expand_kernel.specs.granted.Grants.{Grants}
 use Rattle.policy_lawful.specs.ByIndex.{provided_at, memories_of}
@@ -144,7 +144,7 @@ module _ (m : Made) (h : IsMade m) where
       let range = and_parts (is_page_aligned guest) (is_page_size size) both.0 in
       eqb-true (size % 4096) 0 (and_parts (is_page_aligned size) (nat_lt 0 size) range.1).0
 
-  pub has_addresses : (k : ℕ) (s : Subject) (g : Grants) → slice_get (policy_of m).subjects k ≡ Some s → AreGrantsOf (policy_of m) s g → HasAddresses (memory_of (image_of m)) (mapped_windows m.placed k g)
+  pub has_addresses : (k : ℕ) (s : Subject) (g : Grants) → slice_get (policy_of m).subjects k ≡ Some s → AreGrantsOf (policy_of m) s g → HasWindowPages (memory_of (image_of m)) (mapped_windows m.placed k g)
   has_addresses k s g at granted =
       let shown = granted_shown (policy_of m) k s g at granted in
       let guests = guests_granted (policy_of m) h.lawful h.resolved k s g at granted in

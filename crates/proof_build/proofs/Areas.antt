@@ -11,7 +11,7 @@ use Rattle.std.proofs.lemmas.List.Concat.{flat_map-append}
 use Rattle.std.proofs.lemmas.List.Elements.{All-append, All-map, All-nil}
 use Rattle.std.proofs.lemmas.List.Sorted.{IsPermutation-refl}
 use Rattle.std.proofs.lemmas.Option.{get_or_from_slice_get, slice_get_within}
-use Rattle.expand_kernel.specs.Resources.{Msr, msr_grant, msrs_in, msrs_of}
+use Rattle.expand_kernel.specs.Resources.{Msr, msr_grant, each_msr_in, msrs_of}
 use Rattle.image_emit.specs.Made.{IsMade, Made, image_of, policy_of}
 use Rattle.image_emit.proofs.AtIndexes.{looked_up}
 use Rattle.image_emit.proofs.BySubject.{each_subject}
@@ -20,7 +20,7 @@ use Rattle.image_soundness.specs.Memory.{bytes_at}
 use Rattle.image_soundness.specs.Sound.{ForEachSubject, HasArea}
 use Rattle.machine_layout.proofs.AreaLaws.{areas_are_read_back}
 use Rattle.machine_layout.specs.Exits.{AreaEntry, area_bytes, area_index, area_value, entry_bytes}
-use Rattle.subject_emit.specs.Area.{area_of, count_of, entries_of, entry_of, size_of}
+use Rattle.subject_emit.specs.Area.{area_of, msr_count, grant_area_entries, zero_area_entry, size_of}
 use Rattle.subject_emit.specs.Msrs.{is_covered}
 use Rattle.muen_num.proofs.Lists.{map-map}
 use Rattle.muen_num.proofs.NumbersBelow.{length_numbers, same_below}
@@ -70,29 +70,29 @@ small m k covered l =
     omega (arith, most, l)
 
 indices_of : (ms : List MsrGrant) → list_all is_covered ms ≡ true → map (λ (e : AreaEntry). e.index % 2 ^ 32) (area_of ms) ≡ flat_map (λ (m : MsrGrant). map (λ k. m.start + k) (numbers_below (m.end + 1 - m.start))) ms
-unfolding area_of entries_of
+unfolding area_of grant_area_entries
 indices_of [] h = refl
 indices_of (m ∷ ms) h =
     let both = and_parts (is_covered m) (list_all is_covered ms) h in
-    let own = λ (k : ℕ). entry_of (m.start + k) in
+    let own = λ (k : ℕ). zero_area_entry (m.start + k) in
     let n : ℕ = m.end + 1 - m.start in
     map-append (λ (e : AreaEntry). e.index % 2 ^ 32) (map own (numbers_below n)) (area_of ms)
     ∙ ap₂ (λ a b. a ++ b)
     (map-map (λ (e : AreaEntry). e.index % 2 ^ 32) own (numbers_below n) ∙ same_below (λ k. (m.start + k) % 2 ^ 32) (λ k. m.start + k) n (λ k l. small m k both.0 l))
     (indices_of ms both.1)
 
-indices_in : (xs : List Msrs) → map (λ (m : Msr). m.index) (flat_map msrs_in xs) ≡ flat_map (λ (m : MsrGrant). map (λ k. m.start + k) (numbers_below (m.end + 1 - m.start))) (map msr_grant xs)
+indices_in : (xs : List Msrs) → map (λ (m : Msr). m.index) (flat_map each_msr_in xs) ≡ flat_map (λ (m : MsrGrant). map (λ k. m.start + k) (numbers_below (m.end + 1 - m.start))) (map msr_grant xs)
 indices_in [] = refl
 indices_in (x ∷ xs) =
-    map-append (λ (m : Msr). m.index) (msrs_in x) (flat_map msrs_in xs)
+    map-append (λ (m : Msr). m.index) (each_msr_in x) (flat_map each_msr_in xs)
     ∙ ap₂ (λ a b. a ++ b) (map-map (λ (m : Msr). m.index) _ (numbers_below (x.end + 1 - x.start))) (indices_in xs)
 
 all_zero : (ms : List MsrGrant) → All (λ (e : AreaEntry). e.value ≡ 0) (area_of ms)
-unfolding area_of entries_of
+unfolding area_of grant_area_entries
 all_zero [] = All-nil (λ (e : AreaEntry). e.value ≡ 0)
 all_zero (m ∷ ms) =
-    All-append (λ (e : AreaEntry). e.value ≡ 0) (entries_of m) (area_of ms)
-    (All-map (λ (e : AreaEntry). e.value ≡ 0) (λ k. entry_of (m.start + k)) (numbers_below (size_of m)) (λ i d l. refl))
+    All-append (λ (e : AreaEntry). e.value ≡ 0) (grant_area_entries m) (area_of ms)
+    (All-map (λ (e : AreaEntry). e.value ≡ 0) (λ k. zero_area_entry (m.start + k)) (numbers_below (size_of m)) (λ i d l. refl))
     (all_zero ms)
 
 -- ---- of a subject
@@ -105,7 +105,7 @@ module _ (r : Resolution) (s : Subject) (ms : List MsrGrant) (bytes : List ℕ) 
   unfolding padded zeros_behind
   area_is = held
 
-  indices : map (area_index bytes) (numbers_below (count_of ms)) ≡ map (λ (m : Msr). m.index) (msrs_of (subject_named r s))
+  indices : map (area_index bytes) (numbers_below (msr_count ms)) ≡ map (λ (m : Msr). m.index) (msrs_of (subject_named r s))
   unfolding msrs_of
   indices =
       (λ i. map (area_index (area_is i)) (numbers_below (sym (length-area_of ms) i)))
@@ -116,19 +116,19 @@ module _ (r : Resolution) (s : Subject) (ms : List MsrGrant) (bytes : List ℕ) 
       ∙ sym (indices_in s.msrs)
 
   -- there are as many
-  many : count_of ms ≡ length (msrs_of (subject_named r s))
+  many : msr_count ms ≡ length (msrs_of (subject_named r s))
   many =
-      sym (length_numbers (count_of ms))
-      ∙ sym (length-map (numbers_below (count_of ms)) (area_index bytes))
+      sym (length_numbers (msr_count ms))
+      ∙ sym (length-map (numbers_below (msr_count ms)) (area_index bytes))
       ∙ ap length indices
       ∙ length-map (msrs_of (subject_named r s)) (λ (m : Msr). m.index)
 
-  zero_at : (n : ℕ) → n < count_of ms → area_value bytes n ≡ 0
+  zero_at : (n : ℕ) → n < msr_count ms → area_value bytes n ≡ 0
   zero_at n l =
       let within : n < length (area_of ms) = omega (arith, l, length-area_of ms) in
       ap (λ (b : List ℕ). area_value b n) area_is
-      ∙ value_read (area_of ms) zeros_behind n (entry_of 0) within
-      ∙ ap (λ v. v % 2 ^ 64) (all_zero ms n (entry_of 0) within)
+      ∙ value_read (area_of ms) zeros_behind n (zero_area_entry 0) within
+      ∙ ap (λ v. v % 2 ^ 64) (all_zero ms n (zero_area_entry 0) within)
 
 pub areas : (m : Made) → IsMade m → ForEachSubject (source_of (policy_of m)) (image_of m) (HasArea (image_of m))
 areas m h =
@@ -139,7 +139,7 @@ areas m h =
     let held : bytes ≡ padded PAGE (area_bytes (area_of g.msrs)) = kernel_bytes_at m h k s g t q at 4 PAGE MsrsPart q.area refl refl ∙ at.pages.area in
     let covered = msrs_covered r k s g at.subject at.grants (rules_of h.lawful).rule_11 in
     let msrs = at.grants.msrs in
-    let same : map (λ (m : Msr). m.index) (msrs_of (subject_named r s)) ≡ map (area_index bytes) (numbers_below (count_of g.msrs)) = sym (indices r s g.msrs bytes msrs covered held) in
+    let same : map (λ (m : Msr). m.index) (msrs_of (subject_named r s)) ≡ map (area_index bytes) (numbers_below (msr_count g.msrs)) = sym (indices r s g.msrs bytes msrs covered held) in
     record {
       many = many r s g.msrs bytes msrs covered held;
       each = subst (IsPermutation (map (λ (m : Msr). m.index) (msrs_of (subject_named r s)))) same (IsPermutation-refl (map (λ (m : Msr). m.index) (msrs_of (subject_named r s))));

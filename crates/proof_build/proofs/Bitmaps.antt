@@ -6,7 +6,7 @@ use Rattle.std.proofs.lemmas.Bool.{cases_Bool, leb-true, lt-ltb}
 use Rattle.std.proofs.lemmas.Bool.Decides.{nat_tests}
 use Rattle.std.proofs.lemmas.List.{take_all}
 use Rattle.std.proofs.lemmas.List.Folds.{list_all-append, list_any-append}
-use Rattle.expand_kernel.specs.Resources.{Msr, are_granted, is_granted, msr_grant, msrs_in, msrs_of, port_ranges_of, ports_of}
+use Rattle.expand_kernel.specs.Resources.{Msr, are_granted, is_granted, msr_grant, each_msr_in, msrs_of, port_ranges_of, ports_of}
 use Rattle.expand_kernel.proofs.GrantedMsrs.{msr_granted}
 use Rattle.image_emit.specs.Made.{IsMade, Made, image_of, policy_of}
 use Rattle.image_emit.proofs.BySubject.{each_subject}

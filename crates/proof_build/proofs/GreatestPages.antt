@@ -13,7 +13,7 @@ use Rattle.ept_emit.specs.Emitted.{IsGreatestSize, eptp_of}
 use Rattle.ept_emit.specs.Entries.{level_of}
 use Rattle.ept_emit.proofs.Walked.{level_low}
 use Rattle.event_emit.specs.declared.event_tables.EventTables.{EventTables}
-use Rattle.expand_kernel.specs.Grants.{is_lower}
+use Rattle.expand_kernel.specs.Grants.{is_lower_view}
 use Rattle.expand_kernel.specs.granted.Grants.{Grants}
 use Rattle.expand_kernel.proofs.Ordered.{in_order_permutes}
 use Rattle.proof_build.specs.Built.{HasGreatestPages, IsGreatestPage}
@@ -75,7 +75,7 @@ module _ (m : Made) (h : IsMade m) (k : ℕ) (s : Subject) (g : Grants) (t : Eve
   whole : (v : View) → Contains (views_of (policy_of m) s) v → (v.guest % 4096 ≡ 0) × (shown_address m.placed k v.shows % 4096 ≡ 0)
   whole v among =
       let views = views_of (policy_of m) s in
-      let moved : IsPermutation views g.views = subst (IsPermutation views) (sym at.grants.views) (in_order_permutes is_lower views) in
+      let moved : IsPermutation views g.views = subst (IsPermutation views) (sym at.grants.views) (in_order_permutes is_lower_view views) in
       let here : Contains g.views v = Contains-permutation views g.views v moved among in
       let guest = All-contains (λ (v : View). is_guest v.guest v.size ≡ true) g.views v (guests_granted (policy_of m) h.lawful h.resolved k s g at.subject at.grants) here in
       let shown = All-contains (IsShown (policy_of m) k) g.views v (granted_shown (policy_of m) k s g at.subject at.grants) here in

@@ -18,7 +18,7 @@ use Rattle.image_pack.specs.declared.parts.SpanPart.{SpanPart}
 use Rattle.machine_layout.specs.Memory.{page_of}
 use Rattle.muen_num.proofs.Lists.{map-map, there}
 use Rattle.muen_num.specs.declared.limits.TheConstants.{PAGE}
-use Rattle.image_soundness.specs.Spans.{AreSpans, IsSpan, pages_of_spans}
+use Rattle.image_soundness.specs.Spans.{AreSpans, IsMemorySpan, pages_of_spans}
 use Rattle.image_soundness.specs.spans.MemorySpan.{MemorySpan}
 use Rattle.span_emit.specs.SpansOf.{spans_of}
 
@@ -39,7 +39,7 @@ module _ (m : Made) (h : IsMade m) where
 
   are_spans : AreSpans (map with_bytes m.spans)
   are_spans = record {
-    each = All-map IsSpan with_bytes m.spans (λ k d l.
+    each = All-map IsMemorySpan with_bytes m.spans (λ k d l.
         let s = get_or m.spans k d in
         let is : IsImageSpan s = h.spans.each k d l in
         let long = long_at k d l in

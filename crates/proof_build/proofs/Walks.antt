@@ -6,7 +6,7 @@ use Rattle.std.specs.List.Sorted.{IsPermutation}
 use Rattle.std.proofs.lemmas.List.Sorted.{IsPermutation-map}
 use Rattle.std.proofs.lemmas.Option.{get_or_from_slice_get, slice_get_within}
 use Rattle.ept_emit.specs.Emitted.{holds as is_in, translation, translation_in, window_at}
-use Rattle.expand_kernel.specs.Grants.{AreGrantsOf, is_lower}
+use Rattle.expand_kernel.specs.Grants.{AreGrantsOf, is_lower_view}
 use Rattle.expand_kernel.specs.granted.Grants.{Grants}
 use Rattle.expand_kernel.proofs.Ordered.{in_order_permutes}
 use Rattle.expand_kernel.specs.ByIndex.{CanMap}
@@ -52,7 +52,7 @@ module _ (m : Made) (h : IsMade m) (k : ℕ) (s : Subject) (g : Grants) (at : sl
   -- the window that tables map is that which the policy grants
   pub mapped_at : (addr : ℕ) → window_at (mapped_windows m.placed k g) addr ≡ option_map (mapped m.placed k) (find (on_view addr) views)
   mapped_at addr =
-      let moved : IsPermutation views g.views = subst (IsPermutation views) (sym granted.views) (in_order_permutes is_lower views) in
+      let moved : IsPermutation views g.views = subst (IsPermutation views) (sym granted.views) (in_order_permutes is_lower_view views) in
       sym (found_permuted (is_in addr) (map (mapped m.placed k) views) (mapped_windows m.placed k g) (IsPermutation-map (mapped m.placed k) views g.views moved) (once addr))
       ∙ find-map (is_in addr) (mapped m.placed k) views
 

@@ -5,7 +5,7 @@ use Rattle.std.specs.Option.{option_map_or}
 use Rattle.std.specs.Str.{bytes_eq}
 use Rattle.std.proofs.lemmas.Bool.{false≢true}
 use Rattle.std.proofs.lemmas.Option.{get_or_from_slice_get}
-use Rattle.dma_emit.specs.Domains.{place_of as region_place}
+use Rattle.dma_emit.specs.Domains.{region_address_of as region_place}
 use Rattle.dma_emit.specs.Reached.{placed_at}
 use Rattle.dma_tables.proofs.PartsKeep.{parts_keep}
 use Rattle.dma_tables.specs.ImageConditions.{KeepsConditions}
@@ -21,7 +21,7 @@ use Rattle.policy_lawful.specs.source.Region.{Region}
 use Rattle.policy_lawful.specs.source.Source.{Source}
 use Rattle.proof_build.specs.Built.{HasSpans}
 use Rattle.proof_runs.proofs.DomainWindows.{lands}
-use Rattle.proof_runs.specs.Fit.{place_of}
+use Rattle.proof_runs.specs.Fit.{access_address_of}
 use Rattle.dma_emit.specs.Placed.{IsPlaced, Placement}
 use Rattle.proof_domains.proofs.Places.{placed_there}
 use Rattle.muen_num.proofs.Lookups.{at_position, found_number}
@@ -40,7 +40,7 @@ module _ (x : Placement) (placed : IsPlaced x) (files : Held) (i : Image) (keeps
       by (Some k) e = get_or_from_slice_get x.addresses k (address_of p i (region r.name)) 0 (placed_there x placed files i keeps sound spans k r (at_position (λ s. bytes_eq s.name r.name) p.memory k e ∙ found))
       by None e = absurd (false≢true (ap is_some (sym e) ∙ (found_number (λ s. bytes_eq s.name r.name) p.memory ∙ ap is_some found)))
 
-  same_place : (device : List ℕ) (addr : ℕ) (a : Access Thing) → dma_access p device addr Write ≡ a → placed_at x a ≡ place_of (address_of p i) a
+  same_place : (device : List ℕ) (addr : ℕ) (a : Access Thing) → dma_access p device addr Write ≡ a → placed_at x a ≡ access_address_of (address_of p i) a
   same_place device addr (violation found) e = refl
   same_place device addr (byte (region name) offset) e =
       let l = lands p files i keeps sound device addr Write (region name) offset e in

@@ -1,7 +1,7 @@
 -- The law: tables that are emitted for the domains of devices fit the images that are built.
 use Rattle.std.specs.Prelude.{◌≡◌, ℕ, List, Some, true}
 use Rattle.dma_emit.specs.Placed.{IsPlaced, Placement}
-use Rattle.dma_emit.specs.Reached.{kind_of, placed_at}
+use Rattle.dma_emit.specs.Reached.{device_access_kind, placed_at}
 use Rattle.dma_tables.specs.DmaWalk.{dma_walk}
 use Rattle.dma_tables.specs.declared.file.DmaFile.{DmaFile}
 use Rattle.dma_tables.specs.parts.Image.{Image}
@@ -19,5 +19,5 @@ EmittedTablesFit =
     (x : Placement) (files : Held) (i : Image) (t : DmaFile)
     → IsPlaced x → IsSound (source_of x.expanded.lawful) files i → HasSpans (source_of x.expanded.lawful) i
     → ((device : List ℕ) (addr : ℕ)
-    → dma_walk t device addr true ≡ placed_at x (dma_access (source_of x.expanded.lawful) device addr (kind_of true)))
+    → dma_walk t device addr true ≡ placed_at x (dma_access (source_of x.expanded.lawful) device addr (device_access_kind true)))
     → Fit (source_of x.expanded.lawful) i (Some t)

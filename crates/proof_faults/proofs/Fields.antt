@@ -7,7 +7,7 @@ use Rattle.std.proofs.lemmas.List.{length-append, length-drop, take-append-drop}
 use Rattle.binary_form.specs.declared.fault.Field.{Field}
 use Rattle.binary_form.specs.declared.fault.FormFault.{FormFault}
 use Rattle.binary_form.specs.declared.fault.FormFault.TheVariants.{Short, Bad}
-use Rattle.binary_form.specs.Form.{◌>>=◌, Form, absent, byte, byte_at, bytes_of, bytes_at, coded, coded_at, coded_in, done, each, each_at, either, field, gap, gap_at, items, items_at, left_of, number, number_at, only, present}
+use Rattle.binary_form.specs.Form.{◌>>=◌, Form, absent_value, byte, byte_at, fixed_bytes, bytes_at, coded, coded_at, coded_in, done, each, each_at, either, field, gap, gap_at, items, items_at, fault_bytes_left, number, number_at, only, present}
 use Rattle.binary_form.proofs.Leaves.{coded_stays, err_is, ok_is, ok_not_err}
 use Rattle.proof_faults.proofs.Readers.{HasMore, IsAmong, IsLocal, Reader, given, given_local, same_local, then, then_local}
 
@@ -42,7 +42,7 @@ in_not_short title left behind (Some y) s h = absurd cc
 short_is : {A : Type 0} (n : ℕ) (decode : List ℕ → Option A) (name : Field) (bytes : List ℕ) (s : ℕ) → coded_at n decode name bytes ≡ Err (Short s) → (length bytes < n) × (s ≡ length bytes)
 short_is {A} n decode title bytes s e =
     elim (cases_lt (length bytes) n) [
-      | inl lt ↦ (lt, ap left_of (err_is {A = A × List ℕ} (Short s) (Short (length bytes)) (sym e ∙ coded_short n decode title bytes lt)))
+      | inl lt ↦ (lt, ap fault_bytes_left (err_is {A = A × List ℕ} (Short s) (Short (length bytes)) (sym e ∙ coded_short n decode title bytes lt)))
       | inr le ↦ absurd (in_not_short title (length bytes) (drop n bytes) (decode (take n bytes)) s (sym (coded_long n decode title bytes le) ∙ e))
     ]
 
@@ -54,17 +54,17 @@ coded_parts n decode title bytes x rest e =
     ]
 
 coded_err : {A : Type 0} (room : Field → ℕ) (n : ℕ) (decode : List ℕ → Option A) (name : Field) → Suits room n decode name → (bytes : List ℕ) (e : FormFault) → coded_at n decode name bytes ≡ Err e
-    → (left_of e ≡ length bytes) × IsAmong (length bytes) e × ((s : ℕ) → s < n → HasMore room s e)
+    → (fault_bytes_left e ≡ length bytes) × IsAmong (length bytes) e × ((s : ℕ) → s < n → HasMore room s e)
 coded_err {A} room n decode title suits bytes e h =
     elim (cases_lt (length bytes) n) [
       | inl lt ↦
-          subst (λ d. (left_of d ≡ length bytes) × IsAmong (length bytes) d × ((s : ℕ) → s < n → HasMore room s d))
+          subst (λ d. (fault_bytes_left d ≡ length bytes) × IsAmong (length bytes) d × ((s : ℕ) → s < n → HasMore room s d))
           (err_is {A = A × List ℕ} (Short (length bytes)) e (sym (coded_short n decode title bytes lt) ∙ h))
           (refl, omega arith, λ s low. tt)
       | inr le ↦
           let f = in_err title (length bytes) (drop n bytes) (decode (take n bytes)) e (sym (coded_long n decode title bytes le) ∙ h) in
           let fit = suits (take n bytes) f.0 in
-          subst (λ d. (left_of d ≡ length bytes) × IsAmong (length bytes) d × ((s : ℕ) → s < n → HasMore room s d)) (sym f.1)
+          subst (λ d. (fault_bytes_left d ≡ length bytes) × IsAmong (length bytes) d × ((s : ℕ) → s < n → HasMore room s d)) (sym f.1)
           (refl, (omega (arith, fit.0, le), omega arith), λ s low. omega (arith, low, fit.1))
     ]
 
@@ -153,8 +153,8 @@ number_local room w = same_local room (number_at w) (coded_at (byte_len w) (λ t
 pub byte_local : (room : Field → ℕ) (name : Field) → 1 ≤ room name → IsLocal room byte.read
 byte_local room title le = local_field room 1 title byte (byte_field title) (omega arith) le
 
-pub bytes_local : (room : Field → ℕ) (n : ℕ) → IsLocal room (bytes_of n).read
-unfolding bytes_of bytes_at coded_at
+pub bytes_local : (room : Field → ℕ) (n : ℕ) → IsLocal room (fixed_bytes n).read
+unfolding fixed_bytes bytes_at coded_at
 bytes_local room n = same_local room (bytes_at n) (coded_at n (λ t. Some t) Field.Zero) (λ bytes. refl) (coded_local room n (λ t. Some t) Field.Zero (λ t e. absurd cc))
 
 -- ---- zeros
@@ -194,8 +194,8 @@ gap_local room n title more some le rest =
 abbrev nothing : {A : Type 0} → Option A
 nothing = None
 
-pub absent_local : {A : Type 0} (room : Field → ℕ) (n : ℕ) (name : Field) → 0 < n → n ≤ room name → IsLocal room (absent {A = A} n name).read
-unfolding absent
+pub absent_local : {A : Type 0} (room : Field → ℕ) (n : ℕ) (name : Field) → 0 < n → n ≤ room name → IsLocal room (absent_value {A = A} n name).read
+unfolding absent_value
 absent_local {A} room n title some le =
     same_local room (λ bytes. gap_at n title bytes >>= given (nothing {A = A})) (then (zeros_read n title) (λ u. given (nothing {A = A}))) (λ bytes. gap_is n title (given (nothing {A = A})) bytes)
     (then_local room (zeros_read n title) (λ u. given (nothing {A = A})) (zeros_local room n title some le) (λ u. given_local room (nothing {A = A})))

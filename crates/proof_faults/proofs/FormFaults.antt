@@ -6,7 +6,7 @@ use Rattle.binary_form.specs.declared.fault.ImageFault.{ImageFault}
 use Rattle.binary_form.specs.declared.fault.ImageFault.TheVariants as fault
 use Rattle.binary_form.specs.declared.fault.FormFault.{FormFault}
 use Rattle.binary_form.specs.declared.fault.FormFault.TheVariants.{Short, Bad, Trailing}
-use Rattle.binary_form.specs.Form.{◌>>=◌, Form, left_of, whole}
+use Rattle.binary_form.specs.Form.{◌>>=◌, Form, fault_bytes_left, whole}
 use Rattle.binary_form.specs.Faults.{located, located_in, unpacked}
 use Rattle.binary_form.proofs.Leaves.{bind_err, bind_ok, err_is, ok_not_err, test_err, test_ok}
 use Rattle.binary_form.proofs.Theorem.{located_ok}
@@ -138,7 +138,7 @@ trailing_read {A} f bytes at never e =
       | inr g ↦
           let x = g.0 in
           let t = tail_there (eqb (length x.1) 0) x.0 (Trailing (length x.1)) (Trailing b.left) g.2 in
-          let many : length x.1 ≡ b.left = ap left_of t.1 in
+          let many : length x.1 ≡ b.left = ap fault_bytes_left t.1 in
           record { value = x.0; rest = x.1; read = g.1; some = some_left (length x.1) t.0; place = omega (arith, many, b.place) }
     ]
 

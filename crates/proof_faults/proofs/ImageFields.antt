@@ -7,7 +7,7 @@ use Rattle.binary_form.specs.declared.fault.Field.TheVariants as at
 use Rattle.binary_form.specs.Form.{Form, byte, coded, gap, number, only}
 use Rattle.binary_form.specs.Name.{name, name_bytes, name_in}
 use Rattle.image_pack.specs.Codes.{event_bytes, event_in, kind_bytes, kind_in, mark_bytes, mark_in}
-use Rattle.image_pack.specs.Image.{add_ticks, after, after_device, after_irq, after_window, content, counts, device, event, events, frames, group, header, image, irq, kind_byte, major, mark, minor, next_cpu, next_index, no_frames_before, no_spans_before, nothing_left, outline, range, span, subject, tau0_at, tau0_span, title, window}
+use Rattle.image_pack.specs.Image.{add_ticks, after, after_device, after_irq, after_window, content, counts, device, event, events, frames, group, header, image, irq, kind_byte, major, mark, minor_frame_form, next_cpu, next_index, no_frames_before, no_spans_before, nothing_left, outline, range, span, subject, tau0_at, tau0_span, title, window_form}
 use Rattle.image_pack.specs.declared.outline.Header.{Header}
 use Rattle.image_pack.specs.declared.outline.Outline.{Outline}
 use Rattle.image_pack.specs.declared.parts.SpanKind.{SpanKind}
@@ -138,8 +138,8 @@ subject_local o index =
 
 -- ---- the plan
 
-minor_local : (o : Outline) (b : FramesBefore) → Local (minor o b)
-unfolding minor
+minor_local : (o : Outline) (b : FramesBefore) → Local (minor_frame_form o b)
+unfolding minor_frame_form
 minor_local o b =
     field_local room_of _ _ _ (one _ at.Group refl) (λ in_group.
     zeros 3 _ refl refl (
@@ -151,7 +151,7 @@ unfolding frames
 frames_local o c =
     field_local room_of _ _ _ (two _ at.Count refl) (λ n.
     zeros 2 _ refl refl (
-    items_local room_of (add_ticks o) (minor o) (no_frames_before c n) n (minor_local o)))
+    items_local room_of (add_ticks o) (minor_frame_form o) (no_frames_before c n) n (minor_local o)))
 
 major_local : (o : Outline) (b : ℕ) → Local (major o b)
 unfolding major
@@ -169,8 +169,8 @@ range_local h b =
     field_local room_of _ _ _ (two _ at.Port refl) (λ end.
     done_local room_of _))
 
-window_local : (o : Outline) (names : List (List ℕ)) → Local (window o names)
-unfolding window
+window_local : (o : Outline) (names : List (List ℕ)) → Local (window_form o names)
+unfolding window_form
 window_local o names = field_local room_of _ _ _ (two _ at.Span refl) (λ n. done_local room_of _)
 
 irq_local : (h : Header) (names : List (List ℕ)) → Local (irq h names)
@@ -190,7 +190,7 @@ device_local o names =
     field_local room_of _ _ _ (one _ at.Count refl) (λ irqs.
     zeros 1 _ refl refl (
     field_local room_of _ _ _ (items_local room_of (nothing_left o.header) (range o.header) 0 ports (range_local o.header)) (λ ps.
-    field_local room_of _ _ _ (items_local room_of (after_window o) (window o) _ windows (window_local o)) (λ ws.
+    field_local room_of _ _ _ (items_local room_of (after_window o) (window_form o) _ windows (window_local o)) (λ ws.
     field_local room_of _ _ _ (items_local room_of (after_irq o.header) (irq o.header) _ irqs (irq_local o.header)) (λ qs.
     done_local room_of _))))))))
 

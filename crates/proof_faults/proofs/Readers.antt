@@ -4,7 +4,7 @@ use Rattle.std.proofs.lemmas.List.{length-append}
 use Rattle.binary_form.specs.declared.fault.Field.{Field}
 use Rattle.binary_form.specs.declared.fault.FormFault.{FormFault}
 use Rattle.binary_form.specs.declared.fault.FormFault.TheVariants.{Short, Bad, Trailing}
-use Rattle.binary_form.specs.Form.{◌>>=◌, IsSettled, extended, left_of, longer}
+use Rattle.binary_form.specs.Form.{◌>>=◌, IsSettled, extended, fault_bytes_left, longer}
 use Rattle.binary_form.proofs.Leaves.{bind_err, bind_ok, bind_stays, ok_is, ok_not_err}
 
 -- answers a value and the bytes behind it, or the first fault
@@ -34,7 +34,7 @@ pub record IsLocal {A : Type 0} (room : Field → ℕ) (read : Reader A) : Type 
   -- where they end in a field, a value that is read with more behind goes on past their end
   pub past : (bytes more : List ℕ) (s : ℕ) (x : A) (rest : List ℕ) → read bytes ≡ Err (Short s) → read (bytes ++ more) ≡ Ok (x, rest) → length rest < length more
   -- and a fault with more behind that doesn't begin past their end is one of that field
-  pub near : (bytes more : List ℕ) (s : ℕ) (e : FormFault) → read bytes ≡ Err (Short s) → read (bytes ++ more) ≡ Err e → length more ≤ left_of e → (left_of e ≡ s + length more) × HasMore room s e
+  pub near : (bytes more : List ℕ) (s : ℕ) (e : FormFault) → read bytes ≡ Err (Short s) → read (bytes ++ more) ≡ Err e → length more ≤ fault_bytes_left e → (fault_bytes_left e ≡ s + length more) × HasMore room s e
 
 pub parts_shorter : (bytes front rest : List ℕ) → bytes ≡ front ++ rest → length rest ≤ length bytes
 parts_shorter bytes front rest e = rw e (omega (arith, length-append front rest))
@@ -49,7 +49,7 @@ among_more n m (Short left) le h = omega (arith, le, h)
 among_more n m (Bad left title) le h = (h.0, omega (arith, le, h.1))
 among_more n m (Trailing left) le h = h
 
-pub left_among : (n : ℕ) (e : FormFault) → IsAmong n e → left_of e ≤ n
+pub left_among : (n : ℕ) (e : FormFault) → IsAmong n e → fault_bytes_left e ≤ n
 left_among n (Short left) h = h
 left_among n (Bad left title) h = h.1
 left_among n (Trailing left) h = absurd h
@@ -126,7 +126,7 @@ then_past room read more first others bytes behind s y rest e h =
     ]
 
 then_near : {A B : Type 0} (room : Field → ℕ) (read : Reader A) (more : A → Reader B) → IsLocal room read → ((x : A) → IsLocal room (more x))
-    → (bytes behind : List ℕ) (s : ℕ) (e : FormFault) → then read more bytes ≡ Err (Short s) → then read more (bytes ++ behind) ≡ Err e → length behind ≤ left_of e → (left_of e ≡ s + length behind) × HasMore room s e
+    → (bytes behind : List ℕ) (s : ℕ) (e : FormFault) → then read more bytes ≡ Err (Short s) → then read more (bytes ++ behind) ≡ Err e → length behind ≤ fault_bytes_left e → (fault_bytes_left e ≡ s + length behind) × HasMore room s e
 then_near room read more first others bytes behind s e h k le =
     elim (bind_err (read bytes) (λ x. more x.0 x.1) (Short s) h) [
       | inl g ↦

@@ -19,7 +19,7 @@ use Rattle.subject_model.specs.Alone.{own_of, thing_in}
 use Rattle.subject_model.specs.Clock.{inputs_at}
 use Rattle.subject_model.specs.DeviceRecord.{NamedInput, port_input, irq_input}
 use Rattle.subject_model.specs.System.{is_shown, start_of, subject_named}
-use Rattle.proof_isolation.specs.Agree.{Agree, AgreeFor, WritesTheSame, hands_over, irq_to, is_first, only_to, own_slot, plain_frame, touches, unchosen}
+use Rattle.proof_isolation.specs.Agree.{Agree, AgreeFor, WritesTheSame, is_handover, irq_to, is_first, only_to, own_slot, plain_frame, input_reaches_member, unchosen}
 use Rattle.proof_gateway.specs.Gateway.{with_black, plain, keys, slots, cipher, members, network}
 use Rattle.proof_gateway.proofs.Contents.{same_contents}
 use Rattle.proof_gateway.proofs.Members.{OfMembers, each_member, members_have_no_ports, own_by}
@@ -38,15 +38,15 @@ module _ (r u : List Region) (w v : List Mapping) (c d : List ℕ) where
   abbrev other : Source
   other = with_black u v d
 
-  untouched_port : touches one other members (port_input (codes "net") 768 5) ≡ false
+  untouched_port : input_reaches_member one other members (port_input (codes "net") 768 5) ≡ false
   untouched_port = let ports = members_have_no_ports r w c in rw (ports.of_plain, ports.of_keys, ports.of_slots, ports.of_cipher) refl
 
-  untouched_irq : touches one other members (irq_input (codes "net") (codes "rx")) ≡ false
+  untouched_irq : input_reaches_member one other members (irq_input (codes "net") (codes "rx")) ≡ false
   unfolding irq_of
   untouched_irq = refl
 
-  nothing_comes : (tick : ℕ) → filter (touches one other members) (inputs_at network tick) ≡ []
-  nothing_comes tick = none_kept (touches one other members) (λ e. e.0 == tick) network.inputs (untouched_port, (untouched_irq, tt))
+  nothing_comes : (tick : ℕ) → filter (input_reaches_member one other members) (inputs_at network tick) ≡ []
+  nothing_comes tick = none_kept (input_reaches_member one other members) (λ e. e.0 == tick) network.inputs (untouched_port, (untouched_irq, tt))
 
   -- ---- of each member
 
@@ -92,7 +92,7 @@ module _ (r u : List Region) (w v : List Mapping) (c d : List ℕ) where
       let events = each_member (λ s. (way : SourceWay) → event_of one s way ≡ event_of other s way) r w c same_events s member is in
       record {
         own = each_member (λ s. own_of one s ≡ own_of other s) r w c same_own s member is;
-        switches = λ way. ap hands_over (events way);
+        switches = λ way. ap is_handover (events way);
         events = λ m _ way. ap (only_to m.name) (events way);
         first = each_member (λ s. is_first one s.name ≡ is_first other s.name) r w c same_first s member is;
         contents = each_member (λ s. (x : Thing) → is_shown (windows_of one s) x ≡ true → thing_in (start_of one f).things x ≡ thing_in (start_of other g).things x) r w c (same_contents r u w v c d f g) s member is;

@@ -148,8 +148,8 @@ channels =
 abbrev pub group : List ℕ → ℕ → List ℕ → Group
 group name cpu subject = record { name = name; cpu = cpu; subjects = subject ∷ [] }
 
-abbrev pub minor : List ℕ → ℕ → MinorFrame
-minor name ticks = record { group = name; ticks = ticks }
+abbrev pub gateway_minor_frame : List ℕ → ℕ → MinorFrame
+gateway_minor_frame name ticks = record { group = name; ticks = ticks }
 
 abbrev pub plan : Scheduling
 plan = record {
@@ -162,8 +162,8 @@ plan = record {
   major_frames =
       record {
         cpus =
-            record { cpu = 0; minor_frames = minor (codes "gplain") 30 ∷ minor (codes "gblack") 20 ∷ [] }
-            ∷ record { cpu = 1; minor_frames = minor (codes "gkeys") 10 ∷ minor (codes "gslots") 10 ∷ minor (codes "gcipher") 30 ∷ [] } ∷ [];
+            record { cpu = 0; minor_frames = gateway_minor_frame (codes "gplain") 30 ∷ gateway_minor_frame (codes "gblack") 20 ∷ [] }
+            ∷ record { cpu = 1; minor_frames = gateway_minor_frame (codes "gkeys") 10 ∷ gateway_minor_frame (codes "gslots") 10 ∷ gateway_minor_frame (codes "gcipher") 30 ∷ [] } ∷ [];
       }
       ∷ [];
   tau0 = None;

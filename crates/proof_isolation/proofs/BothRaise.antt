@@ -26,7 +26,7 @@ use Rattle.subject_model.proofs.KeyLaws.{names_apart, things_apart, value_change
 use Rattle.policy_lawful.proofs.SameThings.{cases_thing}
 use Rattle.subject_model.specs.Alone.{Things, thing_in}
 use Rattle.subject_model.specs.System.{Named, System, change_named, change_thing, happens, happens_as, named, pends_now, with_active}
-use Rattle.proof_isolation.specs.Agree.{hands_over}
+use Rattle.proof_isolation.specs.Agree.{is_handover}
 use Rattle.proof_isolation.specs.Alike.{is_active}
 use Rattle.proof_isolation.proofs.Outsiders.{group_by_name}
 use Rattle.proof_isolation.proofs.Switches.{raised_fits}
@@ -57,7 +57,7 @@ change_named_alike n k f a b same =
 -- ---- who is active after a handover
 
 -- an event that isn't a handover changes no active member
-pub plain_active : (p : Source) (name : List ℕ) (mode : EventMode) (t : Target) (y : System) → hands_over (Some (record { mode = mode; target = t })) ≡ false → is_active p (happens_as p mode t y) name ≡ is_active p y name
+pub plain_active : (p : Source) (name : List ℕ) (mode : EventMode) (t : Target) (y : System) → is_handover (Some (record { mode = mode; target = t })) ≡ false → is_active p (happens_as p mode t y) name ≡ is_active p y name
 plain_active p name Asap t y h = refl
 plain_active p name Async t y h = refl
 plain_active p name OwnMode t y h = refl

@@ -34,7 +34,7 @@ use Rattle.subject_model.specs.System.{System, answered, happens, happens_as, in
 use Rattle.subject_model.specs.Resources.{ports_of}
 use Rattle.proof_views.proofs.Kept.{acted}
 use Rattle.proof_views.proofs.Unmoved.{by_raised}
-use Rattle.proof_isolation.specs.Agree.{Agree, AgreeFor, hands_over, only_to}
+use Rattle.proof_isolation.specs.Agree.{Agree, AgreeFor, is_handover, only_to}
 use Rattle.proof_isolation.specs.Alike.{AreAlike, is_active}
 use Rattle.proof_isolation.proofs.Alike.{same_name, same_ports, same_windows}
 use Rattle.proof_isolation.proofs.BothRaise.{SameEvents, change_named_alike, change_thing_alike, plain_active, reached_both, source_rests}
@@ -63,15 +63,15 @@ reached_some name None h = absurd (cc (h))
 reached_some name (Some x) h = (x, refl, (bytes_eq-Decides x.target.subject name).0 h, ap (λ b. cond b (Some x) None) h)
 
 -- by whether it hands over
-plain : (p : Source) (name : List ℕ) (o : Option Raised) (y : System) → hands_over o ≡ false → is_active p (happens p o y) name ≡ is_active p y name
+plain : (p : Source) (name : List ℕ) (o : Option Raised) (y : System) → is_handover o ≡ false → is_active p (happens p o y) name ≡ is_active p y name
 plain p name None y h = refl
 plain p name (Some e) y h = plain_active p name e.mode e.target y h
 
-switches_some : (o : Option Raised) → hands_over o ≡ true → (e : Raised) × (o ≡ Some e) × (e.mode ≡ Switch)
+switches_some : (o : Option Raised) → is_handover o ≡ true → (e : Raised) × (o ≡ Some e) × (e.mode ≡ Switch)
 switches_some None h = absurd (cc (h))
 switches_some (Some e) h = by_mode e.mode refl h
   where
-    by_mode : (mode : EventMode) → e.mode ≡ mode → hands_over (Some (record { mode = mode; target = e.target })) ≡ true → (x : Raised) × (Some e ≡ Some x) × (x.mode ≡ Switch)
+    by_mode : (mode : EventMode) → e.mode ≡ mode → is_handover (Some (record { mode = mode; target = e.target })) ≡ true → (x : Raised) × (Some e ≡ Some x) × (x.mode ≡ Switch)
     by_mode Asap is k = absurd (cc (k))
     by_mode Async is k = absurd (cc (k))
     by_mode OwnMode is k = absurd (cc (k))
@@ -115,7 +115,7 @@ module _ (p q : Source) (lawful : IsLawful p) (lawful_too : IsLawful q) (members
 
         itself : u.name ≡ s.name → is_active p (happens p (event_of p u way) y') s.name ≡ is_active q (happens q (event_of q v way) z') s.name
         itself e =
-            elim (cases_Bool (hands_over (event_of p u way))) as (λ _. is_active p (happens p (event_of p u way) y') s.name ≡ is_active q (happens q (event_of q v way) z') s.name) [
+            elim (cases_Bool (is_handover (event_of p u way))) as (λ _. is_active p (happens p (event_of p u way) y') s.name ≡ is_active q (happens q (event_of q v way) z') s.name) [
               | inl over ↦
                   let one = switches_some (event_of p u way) over in
                   let two = switches_some (event_of q v way) (sym (pair.switches way) ∙ over) in

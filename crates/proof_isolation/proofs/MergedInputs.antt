@@ -24,7 +24,7 @@ use Rattle.subject_model.proofs.KeyLaws.{names_apart, value_other}
 use Rattle.subject_model.specs.Clock.{irq_reaches, system, takes}
 use Rattle.subject_model.specs.System.{System, subject_named}
 use Rattle.proof_views.proofs.OwnLines.{named_so}
-use Rattle.proof_isolation.specs.Agree.{Agree, WritesTheSame, irq_to, maps_seen, touches}
+use Rattle.proof_isolation.specs.Agree.{Agree, WritesTheSame, irq_to, maps_seen, input_reaches_member}
 use Rattle.proof_isolation.specs.Alike.{AreAlike}
 use Rattle.proof_isolation.proofs.Alike.{alike_left, alike_right}
 use Rattle.proof_isolation.proofs.BothRaise.{change_named_alike}
@@ -33,7 +33,7 @@ use Rattle.proof_isolation.proofs.SeenWrites.{line_both, line_outside, write_bot
 -- ---- an input that reaches no member
 
 module _ (p q : Source) (members : List (List ℕ)) where
-  port_apart : (s : Subject) → is_member members s ≡ true → subject_named p s.name ≡ Some s → (device : List ℕ) (port value n : ℕ) → touches p q members (port_input device port value) ≡ false → list_any (λ m. m == n) (ports_of p s) ≡ true → (n ≡ port → ⊥)
+  port_apart : (s : Subject) → is_member members s ≡ true → subject_named p s.name ≡ Some s → (device : List ℕ) (port value n : ℕ) → input_reaches_member p q members (port_input device port value) ≡ false → list_any (λ m. m == n) (ports_of p s) ≡ true → (n ≡ port → ⊥)
   port_apart s member is device port value n out its same =
       let in_s = (find_in (λ x. bytes_eq x.name s.name) p.subjects s is).0 in
       let hit = any_in (λ s. is_member members s && list_any (λ n. n == port) (ports_of p s)) p.subjects s in_s (and_from (is_member members s) (list_any (λ n. n == port) (ports_of p s)) member (subst (λ k. list_any (λ m. m == k) (ports_of p s) ≡ true) same its)) in
@@ -58,7 +58,7 @@ module _ (p q : Source) (members : List (List ℕ)) where
     ports = λ n _. refl;
   }
 
-  pub input_outside : (i : NamedInput) (y : System) → touches p q members i ≡ false → AreAlike p p members y (takes p i y)
+  pub input_outside : (i : NamedInput) (y : System) → input_reaches_member p q members i ≡ false → AreAlike p p members y (takes p i y)
   input_outside (port_input device port value) y out = λ s member is. record {
     page = refl;
     msrs = refl;
@@ -123,7 +123,7 @@ module _ (p q : Source) (members : List (List ℕ)) (f g : Held) (r t : DeviceRe
       let a = h s member is in
       record { page = a.page; msrs = a.msrs; now = change_named_alike x.subject s.name (with_vector x.vector) y.now z.now a.now; later = a.later; active = a.active; shown = a.shown; ports = a.ports }
 
-  pub input_both : (i : NamedInput) (y z : System) → touches p q members i ≡ true → WritesTheSame members p q i → AreAlike p q members y z → AreAlike p q members (takes p i y) (takes q i z)
+  pub input_both : (i : NamedInput) (y z : System) → input_reaches_member p q members i ≡ true → WritesTheSame members p q i → AreAlike p q members y z → AreAlike p q members (takes p i y) (takes q i z)
   input_both (port_input device port value) y z hit same h = λ s member is.
       let a = h s member is in
       record { page = a.page; msrs = a.msrs; now = a.now; later = a.later; active = a.active; shown = a.shown; ports = λ n its. port_both n port value y.ports z.ports (a.ports n its) }
@@ -140,12 +140,12 @@ module _ (p q : Source) (members : List (List ℕ)) (f g : Held) (r t : DeviceRe
     pub here : System
     pub alike : AreAlike p q members y here
     pub same : all_taken (system q) is z ≡ all_taken (system q) remaining (takes q i here)
-    pub agrees : rest ≡ filter (touches q p members) remaining
+    pub agrees : rest ≡ filter (input_reaches_member q p members) remaining
 
-  skip : (y : System) (i : NamedInput) (rest is : List NamedInput) (z : System) → AreAlike p q members y z → i ∷ rest ≡ filter (touches q p members) is → Skipped y i rest is z
+  skip : (y : System) (i : NamedInput) (rest is : List NamedInput) (z : System) → AreAlike p q members y z → i ∷ rest ≡ filter (input_reaches_member q p members) is → Skipped y i rest is z
   skip y i rest [] z h same = absurd (cc (same))
   skip y i rest (j ∷ js) z h same =
-      elim (touches q p members j) as (λ b. touches q p members j ≡ b → i ∷ rest ≡ cond b (j ∷ filter (touches q p members) js) (filter (touches q p members) js) → Skipped y i rest (j ∷ js) z) [
+      elim (input_reaches_member q p members j) as (λ b. input_reaches_member q p members j ≡ b → i ∷ rest ≡ cond b (j ∷ filter (input_reaches_member q p members) js) (filter (input_reaches_member q p members) js) → Skipped y i rest (j ∷ js) z) [
         | true ↦ λ e k.
             let first : i ≡ j = cc (k) in
             record { remaining = js; here = z; alike = h; same = ap (λ x. all_taken (system q) js (takes q x z)) (sym first); agrees = cc (k) }
@@ -154,22 +154,22 @@ module _ (p q : Source) (members : List (List ℕ)) (f g : Held) (r t : DeviceRe
             record { remaining = later.remaining; here = later.here; alike = later.alike; same = later.same; agrees = later.agrees }
       ] refl same
 
-  rest_outside : (is : List NamedInput) (y z : System) → [] ≡ filter (touches q p members) is → AreAlike p q members y z → AreAlike p q members y (all_taken (system q) is z)
+  rest_outside : (is : List NamedInput) (y z : System) → [] ≡ filter (input_reaches_member q p members) is → AreAlike p q members y z → AreAlike p q members y (all_taken (system q) is z)
   rest_outside [] y z same h = h
   rest_outside (j ∷ js) y z same h =
-      elim (touches q p members j) as (λ b. touches q p members j ≡ b → [] ≡ cond b (j ∷ filter (touches q p members) js) (filter (touches q p members) js) → AreAlike p q members y (all_taken (system q) js (takes q j z))) [
+      elim (input_reaches_member q p members j) as (λ b. input_reaches_member q p members j ≡ b → [] ≡ cond b (j ∷ filter (input_reaches_member q p members) js) (filter (input_reaches_member q p members) js) → AreAlike p q members y (all_taken (system q) js (takes q j z))) [
         | true ↦ λ e k. absurd (cc (k))
         | false ↦ λ e k. rest_outside js y (takes q j z) k (alike_right p q members f g r t ends agree y z (takes q j z) (input_outside q p members j z e) h)
       ] refl same
 
-  pub inputs_both : (is js : List NamedInput) (y z : System) → filter (touches p q members) is ≡ filter (touches q p members) js → AllByRecursion (WritesTheSame members p q) (filter (touches p q members) is) → AreAlike p q members y z
+  pub inputs_both : (is js : List NamedInput) (y z : System) → filter (input_reaches_member p q members) is ≡ filter (input_reaches_member q p members) js → AllByRecursion (WritesTheSame members p q) (filter (input_reaches_member p q members) is) → AreAlike p q members y z
       → AreAlike p q members (all_taken (system p) is y) (all_taken (system q) js z)
   inputs_both [] js y z same writes h = rest_outside js y z same h
   inputs_both (i ∷ is) js y z same writes h =
-      elim (touches p q members i) as (λ b. touches p q members i ≡ b → cond b (i ∷ filter (touches p q members) is) (filter (touches p q members) is) ≡ filter (touches q p members) js
-      → AllByRecursion (WritesTheSame members p q) (cond b (i ∷ filter (touches p q members) is) (filter (touches p q members) is)) → AreAlike p q members (all_taken (system p) is (takes p i y)) (all_taken (system q) js z)) [
+      elim (input_reaches_member p q members i) as (λ b. input_reaches_member p q members i ≡ b → cond b (i ∷ filter (input_reaches_member p q members) is) (filter (input_reaches_member p q members) is) ≡ filter (input_reaches_member q p members) js
+      → AllByRecursion (WritesTheSame members p q) (cond b (i ∷ filter (input_reaches_member p q members) is) (filter (input_reaches_member p q members) is)) → AreAlike p q members (all_taken (system p) is (takes p i y)) (all_taken (system q) js z)) [
         | true ↦ λ e k each.
-            let at = skip y i (filter (touches p q members) is) js z h k in
+            let at = skip y i (filter (input_reaches_member p q members) is) js z h k in
             subst (AreAlike p q members (all_taken (system p) is (takes p i y))) (sym at.same) (inputs_both is at.remaining (takes p i y) (takes q i at.here) at.agrees each.1 (input_both i y at.here e each.0 at.alike))
         | false ↦ λ e k each. inputs_both is js (takes p i y) z k each (alike_left p q members y (takes p i y) z (input_outside p q members i y e) h)
       ] refl same writes

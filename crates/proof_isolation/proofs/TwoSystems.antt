@@ -51,7 +51,7 @@ use Rattle.subject_model.specs.System.{System, is_shown, named, start_of, subjec
 use Rattle.subject_model.specs.View.{ran_through, seen_in, through, view_of}
 use Rattle.proof_views.proofs.ActiveMembers.{begun_listed}
 use Rattle.proof_views.proofs.Unmoved.{by_irq}
-use Rattle.proof_isolation.specs.Agree.{Agree, AgreeOnFrames, WritesTheSame, chosen, holds_member, is_first, own_slot, plain_frame, touches, unchosen}
+use Rattle.proof_isolation.specs.Agree.{Agree, AgreeOnFrames, WritesTheSame, chosen, holds_member, is_first, own_slot, plain_frame, input_reaches_member, unchosen}
 use Rattle.proof_isolation.specs.Alike.{AreAlike, AreAlikeFor, AreSameViews, is_active}
 use Rattle.proof_isolation.specs.Laws.{MembersSeeTheSame, SetsOfFlowsAreEnough}
 use Rattle.proof_isolation.proofs.Alike.{same_cpu, same_entry, same_name, same_windows}
@@ -229,7 +229,7 @@ module _ (p q : Source) (lawful : IsLawful p) (lawful_too : IsLawful q) (members
       record {
         listed = begun_listed p f (members_kept p (rules_of lawful).rule_17) (inputs_at r) (order_at p r) n;
         listed_too = begun_listed q g (members_kept q (rules_of lawful_too).rule_17) (inputs_at t) (order_at q t) n;
-        alike = inputs_both p q members f g r t ends agree (inputs_at r n) (inputs_at t n) (begins p n (run_p n)) (begins q n (run_q n)) (agree.inputs n low) (recursion_from_All (WritesTheSame members p q) (filter (touches p q members) (inputs_at r n)) (agree.writes n low)) (begun_alike n (run_p n) (run_q n) h);
+        alike = inputs_both p q members f g r t ends agree (inputs_at r n) (inputs_at t n) (begins p n (run_p n)) (begins q n (run_q n)) (agree.inputs n low) (recursion_from_All (WritesTheSame members p q) (filter (input_reaches_member p q members) (inputs_at r n)) (agree.writes n low)) (begun_alike n (run_p n) (run_q n) h);
         slots = λ s w inside is is'.
             ap (λ at. own_slot p s at n) (inputs_frame p (inputs_at r n) (begins p n (run_p n)))
             ∙ slots s w inside is is'

@@ -27,9 +27,9 @@ use Rattle.subject_model.specs.System.{is_shown, start_of, subject_named}
 -- ---- what agrees for one subject
 
 -- an event hands the CPU over
-abbrev pub hands_over : Option Raised → Bool
-hands_over None = false
-hands_over (Some e) = is_switch e.mode
+abbrev pub is_handover : Option Raised → Bool
+is_handover None = false
+is_handover (Some e) = is_switch e.mode
 
 -- an event, if it is to the subject of this name
 abbrev pub only_to : List ℕ → Option Raised → Option Raised
@@ -55,7 +55,7 @@ pub record AgreeFor (members : List (List ℕ)) (p q : Source) (f g : Held) (s z
   -- what it is given for itself
   pub own : own_of p s ≡ own_of q z
   -- in which ways it hands its CPU over, and which events it raises at members
-  pub switches : (way : SourceWay) → hands_over (event_of p s way) ≡ hands_over (event_of q z way)
+  pub switches : (way : SourceWay) → is_handover (event_of p s way) ≡ is_handover (event_of q z way)
   pub events : (m : Subject) → is_member members m ≡ true → (way : SourceWay) → only_to m.name (event_of p s way) ≡ only_to m.name (event_of q z way)
   pub first : is_first p s.name ≡ is_first q z.name
   -- the bytes at the start of all that its windows show
@@ -75,12 +75,12 @@ maps_seen p members device = list_any (λ w. is_seen p members w.thing) (dma_win
 
 -- an input reaches a member, by the first of two policies; for a line of direct memory access it is enough that its device's domain
 -- maps, in either policy, a thing that a window of a member shows
-abbrev pub touches : Source → Source → List (List ℕ) → NamedInput → Bool
-touches p q members (port_input device port value) = list_any (λ s. is_member members s && list_any (λ n. n == port) (ports_of p s)) p.subjects
-touches p q members (memory_input device memory offset bytes) = is_seen p members (device_memory device memory)
-touches p q members (irq_input device irq) =
+abbrev pub input_reaches_member : Source → Source → List (List ℕ) → NamedInput → Bool
+input_reaches_member p q members (port_input device port value) = list_any (λ s. is_member members s && list_any (λ n. n == port) (ports_of p s)) p.subjects
+input_reaches_member p q members (memory_input device memory offset bytes) = is_seen p members (device_memory device memory)
+input_reaches_member p q members (irq_input device irq) =
     option_map_or (λ t. list_any (λ s. is_member members s && bytes_eq s.name t.subject) p.subjects) (irq_of p device irq) false
-touches p q members (dma_input device address bytes) = maps_seen p members device || maps_seen q members device
+input_reaches_member p q members (dma_input device address bytes) = maps_seen p members device || maps_seen q members device
 
 -- what members see of a byte that is written: the byte, if a window of a member shows its thing
 abbrev pub as_seen : Source → List (List ℕ) → ByteWrite → Option ByteWrite
@@ -123,6 +123,6 @@ pub record Agree (members : List (List ℕ)) (p q : Source) (f g : Held) (r t : 
   pub each : (s z : Subject) → is_member members s ≡ true → subject_named p s.name ≡ Some s → subject_named q s.name ≡ Some z → AgreeFor members p q f g s z
   pub frames : AgreeOnFrames members p q ends
   -- inputs that reach members are the same in both, and the lines of direct memory access among them do the same to what these see
-  pub inputs : (tick : ℕ) → tick < ends → filter (touches p q members) (inputs_at r tick) ≡ filter (touches q p members) (inputs_at t tick)
-  pub writes : (tick : ℕ) → tick < ends → All (WritesTheSame members p q) (filter (touches p q members) (inputs_at r tick))
+  pub inputs : (tick : ℕ) → tick < ends → filter (input_reaches_member p q members) (inputs_at r tick) ≡ filter (input_reaches_member q p members) (inputs_at t tick)
+  pub writes : (tick : ℕ) → tick < ends → All (WritesTheSame members p q) (filter (input_reaches_member p q members) (inputs_at r tick))
   pub orders : (tick : ℕ) → tick < ends → filter (holds_member p members) (order_at p r tick) ≡ filter (holds_member q members) (order_at q t tick)

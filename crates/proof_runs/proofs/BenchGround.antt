@@ -3,7 +3,7 @@ use Rattle.std.proofs.Common.{◌≡◌, ℕ, ◌*◌, List, [], Option, Some, N
 use Rattle.std.specs.List.{All}
 use Rattle.std.specs.Str.{bytes_eq}
 use Rattle.subject_model.specs.Clock.{line_writes}
-use Rattle.image_load.specs.Resolving.{NamedMemory, device_called, memories_of}
+use Rattle.image_load.specs.Resolving.{NamedMemory, device_called, named_memories_of}
 use Rattle.image_pack.specs.declared.parts.DevicePart.{DevicePart}
 use Rattle.image_pack.specs.declared.parts.Image.{Image}
 use Rattle.image_pack.specs.declared.parts.IrqPart.{IrqPart}
@@ -29,7 +29,7 @@ pub record IsThing (g : Ground) (device memory : List ℕ) (m : NamedMemory) : T
 abbrev pub HasMemories : Ground → Image → Type 0
 HasMemories g i =
     (device memory : List ℕ) (d : DevicePart) (m : NamedMemory) → device_called device i ≡ Some d
-    → find (λ m. bytes_eq m.name memory) (memories_of i.spans d) ≡ Some m → IsThing g device memory m
+    → find (λ m. bytes_eq m.name memory) (named_memories_of i.spans d) ≡ Some m → IsThing g device memory m
 
 -- ---- interrupts
 

@@ -25,13 +25,13 @@ use Rattle.proof_start.specs.GroundOf.{ground_of}
 use Rattle.proof_start.specs.Words.{IsByte}
 use Rattle.proof_turns.specs.Inputs.{AreLine}
 use Rattle.proof_runs.proofs.DmaLines.{line_alike}
-use Rattle.proof_runs.specs.Fit.{Fit, place_of, write_by}
+use Rattle.proof_runs.specs.Fit.{Fit, access_address_of, write_by}
 use Rattle.proof_runs.proofs.BenchGround.{HasLines, written_by}
 use Rattle.proof_runs.proofs.Beside.{beside}
 
 -- tables fit a device of the policy
 abbrev FitsDevice : Source → Image → Option DmaFile → SourceDevice → Type 0
-FitsDevice p i tables d = (addr : ℕ) → write_by tables d.name addr ≡ place_of (address_of p i) (dma_access p d.name addr Write)
+FitsDevice p i tables d = (addr : ℕ) → write_by tables d.name addr ≡ access_address_of (address_of p i) (dma_access p d.name addr Write)
 
 -- a few bytes are those of a line
 is_a_line : (bytes : List ℕ) → IsFew bytes → is_line bytes ≡ true
@@ -49,8 +49,8 @@ module _ (p : Source) (files : Held) (i : Image) (keeps : KeepsConditions i) (so
       let its : FitsDevice p i tables x.other = all_in (FitsDevice p i tables) p.devices fit x.other x.within in
       let named : d.name ≡ device = same_names d.name device x.passes in
       let other : x.other.name ≡ device = sym (ap (λ (b : BenchDevice). b.name) x.related.may) ∙ named in
-      let fits : (a : ℕ) → write_by tables device a ≡ place_of (address_of p i) (dma_access p device a Write) =
-      subst (λ name. (a : ℕ) → write_by tables name a ≡ place_of (address_of p i) (dma_access p name a Write)) other its in
+      let fits : (a : ℕ) → write_by tables device a ≡ access_address_of (address_of p i) (dma_access p device a Write) =
+      subst (λ name. (a : ℕ) → write_by tables name a ≡ access_address_of (address_of p i) (dma_access p name a Write)) other its in
       line_alike p files i keeps sound tables device number d here named fits addr bytes (is_a_line bytes few) small
 
   -- the line of a device that is found by its name

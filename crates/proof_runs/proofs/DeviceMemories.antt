@@ -13,7 +13,7 @@ use Rattle.muen_num.proofs.Options.{from_some, one_value}
 use Rattle.muen_num.proofs.Lists.{all_at}
 use Rattle.muen_num.proofs.Pairs.{first_at}
 use Rattle.muen_num.specs.Range.{numbers_below}
-use Rattle.image_load.specs.Resolving.{NamedMemory, memories_of, memory_of_span, memory_of_window}
+use Rattle.image_load.specs.Resolving.{NamedMemory, named_memories_of, memory_of_span, memory_of_window}
 use Rattle.image_soundness.specs.Memory.{Span, by_number, span_at}
 use Rattle.image_soundness.specs.Named.{tag_at}
 use Rattle.image_soundness.specs.Sound.{IsDeviceOf, IsSound, IsSpanOf, is_kernel, kind_of, thing_spans}
@@ -186,7 +186,7 @@ is_thing p i device memory s m aligned shown lies = record {
 pub memories_of_image : (p : Source) (files : Held) (i : Image) → KeepsConditions i → IsSound p files i → HasMemories (ground_of p i) i
 memories_of_image p files i keeps sound device memory d m found found_memory =
     let x = device_at p files i sound device d found in
-    let f = found_at (λ (m : NamedMemory). bytes_eq m.name memory) (memories_of i.spans d) m found_memory in
+    let f = found_at (λ (m : NamedMemory). bytes_eq m.name memory) (named_memories_of i.spans d) m found_memory in
     let w = made_of (memory_of_window i.spans) d.windows f.index m f.here in
     let s = shown_by (find (λ (s : SpanPart). s.number == w.one.span) i.spans) m w.made in
     let at = found_at (λ (s : SpanPart). s.number == w.one.span) i.spans s.0 s.1 in

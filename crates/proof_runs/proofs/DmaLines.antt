@@ -28,7 +28,7 @@ use Rattle.policy_lawful.specs.Thing.{Thing}
 use Rattle.policy_lawful.specs.Windows.{Access, byte, violation}
 use Rattle.policy_lawful.specs.source.Source.{Source}
 use Rattle.proof_runs.proofs.DomainWindows.{lands, next_lands}
-use Rattle.proof_runs.specs.Fit.{place_of, write_by}
+use Rattle.proof_runs.specs.Fit.{access_address_of, write_by}
 use Rattle.proof_start.specs.GroundOf.{ground_of}
 use Rattle.proof_turns.specs.Inputs.{AreLine, IsWrite, Part, dropped, each_of, written}
 use Rattle.subject_model.specs.Clock.{ByteWrite, line_writes, write_to}
@@ -37,7 +37,7 @@ use Rattle.subject_model.specs.Clock.{ByteWrite, line_writes, write_to}
 
 module _ (p : Source) (files : Held) (i : Image) (keeps : KeepsConditions i) (sound : IsSound p files i) (tables : Option DmaFile)
     (device : List ℕ) (number : ℕ) (d : DevicePart) (here : slice_get i.devices number ≡ Some d) (named : d.name ≡ device)
-    (fits : (addr : ℕ) → write_by tables device addr ≡ place_of (address_of p i) (dma_access p device addr Write)) where
+    (fits : (addr : ℕ) → write_by tables device addr ≡ access_address_of (address_of p i) (dma_access p device addr Write)) where
   -- ---- where the device's writes go
 
   abbrev go : ℕ → Option ℕ
@@ -61,12 +61,12 @@ module _ (p : Source) (files : Held) (i : Image) (keeps : KeepsConditions i) (so
       any_passes_from_place (λ (s : SpanPart). nat_le s.address place && nat_lt place (s.address + PAGE * s.pages)) i.spans l.span.within.index s l.span.within.span
       (and_from (nat_le s.address place) (nat_lt place (s.address + PAGE * s.pages)) (le-leb s.address place (omega (arith, address))) (lt-ltb place (s.address + PAGE * s.pages) (omega (arith, address, within))))
 
-  placed_in : (addr : ℕ) (a : Access Thing) → access addr ≡ a → option_and_then (in_spans i.spans) (place_of (address_of p i) a) ≡ place_of (address_of p i) a
+  placed_in : (addr : ℕ) (a : Access Thing) → access addr ≡ a → option_and_then (in_spans i.spans) (access_address_of (address_of p i) a) ≡ access_address_of (address_of p i) a
   placed_in addr (byte x offset) e = ap (λ b. if b then Some (address_of p i x + offset) else None) (lies x offset addr e)
   placed_in addr (violation found) e = refl
 
-  go_is : (addr : ℕ) (a : Access Thing) → access addr ≡ a → go addr ≡ place_of (address_of p i) a
-  go_is addr a e = led tables addr ∙ (ap (option_and_then (in_spans i.spans)) (fits addr ∙ ap (place_of (address_of p i)) e) ∙ placed_in addr a e)
+  go_is : (addr : ℕ) (a : Access Thing) → access addr ≡ a → go addr ≡ access_address_of (address_of p i) a
+  go_is addr a e = led tables addr ∙ (ap (option_and_then (in_spans i.spans)) (fits addr ∙ ap (access_address_of (address_of p i)) e) ∙ placed_in addr a e)
 
   -- ---- bytes in one page
 
@@ -86,7 +86,7 @@ module _ (p : Source) (files : Held) (i : Image) (keeps : KeepsConditions i) (so
       ∙ ap (λ (ws : List (Option ByteWrite)). Some (record { thing = x; offset = offset; value = b }) ∷ ws) (part_lands (c ∷ bytes) (addr + 1) (offset + 1) x (later ∙ ap (byte x) next) (omega (arith, room)))
 
   -- nothing is written where the first byte isn't
-  not_all : (bytes : List ℕ) (addr : ℕ) (a : Access Thing) → 1 ≤ length bytes → access addr ≡ a → place_of (address_of p i) a ≡ None → list_all is_some (writes addr bytes) ≡ false
+  not_all : (bytes : List ℕ) (addr : ℕ) (a : Access Thing) → 1 ≤ length bytes → access addr ≡ a → access_address_of (address_of p i) a ≡ None → list_all is_some (writes addr bytes) ≡ false
   not_all [] addr a some e none = absurd (omega (arith, some))
   not_all (b ∷ bytes) addr (byte x offset) some e none = absurd (cc)
   not_all (b ∷ bytes) addr (violation found) some e none = ap (λ a. is_some (write_to a b) && list_all is_some (writes (addr + 1) bytes)) e
@@ -108,7 +108,7 @@ module _ (p : Source) (files : Held) (i : Image) (keeps : KeepsConditions i) (so
 
   -- ---- a line in one page
 
-  in_one : (addr : ℕ) (bytes : List ℕ) (a : Access Thing) → access addr ≡ a → 1 ≤ length bytes → addr % PAGE + length bytes ≤ PAGE → All IsByte bytes → AreLine (ground_of p i) (one_write (place_of (address_of p i) a) bytes) (writes addr bytes)
+  in_one : (addr : ℕ) (bytes : List ℕ) (a : Access Thing) → access addr ≡ a → 1 ≤ length bytes → addr % PAGE + length bytes ≤ PAGE → All IsByte bytes → AreLine (ground_of p i) (one_write (access_address_of (address_of p i) a) bytes) (writes addr bytes)
   in_one addr bytes (byte x offset) e some room small =
       written (part x offset bytes ∷ []) (one_write_is addr offset x bytes e room small, tt) (append-nil (each_of (part x offset bytes)) ∙ sym (part_lands bytes addr offset x e room))
   in_one addr bytes (violation found) e some room small = dropped refl (not_all bytes addr (violation found) some e refl)
@@ -120,7 +120,7 @@ module _ (p : Source) (files : Held) (i : Image) (keeps : KeepsConditions i) (so
 
   in_two : (addr next : ℕ) (front back : List ℕ) (a b : Access Thing) (ws : List (Option ByteWrite)) → access addr ≡ a → access next ≡ b → ws ≡ writes addr front ++ writes next back → 1 ≤ length front → 1 ≤ length back
       → addr % PAGE + length front ≤ PAGE → next % PAGE + length back ≤ PAGE → All IsByte front → All IsByte back
-      → AreLine (ground_of p i) (two_writes (place_of (address_of p i) a) front (place_of (address_of p i) b) back) ws
+      → AreLine (ground_of p i) (two_writes (access_address_of (address_of p i) a) front (access_address_of (address_of p i) b) back) ws
   in_two addr next front back (byte x offset) (byte y behind) ws e f are some more room rest small smaller =
       written (part x offset front ∷ part y behind back ∷ [])
       (one_write_is addr offset x front e room small, (one_write_is next behind y back f rest smaller, tt))

@@ -23,13 +23,13 @@ use Rattle.policy_lawful.specs.source.Component.{Component}
 use Rattle.policy_lawful.specs.source.Source.{Source}
 use Rattle.policy_lawful.specs.source.Subject.{Subject}
 use Rattle.subject_model.specs.ViewText.{rows_text, region_text}
-use Rattle.proof_turns.specs.Machine.{page_at}
+use Rattle.proof_turns.specs.Machine.{page_bytes_at}
 use Rattle.proof_turns.specs.Control.{Control}
 use Rattle.proof_turns.specs.setup.Setup.{Setup}
 use Rattle.subject_model.specs.Alone.{bytes_in}
 use Rattle.subject_model.specs.System.{System, state_of}
 use Rattle.subject_model.specs.Trace.{final_text as system_text, state_text, subject_text, thing_text}
-use Rattle.muen_run.specs.RunText.{bytes_from, final_text, numbered_span_text, numbered_subject_text, prints_as, span_text, spans_text, states_text, subject_text as part_text}
+use Rattle.muen_run.specs.RunText.{bytes_from, final_text, numbered_span_text, numbered_subject_text, prints_as, span_text, spans_text, states_text, machine_subject_text as part_text}
 use Rattle.proof_runs.proofs.FlatLists.{AllMadeBy, each_made, first_pass, flat_kept, flat_looked, flat_numbers, flat_same, found_beside, joined_made, mapped_made, no_items, second_pass}
 use Rattle.policy_lawful.proofs.Items.{provided_by, things_are}
 
@@ -39,11 +39,11 @@ use Rattle.policy_lawful.proofs.Items.{provided_by, things_are}
 abbrev pub HasStates : Source → Setup → List Page → System → Type 0
 HasStates p setup pages y =
     (s : ℕ) (n : Subject) → slice_get p.subjects s ≡ Some n
-    → (q : SubjectPart) × (c : Control) × (slice_get setup.subjects s ≡ Some q) × (slice_get setup.controls s ≡ Some c) × (q.name ≡ n.name) × (state_of y n.name ≡ Some (state_in (page_at pages c.state)))
+    → (q : SubjectPart) × (c : Control) × (slice_get setup.subjects s ≡ Some q) × (slice_get setup.controls s ≡ Some c) × (q.name ≡ n.name) × (state_of y n.name ≡ Some (state_in (page_bytes_at pages c.state)))
 
 -- the lines of a subject and of its part, over what was looked up
-part_told : (pages : List Page) (o : Option SubjectPart) (q : SubjectPart) (d : Option Control) (c : Control) (name : List ℕ) (st : Option SubjectState) → o ≡ Some q → d ≡ Some c → q.name ≡ name → st ≡ Some (state_in (page_at pages c.state)) → part_text pages o d ≡ state_text name st
-part_told pages o q d c name st a b e f = rw (a, b, f) (ap (λ name. rows_text name (state_in (page_at pages c.state))) e)
+part_told : (pages : List Page) (o : Option SubjectPart) (q : SubjectPart) (d : Option Control) (c : Control) (name : List ℕ) (st : Option SubjectState) → o ≡ Some q → d ≡ Some c → q.name ≡ name → st ≡ Some (state_in (page_bytes_at pages c.state)) → part_text pages o d ≡ state_text name st
+part_told pages o q d c name st a b e f = rw (a, b, f) (ap (λ name. rows_text name (state_in (page_bytes_at pages c.state))) e)
 
 -- the lines of all subjects
 pub states_text_is : (p : Source) (setup : Setup) (pages : List Page) (y : System) → HasStates p setup pages y → length setup.subjects ≡ length p.subjects → states_text setup pages ≡ flat_map (subject_text y) p.subjects

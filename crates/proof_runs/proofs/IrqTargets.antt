@@ -8,7 +8,7 @@ use Rattle.muen_num.proofs.Lookups.{same_names}
 use Rattle.image_soundness.proofs.NamesOfTargets.{reached_by_name}
 use Rattle.image_soundness.specs.Named.{reached, subject_name}
 use Rattle.image_soundness.specs.Sound.{IsDeviceOf, IsIrqOf}
-use Rattle.image_pack.specs.ImageConditions.{IsDevice, IsIrq, IsReached, KeepsConditions}
+use Rattle.image_pack.specs.ImageConditions.{IsDevicePart, IsIrqPart, IsReached, KeepsConditions}
 use Rattle.image_pack.specs.declared.parts.Image.{Image}
 use Rattle.image_pack.specs.declared.parts.IrqPart.{IrqPart}
 use Rattle.muen_num.specs.declared.devices.IrqTarget.{IrqTarget}
@@ -20,7 +20,7 @@ use Rattle.policy_lawful.specs.source.Subject.{Subject}
 use Rattle.record_text.specs.Bench.{BenchDevice}
 use Rattle.proof_start.proofs.StartSets.{name_by}
 use Rattle.proof_start.specs.GroundOf.{ground_of}
-use Rattle.proof_turns.specs.Ground.{Ground, IsSubject, name_at}
+use Rattle.proof_turns.specs.Ground.{Ground, IsSubject, subject_name_at}
 use Rattle.proof_runs.proofs.BenchGround.{HasTargets, IsRaised}
 use Rattle.proof_runs.proofs.Beside.{beside, both_mapped}
 
@@ -40,7 +40,7 @@ abbrev pub AreSubjects : Ground → Image → Type 0
 AreSubjects g i = (s : ℕ) → s < length i.subjects → IsSubject g s
 
 -- a number is of a subject of one name
-name_same : (g : Ground) (i : Image) (s : ℕ) → HaveNames g i → subject_name i s ≡ name_at g s
+name_same : (g : Ground) (i : Image) (s : ℕ) → HaveNames g i → subject_name i s ≡ subject_name_at g s
 name_same g i s named = ap (λ ns. slice_index_or ns s []) named ∙ name_by g.policy.subjects s
 
 -- a target that is granted by its names is raised
@@ -48,7 +48,7 @@ reached_by : (g : Ground) (i : Image) (device irq : List ℕ) (target : Option I
     → ((t : IrqTarget) → target ≡ Some t → IsSubject g t.subject) → option_map (reached i) target ≡ irq_of g.policy device irq → IsRaised g device irq target
 reached_by g i device irq None names are e = sym e
 reached_by g i device irq (Some t) names are e =
-    let named : reached i t ≡ record { subject = name_at g t.subject; vector = Some t.vector } =
+    let named : reached i t ≡ record { subject = subject_name_at g t.subject; vector = Some t.vector } =
     ap (λ n. record { subject = n; vector = Some t.vector }) (name_same g i t.subject names) in
     record { is = are t refl; granted = sym e ∙ ap (λ t. Some t) named }
 
@@ -68,8 +68,8 @@ has_targets g i keeps devices names are device irq d q found found_irq =
     let y = beside Q (λ q. bytes_eq q.name irq) x.other.irqs d.irqs q irqs found_irq in
     let device_name : x.other.name ≡ device = sym (ap name_of is.may) ∙ same_names d.name device x.passes in
     let irq_name : y.other.name ≡ irq = sym y.related.1 ∙ same_names q.name irq y.passes in
-    let of_device = all_in (IsDevice i) i.devices keeps.devices d (find_in (λ d. bytes_eq d.name device) i.devices d found).0 in
-    let of_irq = all_in (IsIrq i.header.subjects) d.irqs of_device.irqs q (find_in (λ q. bytes_eq q.name irq) d.irqs q found_irq).0 in
+    let of_device = all_in (IsDevicePart i) i.devices keeps.devices d (find_in (λ d. bytes_eq d.name device) i.devices d found).0 in
+    let of_irq = all_in (IsIrqPart i.header.subjects) d.irqs of_device.irqs q (find_in (λ q. bytes_eq q.name irq) d.irqs q found_irq).0 in
     let count = keeps.counts.subjects in
     reached_by g i device irq q.target names
     (λ t e. let within = reached_within i.header.subjects q.target t of_irq.reached e in are t.subject (omega (arith, within, count)))

@@ -7,7 +7,7 @@ use Rattle.std.specs.Str.{bytes_eq}
 use Rattle.muen_num.proofs.Lists.{find-map, list_any-map}
 use Rattle.muen_num.proofs.Options.{is_some-option_map, some_if}
 use Rattle.muen_num.proofs.Lookups.{found_number}
-use Rattle.image_load.specs.Resolving.{NamedMemory, bench_device_of, bytes_into, device_called, image_bench, input_of, irq_input_of, memories_of, memory_input_of, port_input_of}
+use Rattle.image_load.specs.Resolving.{NamedMemory, bench_device_of, bytes_into, device_called, image_bench, image_input_of, irq_input_of, named_memories_of, memory_input_of, port_input_of}
 use Rattle.record_text.specs.Resolving.{is_in_span, raised}
 use Rattle.image_pack.specs.declared.parts.DevicePart.{DevicePart}
 use Rattle.image_pack.specs.declared.parts.Image.{Image}
@@ -41,8 +41,8 @@ memory_known : (spans : List SpanPart) (memory : List ℕ) (offset : ℕ) (bytes
 memory_known spans memory offset bytes None = refl
 memory_known spans memory offset bytes (Some d) =
     ap (λ o. option_map_or (λ (m : List ℕ × ℕ). nat_le (offset + length bytes) m.1) o false)
-    (find-map (λ m. bytes_eq m.0 memory) name_and_size (memories_of spans d))
-    ∙ bytes_known offset bytes (find (λ m. bytes_eq m.name memory) (memories_of spans d))
+    (find-map (λ m. bytes_eq m.0 memory) name_and_size (named_memories_of spans d))
+    ∙ bytes_known offset bytes (find (λ m. bytes_eq m.name memory) (named_memories_of spans d))
 
 -- an interrupt of a device is known where it reaches somebody, or nobody
 irq_known : (spans : List SpanPart) (irq : List ℕ) (o : Option DevicePart)
@@ -58,7 +58,7 @@ device_found : (i : Image) (device : List ℕ) → find (λ d. bytes_eq d.name d
 device_found i device = find-map (λ d. bytes_eq d.name device) (bench_device_of i.spans) i.devices
 
 -- so what is known is what has an input
-pub known_is : (i : Image) (input : NamedInput) → is_known (image_bench i) input ≡ is_some (input_of i input)
+pub known_is : (i : Image) (input : NamedInput) → is_known (image_bench i) input ≡ is_some (image_input_of i input)
 known_is i (port_input device port value) =
     ap (λ o. option_map_or (has_port port) o false) (device_found i device) ∙ port_known i.spans port value (device_called device i)
 known_is i (memory_input device memory offset bytes) =

@@ -10,7 +10,7 @@ use Rattle.image_soundness.specs.Memory.{Span}
 use Rattle.image_soundness.specs.Named.{bench_device, bench_of, window_memory}
 use Rattle.image_pack.specs.Codes.{is_device, part_name}
 use Rattle.image_pack.specs.Image.{device_name, window_name}
-use Rattle.image_pack.specs.ImageConditions.{IsContent, IsDevice, IsWindow, KeepsConditions}
+use Rattle.image_pack.specs.ImageConditions.{IsContent, IsDevicePart, IsWindow, KeepsConditions}
 use Rattle.image_pack.specs.declared.parts.DevicePart.{DevicePart}
 use Rattle.image_pack.specs.declared.parts.Image.{Image}
 use Rattle.image_pack.specs.declared.parts.SpanPart.{SpanPart}
@@ -92,17 +92,17 @@ windows_same i contents (w ∷ ws) (n ∷ ns) h =
     ∙ ap₂ cons_option (window_same i w n contents h.0) (windows_same i contents ws ns h.1)
 
 -- and a device is the same
-device_same : (i : Image) (d : DevicePart) → AllZip IsContent i.spans i.contents → IsDevice i d → bench_device_of i.spans d ≡ bench_device i d
+device_same : (i : Image) (d : DevicePart) → AllZip IsContent i.spans i.contents → IsDevicePart i d → bench_device_of i.spans d ≡ bench_device i d
 device_same i d contents h =
     ap (λ ms. record { name = d.name; ports = map (λ r. (r.start, r.end)) d.ports; memories = ms; irqs = map (λ q. q.name) d.irqs })
     (windows_same i contents d.windows h.names h.windows)
 
 -- .. and so are all
-devices_same : (i : Image) → AllZip IsContent i.spans i.contents → (ds : List DevicePart) → All (IsDevice i) ds
+devices_same : (i : Image) → AllZip IsContent i.spans i.contents → (ds : List DevicePart) → All (IsDevicePart i) ds
     → map (bench_device_of i.spans) ds ≡ map (bench_device i) ds
 devices_same i contents [] h = refl
 devices_same i contents (d ∷ ds) h =
-    ap₂ (λ b bs. b ∷ bs) (device_same i d contents (All-head (IsDevice i) d ds h)) (devices_same i contents ds (All-tail (IsDevice i) d ds h))
+    ap₂ (λ b bs. b ∷ bs) (device_same i d contents (All-head (IsDevicePart i) d ds h)) (devices_same i contents ds (All-tail (IsDevicePart i) d ds h))
 
 -- what a record may name of an image is written in two ways
 pub same_bench : (i : Image) → KeepsConditions i → image_bench i ≡ bench_of i

@@ -9,7 +9,7 @@ use Rattle.std.proofs.lemmas.List.Elements.{All-head, All-tail}
 use Rattle.muen_num.proofs.Lists.{find-map}
 use Rattle.muen_num.specs.Range.{numbers_below}
 use Rattle.subject_model.specs.Clock.{inputs_at, line_writes, order_at}
-use Rattle.image_load.specs.Resolving.{NamedMemory, bytes_into, device_called, image_bench, image_record, input_of, irq_input_of, memories_of, memory_input_of, port_input_of, tick_input_of}
+use Rattle.image_load.specs.Resolving.{NamedMemory, bytes_into, device_called, image_bench, image_record, image_input_of, irq_input_of, named_memories_of, memory_input_of, port_input_of, tick_input_of}
 use Rattle.record_text.specs.Resolving.{is_in_span, raised, order_at as order_of}
 use Rattle.image_soundness.specs.Named.{bench_of}
 use Rattle.image_pack.specs.ImageConditions.{KeepsConditions}
@@ -83,12 +83,12 @@ module _ (g : Ground) (i : Image) (tables : Option DmaFile) where
 
   -- .. of a device
   memory_alike : (device memory : List ℕ) (offset : ℕ) (bytes : List ℕ) (o : Option DevicePart)
-      → ((d : DevicePart) (m : NamedMemory) → o ≡ Some d → find (λ m. bytes_eq m.name memory) (memories_of i.spans d) ≡ Some m → IsThing g device memory m)
+      → ((d : DevicePart) (m : NamedMemory) → o ≡ Some d → find (λ m. bytes_eq m.name memory) (named_memories_of i.spans d) ≡ Some m → IsThing g device memory m)
       → All IsByte bytes → is_some (option_and_then (memory_input_of i.spans memory offset bytes) o) ≡ true
       → AreInput g (effects (option_and_then (memory_input_of i.spans memory offset bytes) o)) (memory_input device memory offset bytes)
   memory_alike device memory offset bytes None there small h = cc
   memory_alike device memory offset bytes (Some d) there small h =
-      bytes_alike device memory offset bytes (find (λ m. bytes_eq m.name memory) (memories_of i.spans d)) (λ m e. there d m refl e) small h
+      bytes_alike device memory offset bytes (find (λ m. bytes_eq m.name memory) (named_memories_of i.spans d)) (λ m e. there d m refl e) small h
 
   -- an interrupt, by whom it reaches
   raised_alike : (device irq : List ℕ) (target : Option IrqTarget) → IsRaised g device irq target → AreInput g (effects (Some (raised target))) (irq_input device irq)
@@ -131,7 +131,7 @@ pub record AreDevices (g : Ground) (i : Image) (tables : Option DmaFile) : Type 
 
 module _ (g : Ground) (i : Image) (tables : Option DmaFile) (devices : AreDevices g i tables) where
   -- an input that is known is the same for the machine and for the system
-  input_alike : (input : NamedInput) → is_some (input_of i input) ≡ true → IsSmall input → AreInput g (effects g i tables (input_of i input)) input
+  input_alike : (input : NamedInput) → is_some (image_input_of i input) ≡ true → IsSmall input → AreInput g (effects g i tables (image_input_of i input)) input
   input_alike (port_input device port value) h small = port_alike g i tables device port value (device_called device i) small h
   input_alike (memory_input device memory offset bytes) h small =
       memory_alike g i tables device memory offset bytes (device_called device i) (devices.memories device memory) small h

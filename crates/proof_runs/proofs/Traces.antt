@@ -34,7 +34,7 @@ use Rattle.image_soundness.specs.Bench.{devices_of}
 use Rattle.proof_turns.specs.Run.{Ran, run_to}
 use Rattle.proof_turns.specs.Alike.{AreAlikeRuns}
 use Rattle.subject_model.specs.StatePage.{state_in}
-use Rattle.proof_turns.specs.Machine.{page_at}
+use Rattle.proof_turns.specs.Machine.{page_bytes_at}
 use Rattle.proof_turns.specs.Control.{Control}
 use Rattle.subject_model.specs.ViewText.{turn_text}
 use Rattle.subject_model.specs.TurnLine.{TurnLine}
@@ -136,7 +136,7 @@ module _ (p : Source) (files : Held) (i : Image)
       let same : is.subject ≡ n = one_value (slice_get p.subjects s) is.subject n j.subject at in
       subst (λ m. (q : SubjectPart) × (c : Control)
       × (slice_get i.subjects s ≡ Some q) × (slice_get (setup_of i).controls s ≡ Some c) × (q.name ≡ m.name)
-      × (state_of system_ran.state m.name ≡ Some (state_in (page_at pages_then c.state)))) same (
+      × (state_of system_ran.state m.name ≡ Some (state_in (page_bytes_at pages_then c.state)))) same (
         is.part,
         is.control,
         j.part,

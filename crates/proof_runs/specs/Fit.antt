@@ -12,9 +12,9 @@ use Rattle.policy_lawful.specs.Windows.{Access, byte, violation}
 use Rattle.policy_lawful.specs.source.Source.{Source}
 
 -- where the byte lies that an access may touch
-abbrev pub place_of : (Thing → ℕ) → Access Thing → Option ℕ
-place_of address (byte x offset) = Some (address x + offset)
-place_of address (violation found) = None
+abbrev pub access_address_of : (Thing → ℕ) → Access Thing → Option ℕ
+access_address_of address (byte x offset) = Some (address x + offset)
+access_address_of address (violation found) = None
 
 -- where tables lead a write of a device; without tables nowhere
 abbrev pub write_by : Option DmaFile → List ℕ → ℕ → Option ℕ
@@ -23,4 +23,4 @@ write_by tables device addr = option_and_then (λ (t : DmaFile). dma_walk t devi
 -- **tables fit**, or that there are none does: each write of a device of the policy is led to where the image has the byte that
 -- the device's domain declares, and nowhere else
 abbrev pub Fit : Source → Image → Option DmaFile → Type 0
-Fit p i tables = All (λ d. (addr : ℕ) → write_by tables d.name addr ≡ place_of (address_of p i) (dma_access p d.name addr Write)) p.devices
+Fit p i tables = All (λ d. (addr : ℕ) → write_by tables d.name addr ≡ access_address_of (address_of p i) (dma_access p d.name addr Write)) p.devices

@@ -30,7 +30,7 @@ use Rattle.policy_lawful.specs.Windows.{Access, access_of, byte, violation, wind
 use Rattle.policy_lawful.specs.source.Source.{Source}
 use Rattle.policy_lawful.specs.source.Subject.{Subject}
 use Rattle.proof_turns.specs.Ground.{page_and_offset}
-use Rattle.vmx_machine.specs.Machine.{look_in, msr_exits_in, page_at, ports_exit, reach_by as reach_by_walk}
+use Rattle.vmx_machine.specs.Machine.{look_in, msr_exits_in, page_bytes_at, ports_exit, reach_by as reach_by_walk}
 use Rattle.vmx_machine.specs.declared.control.Control.{Control}
 use Rattle.proof_start.specs.GroundOf.{ground_of}
 use Rattle.muen_num.proofs.Indexed.{filtered_at, found_at, kept_at}
@@ -120,7 +120,7 @@ bitmaps_alike p files i keeps sound n q c s named here at =
     let second = second_io_page_there p i keeps s q c here at in
     let msrs = msr_page_there p i keeps s q c here at in (
       (λ port size.
-          ap (λ o. port_exits (unwrap_or o []) (page_at (memory_of i) (c.io_bitmaps + 1)) port size) first
+          ap (λ o. port_exits (unwrap_or o []) (page_bytes_at (memory_of i) (c.io_bitmaps + 1)) port size) first
           ∙ ap (λ o. port_exits (image_page i q.iobm 0) (unwrap_or o []) port size) second
           ∙ has.ports port size),
       (λ index write. ap (λ o. msr_exits (unwrap_or o []) index write) msrs ∙ has.msrs index write),

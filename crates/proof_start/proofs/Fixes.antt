@@ -3,7 +3,7 @@ use Rattle.std.proofs.Common.{◌≡◌, ◌⊎◌, ℕ, zero, suc, ◌*◌, ◌
 use Rattle.std.specs.Prelude.{is_some, option_map, option_and_then, slice_get, slice_index_or}
 use Rattle.std.specs.List.{All}
 use Rattle.std.proofs.lemmas.Bool.{cases_lt}
-use Rattle.image_pack.specs.ImageConditions.{IsEvent, IsSubject as KeepsSubject, KeepsConditions}
+use Rattle.image_pack.specs.ImageConditions.{IsEvent, IsSubjectPart as KeepsSubject, KeepsConditions}
 use Rattle.image_pack.specs.declared.parts.EventPart.{EventPart}
 use Rattle.image_pack.specs.declared.parts.Image.{Image}
 use Rattle.image_pack.specs.declared.parts.SubjectPart.{SubjectPart}
@@ -28,7 +28,7 @@ use Rattle.policy_lawful.specs.source.SourceWay.TheVariants.{Call, Trap}
 use Rattle.policy_lawful.specs.source.Subject.{Subject}
 use Rattle.policy_lawful.specs.source.Tau0.{Tau0}
 use Rattle.vmx_machine.specs.declared.control.Control.{Control}
-use Rattle.proof_turns.specs.Ground.{Ground, IsSubject, Joined, name_at, raised_of}
+use Rattle.proof_turns.specs.Ground.{Ground, IsSubject, Joined, subject_name_at, raised_of}
 use Rattle.proof_turns.specs.Fixed.{IsFixed, Sees, Watches}
 use Rattle.proof_start.specs.GroundOf.{ground_of}
 use Rattle.proof_start.proofs.Aligned.{bitmaps_alike, walks_alike}
@@ -72,7 +72,7 @@ module _ (p : Source) (files : Held) (i : Image) (keeps : KeepsConditions i) (so
   g = ground_of p i
 
   -- a number names the same subject in both
-  same_name : (t : ℕ) → subject_name i t ≡ name_at g t
+  same_name : (t : ℕ) → subject_name i t ≡ subject_name_at g t
   unfolding ground_of
   same_name t = ap (λ ns. slice_index_or ns t []) (names_of p files i sound) ∙ name_by p.subjects t
 

@@ -7,14 +7,14 @@ use Rattle.std.proofs.lemmas.Bool.{and_parts, cases_lt, eqb-true}
 use Rattle.std.proofs.lemmas.List.Folds.{list_all-map}
 use Rattle.std.proofs.lemmas.Option.{slice_get-map}
 use Rattle.subject_model.specs.Clock.{ticks_of_majors}
-use Rattle.subject_model.specs.Frames.{slot_in, ticks_of_majors as ticks_in_plan}
+use Rattle.subject_model.specs.Frames.{slot_in, ticks_of_plan_majors as ticks_in_plan}
 use Rattle.subject_model.specs.frame_at.FrameAt.{FrameAt}
 use Rattle.image_soundness.specs.Sound.{IsSound}
 use Rattle.image_pack.specs.ImageConditions.{KeepsConditions}
 use Rattle.image_pack.specs.declared.parts.Image.{Image}
 use Rattle.image_pack.specs.declared.parts.SubjectPart.{SubjectPart}
 use Rattle.subject_model.proofs.SlotLaws.{frames_at, frames_there, has_majors, major_ticks, ticks_of}
-use Rattle.image_pack.specs.Plan.{cpus_of, frame_of, frames_in, is_group_on, is_major, is_minor, is_plan}
+use Rattle.image_pack.specs.Plan.{cpus_of, frame_of_minor, frames_in, is_group_on, is_major, is_minor, is_plan}
 use Rattle.subject_model.specs.Slot.{Slot, frame_slots}
 use Rattle.image_pack.specs.plan.GroupPart.{GroupPart}
 use Rattle.image_pack.specs.plan.Major.{Major}
@@ -42,9 +42,9 @@ slots p files i sound cpu frame tick low = ap (λ frames. slot_in frames frame t
 -- ---- the groups of slots
 
 -- each minor frame is for a group on its CPU
-frames_on : (groups : List GroupPart) (cpu : ℕ) (fs : List Minor) → list_all (is_minor groups cpu) fs ≡ true → list_all (λ f. is_group_on groups cpu f.group) (map frame_of fs) ≡ true
+frames_on : (groups : List GroupPart) (cpu : ℕ) (fs : List Minor) → list_all (is_minor groups cpu) fs ≡ true → list_all (λ f. is_group_on groups cpu f.group) (map frame_of_minor fs) ≡ true
 frames_on groups cpu fs all =
-    list_all-map (λ f. is_group_on groups cpu f.group) frame_of fs
+    list_all-map (λ f. is_group_on groups cpu f.group) frame_of_minor fs
     ∙ each_from (is_minor groups cpu) (λ f. is_group_on groups cpu f.group) (λ f h. (and_parts (nat_lt 0 f.ticks) (is_group_on groups cpu f.group) h).1) fs all
 
 -- a slot of a major frame of the plan

@@ -14,7 +14,7 @@ use Rattle.policy_lawful.specs.Contents.{Held, initial_bytes}
 use Rattle.policy_lawful.specs.Thing.{Thing, region, channel, provided, device_memory, state, same_thing, things_of, thing_tag}
 use Rattle.policy_lawful.specs.source.Source.{Source}
 use Rattle.policy_lawful.proofs.SameThings.{same_things}
-use Rattle.proof_start.specs.GroundOf.{ground_of, pages_in}
+use Rattle.proof_start.specs.GroundOf.{ground_of, page_count_of_thing}
 use Rattle.muen_num.proofs.Indexed.{any_passing, filtered_at, found_at, found_changed, found_some, kept_at}
 use Rattle.image_memory.proofs.SpanPages.{SpanIn, span_by}
 
@@ -75,7 +75,7 @@ Listed = Thing × Span
 abbrev pub listed : Source → Image → List Listed
 listed p i = zip (things_of p) (thing_spans i)
 
-pub pages_by : (p : Source) (i : Image) (x : Thing) → pages_in p i x ≡ option_map_or (λ (e : Thing × ℕ). e.1) (option_map (λ (e : Listed). (e.0, e.1.0.pages)) (find (λ (e : Listed). same_thing e.0 x) (listed p i))) 0
+pub pages_by : (p : Source) (i : Image) (x : Thing) → page_count_of_thing p i x ≡ option_map_or (λ (e : Thing × ℕ). e.1) (option_map (λ (e : Listed). (e.0, e.1.0.pages)) (find (λ (e : Listed). same_thing e.0 x) (listed p i))) 0
 pages_by p i x = ap (λ o. option_map_or (λ (e : Thing × ℕ). e.1) o 0) (found_changed (λ y. same_thing y x) (λ (e : Span). e.0.pages) (things_of p) (thing_spans i))
 
 found_front : {X : Type 0} (test : X → Bool) (xs ys : List X) (x : X) → find test xs ≡ Some x → find test (xs ++ ys) ≡ Some x

@@ -13,7 +13,7 @@ use Rattle.muen_num.specs.declared.tag.TagPart.TheVariants.{State, Msrs}
 use Rattle.policy_lawful.specs.Contents.{Held}
 use Rattle.policy_lawful.specs.Thing.{Thing}
 use Rattle.policy_lawful.specs.source.Source.{Source}
-use Rattle.proof_turns.specs.Ground.{Spot, thing_at, state_at, area_at, IsAt}
+use Rattle.proof_turns.specs.Ground.{Spot, thing_at, state_at, area_at, IsSpotAt}
 use Rattle.proof_start.specs.GroundOf.{ground_of, is_kept}
 use Rattle.proof_start.proofs.SpanFacts.{HasPage, first_page_in, kernel_kind, page_in, page_not_kept, same_span}
 use Rattle.image_memory.proofs.SpanNumbers.{KernelSpan}
@@ -29,7 +29,7 @@ pub record ThingAt (p : Source) (files : Held) (i : Image) (x : Thing) (j k : �
   pub page : HasPage k span.span.0
   pub is : (ground_of p i).first x + j ≡ k
 
-pub thing_spot : (p : Source) (files : Held) (i : Image) → KeepsConditions i → IsSound p files i → (x : Thing) (j k : ℕ) → IsAt (ground_of p i) (thing_at x j) k → ThingAt p files i x j k
+pub thing_spot : (p : Source) (files : Held) (i : Image) → KeepsConditions i → IsSound p files i → (x : Thing) (j k : ℕ) → IsSpotAt (ground_of p i) (thing_at x j) k → ThingAt p files i x j k
 thing_spot p files i keeps sound x j k at =
     let t = thing_span p files i keeps sound x j at.0 in
     let low : j < t.span.0.pages = subst (λ n. j < n) t.pages at.0 in
@@ -53,13 +53,13 @@ pub record OwnAt (i : Image) (code s k : ℕ) (number : SubjectPart → ℕ) : T
   pub here : slice_get i.subjects s ≡ Some part
   pub at : KernelAt i code (number part) k
 
-pub state_spot : (p : Source) (i : Image) → KeepsConditions i → (s k : ℕ) → IsAt (ground_of p i) (state_at s) k → OwnAt i (part_code State) s k (λ q. q.state)
+pub state_spot : (p : Source) (i : Image) → KeepsConditions i → (s k : ℕ) → IsSpotAt (ground_of p i) (state_at s) k → OwnAt i (part_code State) s k (λ q. q.state)
 state_spot p i keeps s k at =
     let c = controlled p i s at.0 at.1 in
     let spans = subject_spans i keeps s c.part c.here in
     record { part = c.part; here = c.here; at = kernel_spot i keeps (part_code State) c.part.state (omega arith) spans.state k (sym spans.state.first ∙ ap (λ d. d.state) c.is ∙ at.2) }
 
-pub area_spot : (p : Source) (i : Image) → KeepsConditions i → (s k : ℕ) → IsAt (ground_of p i) (area_at s) k → OwnAt i (part_code Msrs) s k (λ q. q.area)
+pub area_spot : (p : Source) (i : Image) → KeepsConditions i → (s k : ℕ) → IsSpotAt (ground_of p i) (area_at s) k → OwnAt i (part_code Msrs) s k (λ q. q.area)
 area_spot p i keeps s k at =
     let c = controlled p i s at.0 at.1 in
     let spans = subject_spans i keeps s c.part c.here in
@@ -92,10 +92,10 @@ one_kernel i keeps code n code' m k a b =
     (sym a.span.part ∙ ap (λ s. part_code s.tag.part) e ∙ b.span.part, sym a.span.number ∙ ap (λ s. s.number) e ∙ b.span.number)
 
 -- the pages of two different spots differ
-pub apart : (p : Source) (files : Held) (i : Image) → KeepsConditions i → IsSound p files i → (a b : Spot) (j k : ℕ) → IsAt (ground_of p i) a j → IsAt (ground_of p i) b k → (a ≡ b → ⊥) → j ≡ k → ⊥
-apart p files i keeps sound a b j k at to ne e = on_one a b j at (subst (IsAt (ground_of p i) b) (sym e) to) ne
+pub apart : (p : Source) (files : Held) (i : Image) → KeepsConditions i → IsSound p files i → (a b : Spot) (j k : ℕ) → IsSpotAt (ground_of p i) a j → IsSpotAt (ground_of p i) b k → (a ≡ b → ⊥) → j ≡ k → ⊥
+apart p files i keeps sound a b j k at to ne e = on_one a b j at (subst (IsSpotAt (ground_of p i) b) (sym e) to) ne
   where
-    on_one : (a b : Spot) (k : ℕ) → IsAt (ground_of p i) a k → IsAt (ground_of p i) b k → (a ≡ b → ⊥) → ⊥
+    on_one : (a b : Spot) (k : ℕ) → IsSpotAt (ground_of p i) a k → IsSpotAt (ground_of p i) b k → (a ≡ b → ⊥) → ⊥
     on_one (thing_at x j) (thing_at y l) k at to ne = ne (same_things_page p files i keeps x y j l k (thing_spot p files i keeps sound x j k at) (thing_spot p files i keeps sound y l k to))
     on_one (thing_at x j) (state_at t) k at to ne = let b = state_spot p i keeps t k to in not_both p files i keeps x j (part_code State) b.part.state k (thing_spot p files i keeps sound x j k at) b.at
     on_one (thing_at x j) (area_at t) k at to ne = let b = area_spot p i keeps t k to in not_both p files i keeps x j (part_code Msrs) b.part.area k (thing_spot p files i keeps sound x j k at) b.at
@@ -132,7 +132,7 @@ own_not_kept s n e a b c =
     and_right (is_kernel s.kind) _ (or_from (part_code s.tag.part == 3) _ (other_code s n 3 e a) (or_from (part_code s.tag.part == 4) (part_code s.tag.part == 5) (other_code s n 4 e b) (other_code s n 5 e c)))
 
 -- no page of a spot is one of tables or of bitmaps
-pub aside : (p : Source) (files : Held) (i : Image) → KeepsConditions i → IsSound p files i → (a : Spot) (j : ℕ) → IsAt (ground_of p i) a j → (ground_of p i).kept j ≡ false
+pub aside : (p : Source) (files : Held) (i : Image) → KeepsConditions i → IsSound p files i → (a : Spot) (j : ℕ) → IsSpotAt (ground_of p i) a j → (ground_of p i).kept j ≡ false
 unfolding ground_of
 aside p files i keeps sound (thing_at x l) j at =
     let t = thing_spot p files i keeps sound x l j at in

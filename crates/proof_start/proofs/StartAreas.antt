@@ -17,7 +17,7 @@ use Rattle.muen_num.proofs.NumbersBelow.{length_numbers, number_at, same_below}
 use Rattle.muen_num.proofs.Options.{from_some}
 use Rattle.muen_num.specs.Range.{numbers_below}
 use Rattle.policy_lawful.specs.source.Subject.{Subject}
-use Rattle.proof_turns.specs.Held.{AreDistinct, AreEntries, HasMsr, entry_value, indices}
+use Rattle.proof_turns.specs.Held.{AreDistinctIndices, AreEntries, HasMsr, entry_value, indices}
 use Rattle.vmx_machine.specs.Machine.{entries_in}
 
 -- ---- numbers that differ, in another order
@@ -47,7 +47,7 @@ present v (x ∷ xs) h =
       | inr f ↦ let rest = present v xs (let g = rw f at h in g) in omega (arith, more, rest)
     ]
 
-once : (v : ℕ) (xs : List ℕ) → AreDistinct xs → times v xs ≤ 1
+once : (v : ℕ) (xs : List ℕ) → AreDistinctIndices xs → times v xs ≤ 1
 once v [] h = omega arith
 once v (x ∷ xs) h =
     let more = sum_by-cons (one_if v) x xs in
@@ -60,7 +60,7 @@ once v (x ∷ xs) h =
       | inr f ↦ let here : one_if v x ≡ 0 = ap (λ b. cond b 1 0) f in omega (arith, here, more, rest)
     ]
 
-distinct_by : (xs : List ℕ) → ((v : ℕ) → times v xs ≤ 1) → AreDistinct xs
+distinct_by : (xs : List ℕ) → ((v : ℕ) → times v xs ≤ 1) → AreDistinctIndices xs
 distinct_by [] h = tt
 distinct_by (x ∷ xs) h = (
   false_from_ne_true (is_among xs x) (λ there.
@@ -76,7 +76,7 @@ distinct_by (x ∷ xs) h = (
 )
 
 -- numbers that differ do so in each order
-pub distinct_permuted : (xs ys : List ℕ) → IsPermutation xs ys → AreDistinct xs → AreDistinct ys
+pub distinct_permuted : (xs ys : List ℕ) → IsPermutation xs ys → AreDistinctIndices xs → AreDistinctIndices ys
 distinct_permuted xs ys same h =
     distinct_by ys (λ v.
     let n = sum_by-IsPermutation (one_if v) xs ys same in
@@ -160,9 +160,9 @@ module _ (n : Subject) (bytes : List ℕ) (count : ℕ) (few : 16 * count ≤ 40
   in_entries v has = subst (λ is. is_among is v ≡ true) (sym page_indices) (in_permuted (map (λ m. m.index) (msrs_of n)) (map (area_index bytes) (numbers_below count)) v each (granted_in (msrs_of n) v has.0 has.1))
 
   -- each index is there once, and each granted MSR is there
-  pub area_entries : AreDistinct (map (λ m. m.index) (msrs_of n)) → AreEntries n (entries_in count (take 4096 bytes))
+  pub area_entries : AreDistinctIndices (map (λ m. m.index) (msrs_of n)) → AreEntries n (entries_in count (take 4096 bytes))
   area_entries differ = record {
-    distinct = subst AreDistinct (sym page_indices) (distinct_permuted (map (λ m. m.index) (msrs_of n)) (map (area_index bytes) (numbers_below count)) each differ);
+    distinct = subst AreDistinctIndices (sym page_indices) (distinct_permuted (map (λ m. m.index) (msrs_of n)) (map (area_index bytes) (numbers_below count)) each differ);
     covers = in_entries;
   }
 

@@ -10,7 +10,7 @@ use Rattle.subject_model.specs.System.{named, start_of, subject_named}
 use Rattle.proof_turns.specs.Router.{started as router_started}
 use Rattle.proof_turns.specs.Vectors.{no_marks, no_vectors}
 use Rattle.image_soundness.specs.Sound.{IsSound}
-use Rattle.image_pack.specs.ImageConditions.{IsGroup, KeepsConditions, IsSubject as IsImageSubject}
+use Rattle.image_pack.specs.ImageConditions.{IsGroup, KeepsConditions, IsSubjectPart as IsImageSubject}
 use Rattle.image_pack.specs.declared.parts.Image.{Image}
 use Rattle.image_pack.specs.declared.parts.SubjectPart.{SubjectPart}
 use Rattle.image_pack.specs.plan.GroupPart.{GroupPart}
@@ -21,7 +21,7 @@ use Rattle.policy_lawful.specs.Frames.{first_member}
 use Rattle.policy_lawful.specs.source.Source.{Source}
 use Rattle.policy_lawful.specs.source.Subject.{Subject}
 use Rattle.proof_turns.specs.Fixed.{IsFixed}
-use Rattle.proof_turns.specs.Ground.{Ground, name_at}
+use Rattle.proof_turns.specs.Ground.{Ground, subject_name_at}
 use Rattle.guest_isa.specs.Words.{IsWord}
 use Rattle.proof_turns.specs.Held.{IsSameSet, SameSet}
 use Rattle.proof_turns.specs.Stands.{CpusStand, FitsCpu, IsMember, RouterStands, SameEntered}
@@ -64,14 +64,14 @@ told : (a b k g : ℕ) → a ≡ b → (not (a == b) || (k == g)) ≡ true → k
 told a b k g e h = eqb-true k g (let t = eq-eqb a b e in let h = rw t at h in h)
 
 module _ (p : Source) (files : Held) (i : Image) (keeps : KeepsConditions i) (sound : IsSound p files i) where
-  same_firsts : (k : ℕ) → slice_get (map (λ g. first_member g.subjects) p.scheduling.groups) k ≡ option_map (name_at (ground_of p i)) (slice_get (map (λ g. g.first) i.plan.groups) k)
+  same_firsts : (k : ℕ) → slice_get (map (λ g. first_member g.subjects) p.scheduling.groups) k ≡ option_map (subject_name_at (ground_of p i)) (slice_get (map (λ g. g.first) i.plan.groups) k)
   unfolding ground_of
   same_firsts k =
       let name : GroupPart → List ℕ = λ g. get_or (map (λ (n : Subject). n.name) p.subjects) g.first [] in
       sym (ap (λ xs. slice_get xs k) sound.plan_and_events.plan.firsts)
       ∙ slice_get-map name i.plan.groups k
       ∙ names_of_firsts p.subjects (slice_get i.plan.groups k)
-      ∙ ap (option_map (name_at (ground_of p i))) (sym (slice_get-map (λ (g : GroupPart). g.first) i.plan.groups k))
+      ∙ ap (option_map (subject_name_at (ground_of p i))) (sym (slice_get-map (λ (g : GroupPart). g.first) i.plan.groups k))
 
   -- the first member of a group is a subject of this group
   first_is_member : IsFixed (ground_of p i) → (k s : ℕ) → slice_get (map (λ g. g.first) i.plan.groups) k ≡ Some s → IsMember (ground_of p i) k s

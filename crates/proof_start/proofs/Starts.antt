@@ -13,7 +13,7 @@ use Rattle.image_load.specs.Loaded.{setup_of}
 use Rattle.image_memory.specs.Memory.{memory_of, bytes_at, page_at}
 use Rattle.image_soundness.proofs.SoundFacts.{areas_of}
 use Rattle.image_soundness.specs.Sound.{HasArea, IsSound}
-use Rattle.image_pack.specs.ImageConditions.{KeepsConditions, IsSubject as IsImageSubject}
+use Rattle.image_pack.specs.ImageConditions.{KeepsConditions, IsSubjectPart as IsImageSubject}
 use Rattle.image_pack.specs.declared.parts.Image.{Image}
 use Rattle.image_pack.specs.declared.parts.SubjectPart.{SubjectPart}
 use Rattle.proof_turns.specs.Ticks.{live_started}
@@ -32,8 +32,8 @@ use Rattle.policy_lawful.proofs.SameThings.{same_thing_self}
 use Rattle.proof_turns.specs.Fixed.{IsFixed}
 use Rattle.proof_turns.specs.Ground.{part}
 use Rattle.guest_isa.specs.Words.{IsByte}
-use Rattle.proof_turns.specs.Held.{AreEntries, HasMsr, Held, IsOwn, entry_value, held_by, is_on, on_pages}
-use Rattle.proof_turns.specs.Stands.{HasPages, Shows, StandsFor}
+use Rattle.proof_turns.specs.Held.{AreEntries, HasMsr, Held, IsOwn, entry_value, held_by, is_subject_entered, on_pages}
+use Rattle.proof_turns.specs.Stands.{HasStateAndMsrArea, ShowsThings, StandsFor}
 use Rattle.vmx_machine.specs.Machine.{entries_in, fresh}
 use Rattle.vmx_machine.specs.declared.control.Control.{Control}
 use Rattle.vmx_machine.specs.declared.cpu.Cpu.{Cpu}
@@ -58,7 +58,7 @@ zeros_small n = All-replicate IsByte n 0 (omega arith)
 -- ---- who isn't on any CPU is on its pages
 
 off : (s msrs : ℕ) (page area : Option (List ℕ)) (cpus cpu : ℕ) (u : Option Cpu) → held_by s msrs page area (slice_get (replicate cpus None) cpu) u ≡ on_pages msrs page area
-off s msrs page area cpus cpu u = held_off s msrs page area (slice_get (replicate cpus None) cpu) u (λ who at. subst (λ w. is_on s w ≡ false) (replicated cpus cpu None who at) refl)
+off s msrs page area cpus cpu u = held_off s msrs page area (slice_get (replicate cpus None) cpu) u (λ who at. subst (λ w. is_subject_entered s w ≡ false) (replicated cpus cpu None who at) refl)
 
 -- a subject of which all is on its pages
 own_by : (n : Subject) (things : Things) (msrs : Named MsrValues) (h : Held) (count many : ℕ) (page area : Option (List ℕ)) (state_bytes area_page : List ℕ) (values : MsrValues) → h ≡ on_pages count page area → page ≡ Some state_bytes → area ≡ Some area_page → count ≡ many
@@ -86,7 +86,7 @@ module _ (p : Source) (files : HeldFiles) (i : Image) (keeps : KeepsConditions i
       named_map (λ s. map (λ m. (m.index, 0)) (msrs_of s)) p.subjects n.name
       ∙ ap (option_map (λ (s : Subject). map (λ m. (m.index, 0)) (msrs_of s))) found
 
-  shown : HoldsBytes i → Shows (ground_of p i) (memory_of i) (start_of p files).things
+  shown : HoldsBytes i → ShowsThings (ground_of p i) (memory_of i) (start_of p files).things
   unfolding ground_of
   shown small = record {
     bytes = λ x j low.
@@ -111,7 +111,7 @@ module _ (p : Source) (files : HeldFiles) (i : Image) (keeps : KeepsConditions i
     its_area : HasArea i n q
     its_area = both_at (HasArea i) p.subjects i.subjects s n q (areas_of p files i sound) named_n here
 
-    pages_there : HasPages (memory_of i) n c
+    pages_there : HasStateAndMsrArea (memory_of i) n c
     pages_there =
         let area = area_page_there p i keeps s q c here at in
         let many = few in

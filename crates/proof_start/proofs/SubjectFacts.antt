@@ -9,7 +9,7 @@ use Rattle.image_load.specs.Loaded.{control_of}
 use Rattle.image_memory.specs.Memory.{memory_of}
 use Rattle.image_soundness.specs.Sound.{ShareNoSpan, own_spans, share_a_span}
 use Rattle.image_pack.specs.Codes.{part_code}
-use Rattle.image_pack.specs.ImageConditions.{IsSubject, KeepsConditions}
+use Rattle.image_pack.specs.ImageConditions.{IsSubjectPart, KeepsConditions}
 use Rattle.image_pack.specs.declared.parts.Image.{Image}
 use Rattle.image_pack.specs.declared.parts.SubjectPart.{SubjectPart}
 use Rattle.muen_num.specs.declared.tag.TagPart.TheVariants.{State, Iobm, Msrbm, Msrs}

@@ -16,8 +16,8 @@ use Rattle.proof_turns.specs.Ground.{Ground}
 use Rattle.guest_isa.specs.Words.{IsByte}
 
 -- how many pages the span of a thing has; none where it is no thing of the policy
-abbrev pub pages_in : Source → Image → Thing → ℕ
-pages_in p i x = option_map_or (λ e. e.1) (find (λ e. same_thing e.0 x) (zip (things_of p) (map (λ e. e.0.pages) (thing_spans i)))) 0
+abbrev pub page_count_of_thing : Source → Image → Thing → ℕ
+page_count_of_thing p i x = option_map_or (λ e. e.1) (find (λ e. same_thing e.0 x) (zip (things_of p) (map (λ e. e.0.pages) (thing_spans i)))) 0
 
 -- a span of tables or of bitmaps
 abbrev pub is_kept : SpanPart → Bool
@@ -32,7 +32,7 @@ ground_of p i = record {
   policy = p;
   setup = setup_of i;
   first = λ x. address_of p i x / PAGE;
-  pages = pages_in p i;
+  pages = page_count_of_thing p i;
   kept = λ page. list_any (λ s. is_kept s && is_page_of page s) i.spans;
   memory = memory_of i;
 }

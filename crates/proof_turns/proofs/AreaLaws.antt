@@ -15,13 +15,13 @@ use Rattle.machine_layout.specs.Memory.{Page, page_of, is_there, over, le_number
 use Rattle.machine_layout.proofs.PageLaws.{page_of-change_other, page_of-change_same, is_there-change}
 use Rattle.machine_layout.proofs.StoreLaws.{over_apart, length-over, over_itself, le_number-le_bytes}
 use Rattle.machine_layout.proofs.PageFieldLaws.{length-le_bytes}
-use Rattle.vmx_machine.specs.Machine.{entries_in, filled, save_value, entry_saved, saved}
-use Rattle.vmx_machine.specs.MsrFile.{slot_of, most, value_in, put_at, with_msr}
+use Rattle.vmx_machine.specs.Machine.{entries_in, msrs_loaded, save_value, entry_saved, saved}
+use Rattle.vmx_machine.specs.MsrFile.{msr_slot_of, most, value_in, put_at, with_msr}
 use Rattle.vmx_machine.proofs.StoreWithin.{stored_within}
 use Rattle.muen_num.specs.Numbers.{is_among}
 use Rattle.guest_isa.specs.Words.{IsByte, IsWord}
 use Rattle.guest_isa.proofs.StateLaws.{le_bytes_small}
-use Rattle.proof_turns.specs.Held.{FitsFile, AreDistinct, indices, entry_value}
+use Rattle.proof_turns.specs.Held.{FitsFile, AreDistinctIndices, indices, entry_value}
 
 -- ---- the MSR file
 
@@ -31,7 +31,7 @@ StandsAt index slot =
     ((index ≤ LOW_MSR_LAST) × (slot ≡ index))
     ⊎ ((HIGH_MSR_FIRST ≤ index) × (index ≤ HIGH_MSR_LAST) × (slot + HIGH_MSR_FIRST ≡ LOW_MSR_LAST + 1 + index))
 
-slot_tells : (index slot : ℕ) → slot_of index ≡ Some slot → StandsAt index slot
+slot_tells : (index slot : ℕ) → msr_slot_of index ≡ Some slot → StandsAt index slot
 slot_tells index slot e = grind (arith, nat_tests)
 
 below_most : (index slot : ℕ) → StandsAt index slot → slot < most
@@ -45,19 +45,19 @@ one_index i j slot (inr h) (inl g) = absurd (omega (arith, h.0, h.2, g.0, g.1))
 one_index i j slot (inr h) (inr g) = omega (arith, h.0, h.2, g.0, g.2)
 
 -- two MSRs that have a slot have two
-apart_slots : (i j slot : ℕ) → (i ≡ j → ⊥) → slot_of j ≡ Some slot → slot_of i ≡ Some slot → ⊥
+apart_slots : (i j slot : ℕ) → (i ≡ j → ⊥) → msr_slot_of j ≡ Some slot → msr_slot_of i ≡ Some slot → ⊥
 apart_slots i j slot ne e h = ne (one_index i j slot (slot_tells i slot h) (slot_tells j slot e))
 
 there_at : (file : List ℕ) (o : Option ℕ) → ((slot : ℕ) → o ≡ Some slot → slot < length file) → is_some o ≡ true → (v : ℕ) × (option_and_then (slice_get file) o ≡ Some v)
 there_at file None h s = absurd (false≢true s)
 there_at file (Some slot) h s = (get_or file slot 0, slice_get-get_or file slot 0 (h slot refl))
 
-in_length : (file : List ℕ) (index slot : ℕ) → length file ≡ most → slot_of index ≡ Some slot → slot < length file
+in_length : (file : List ℕ) (index slot : ℕ) → length file ≡ most → msr_slot_of index ≡ Some slot → slot < length file
 in_length file index slot l e = subst (λ n. slot < n) (sym l) (below_most index slot (slot_tells index slot e))
 
 -- an MSR that has a slot has a value
-pub value_there : (file : List ℕ) (index : ℕ) → length file ≡ most → is_some (slot_of index) ≡ true → (v : ℕ) × (value_in file index ≡ Some v)
-value_there file index l s = there_at file (slot_of index) (λ slot e. in_length file index slot l e) s
+pub value_there : (file : List ℕ) (index : ℕ) → length file ≡ most → is_some (msr_slot_of index) ≡ true → (v : ℕ) × (value_in file index ≡ Some v)
+value_there file index l s = there_at file (msr_slot_of index) (λ slot e. in_length file index slot l e) s
 
 word_at_slot : (file : List ℕ) (o : Option ℕ) (v : ℕ) → All IsWord file → option_and_then (slice_get file) o ≡ Some v → IsWord v
 word_at_slot file None v h e = absurd (cc (e))
@@ -66,14 +66,14 @@ word_at_slot file (Some slot) v h e =
 
 -- each value of the file fits
 pub value_fits : (file : List ℕ) (index v : ℕ) → FitsFile file → value_in file index ≡ Some v → IsWord v
-value_fits file index v f e = word_at_slot file (slot_of index) v f.words e
+value_fits file index v f e = word_at_slot file (msr_slot_of index) v f.words e
 
 length-put_at : (o : Option ℕ) (v : ℕ) (file : List ℕ) → length (put_at o v file) ≡ length file
 length-put_at None v file = refl
 length-put_at (Some slot) v file = length_stays slot (λ _. v) file
 
 pub length-with_msr : (index v : ℕ) (file : List ℕ) → length (with_msr index v file) ≡ length file
-length-with_msr index v file = length-put_at (slot_of index) v file
+length-with_msr index v file = length-put_at (msr_slot_of index) v file
 
 put_words : (o : Option ℕ) (v : ℕ) (file : List ℕ) → IsWord v → All IsWord file → All IsWord (put_at o v file)
 put_words None v file w h = h
@@ -84,7 +84,7 @@ pub with_msr_fits : (index v : ℕ) (file : List ℕ) → IsWord v → FitsFile 
 with_msr_fits index v file w f =
     record {
       length = length-with_msr index v file ∙ f.length;
-      words = put_words (slot_of index) v file w f.words;
+      words = put_words (msr_slot_of index) v file w f.words;
     }
 
 put_same : (o : Option ℕ) (v : ℕ) (file : List ℕ) → ((slot : ℕ) → o ≡ Some slot → slot < length file) → is_some o ≡ true
@@ -94,8 +94,8 @@ put_same (Some slot) v file h s =
     element_changes slot (λ _. v) file ∙ ap (option_map (λ _. v)) (slice_get-get_or file slot 0 (h slot refl))
 
 -- the value that was put
-pub with_msr_same : (index v : ℕ) (file : List ℕ) → length file ≡ most → is_some (slot_of index) ≡ true → value_in (with_msr index v file) index ≡ Some v
-with_msr_same index v file l s = put_same (slot_of index) v file (λ slot e. in_length file index slot l e) s
+pub with_msr_same : (index v : ℕ) (file : List ℕ) → length file ≡ most → is_some (msr_slot_of index) ≡ true → value_in (with_msr index v file) index ≡ Some v
+with_msr_same index v file l s = put_same (msr_slot_of index) v file (λ slot e. in_length file index slot l e) s
 
 put_other : (o q : Option ℕ) (v : ℕ) (file : List ℕ) → ((slot : ℕ) → o ≡ Some slot → q ≡ Some slot → ⊥)
     → option_and_then (slice_get (put_at o v file)) q ≡ option_and_then (slice_get file) q
@@ -106,7 +106,7 @@ put_other (Some a) (Some b) v file h = others_stay a b (λ _. v) file (λ e. h a
 -- the values of other MSRs stay
 pub with_msr_other : (index v i : ℕ) (file : List ℕ) → (i ≡ index → ⊥) → value_in (with_msr index v file) i ≡ value_in file i
 with_msr_other index v i file ne =
-    put_other (slot_of index) (slot_of i) v file (λ slot e h. apart_slots i index slot ne e h)
+    put_other (msr_slot_of index) (msr_slot_of i) v file (λ slot e h. apart_slots i index slot ne e h)
 
 -- ---- numbers below a bound
 
@@ -344,7 +344,7 @@ fresh_is : (file : List ℕ) (i j d v : ℕ) → j ≡ i → value_in file i ≡
 fresh_is file i j d v e h = ap (λ k. Some (unwrap_or (value_in file k) d)) e ∙ (ap (λ o. Some (unwrap_or o d)) h ∙ sym h)
 
 -- what an entry has is what the file has
-pub refreshed_value : (file : List ℕ) (es : List AreaEntry) (index : ℕ) → length file ≡ most → is_some (slot_of index) ≡ true → is_among (indices es) index ≡ true
+pub refreshed_value : (file : List ℕ) (es : List AreaEntry) (index : ℕ) → length file ≡ most → is_some (msr_slot_of index) ≡ true → is_among (indices es) index ≡ true
     → entry_value (refreshed file es) index ≡ value_in file index
 refreshed_value file [] index l s h = absurd (false≢true h)
 refreshed_value file (e ∷ es) index l s h =
@@ -356,7 +356,7 @@ refreshed_value file (e ∷ es) index l s h =
 -- ---- entering
 
 -- an MSR that no entry names stays
-pub filled_other : (es : List AreaEntry) (file : List ℕ) (index : ℕ) → is_among (indices es) index ≡ false → value_in (filled es file) index ≡ value_in file index
+pub filled_other : (es : List AreaEntry) (file : List ℕ) (index : ℕ) → is_among (indices es) index ≡ false → value_in (msrs_loaded es file) index ≡ value_in file index
 filled_other [] file index h = refl
 filled_other (e ∷ es) file index h =
     elim (cases_eq e.index index) [
@@ -364,12 +364,12 @@ filled_other (e ∷ es) file index h =
       | inr n ↦ filled_other es (with_msr e.index e.value file) index (rw (ne_eqb e.index index n) at h) ∙ with_msr_other e.index e.value index file (λ q. n (sym q))
     ]
 
-put_is : (file : List ℕ) (j v index : ℕ) → j ≡ index → length file ≡ most → is_some (slot_of index) ≡ true → value_in (with_msr j v file) index ≡ Some v
+put_is : (file : List ℕ) (j v index : ℕ) → j ≡ index → length file ≡ most → is_some (msr_slot_of index) ≡ true → value_in (with_msr j v file) index ≡ Some v
 put_is file j v index e l s = ap (λ k. value_in (with_msr k v file) index) e ∙ with_msr_same index v file l s
 
 -- what the file has then is what the entry has
-pub filled_value : (es : List AreaEntry) (file : List ℕ) (index : ℕ) → length file ≡ most → AreDistinct (indices es) → is_among (indices es) index ≡ true
-    → is_some (slot_of index) ≡ true → value_in (filled es file) index ≡ entry_value es index
+pub filled_value : (es : List AreaEntry) (file : List ℕ) (index : ℕ) → length file ≡ most → AreDistinctIndices (indices es) → is_among (indices es) index ≡ true
+    → is_some (msr_slot_of index) ≡ true → value_in (msrs_loaded es file) index ≡ entry_value es index
 filled_value [] file index l d h s = absurd (false≢true h)
 filled_value (e ∷ es) file index l d h s =
     let next = with_msr e.index e.value file in
@@ -415,7 +415,7 @@ entries_fit (suc n) page h =
     (All-push (λ (e : AreaEntry). IsWord e.value) (entries_in n page) (entry_in page n) (entries_fit n page h) (value_small page n h))
 
 -- and the file fits after they are loaded
-pub filled_fits : (es : List AreaEntry) (file : List ℕ) → All (λ e. IsWord e.value) es → FitsFile file → FitsFile (filled es file)
+pub filled_fits : (es : List AreaEntry) (file : List ℕ) → All (λ e. IsWord e.value) es → FitsFile file → FitsFile (msrs_loaded es file)
 filled_fits [] file h f = f
 filled_fits (e ∷ es) file h f =
     filled_fits es (with_msr e.index e.value file) (All-tail (λ (e : AreaEntry). IsWord e.value) e es h) (with_msr_fits e.index e.value file (All-head (λ (e : AreaEntry). IsWord e.value) e es h) f)

@@ -13,8 +13,8 @@ use Rattle.muen_num.proofs.Options.{one_value}
 use Rattle.guest_isa.specs.Step.{MsrWrite, Stored}
 use Rattle.subject_model.specs.StatePage.{page_bytes, state_in}
 use Rattle.subject_model.specs.SubjectState.{SubjectState}
-use Rattle.vmx_machine.specs.Machine.{with_store as with_page, with_write as with_file}
-use Rattle.vmx_machine.specs.MsrFile.{slot_of, put_at, value_in, with_msr}
+use Rattle.vmx_machine.specs.Machine.{with_store as with_page, msr_file_with_write as with_file}
+use Rattle.vmx_machine.specs.MsrFile.{msr_slot_of, put_at, value_in, with_msr}
 use Rattle.vmx_machine.specs.declared.control.Control.{Control}
 use Rattle.vmx_machine.specs.declared.cpu.Cpu.{Cpu}
 use Rattle.vmx_machine.specs.declared.cpu.Entered.{Entered}
@@ -25,7 +25,7 @@ use Rattle.proof_turns.specs.Ground.{Ground, Joined}
 use Rattle.proof_turns.specs.Fixed.{IsFixed}
 use Rattle.guest_isa.specs.Words.{FitsState, IsWord}
 use Rattle.proof_turns.specs.Held.{Held, held_by, held, on_cpu, FitsFile, IsOwn}
-use Rattle.proof_turns.specs.Stands.{Shows, SameEntered, FitsCpu, FitsEntered, StandsFor, Running}
+use Rattle.proof_turns.specs.Stands.{ShowsThings, SameEntered, FitsCpu, FitsEntered, StandsFor, Running}
 use Rattle.proof_turns.proofs.AreaLaws.{with_msr_fits, with_msr_other}
 use Rattle.subject_model.proofs.KeyLaws.{value_changed, value_other, names_apart, numbers_apart, things_apart}
 use Rattle.policy_lawful.proofs.SameThings.{state_names}
@@ -35,7 +35,7 @@ use Rattle.proof_turns.proofs.Holds.{found_before, some_changed, not_on, held_ap
 
 -- a value that is written is read
 value_written : (index v : ℕ) (file : List ℕ) → value_in (with_msr index v file) index ≡ option_map (λ _. v) (value_in file index)
-value_written index v file = by_slot (slot_of index)
+value_written index v file = by_slot (msr_slot_of index)
   where
     by_slot : (o : Option ℕ) → option_and_then (slice_get (put_at o v file)) o ≡ option_map (λ _. v) (option_and_then (slice_get file) o)
     by_slot None = refl
@@ -91,7 +91,7 @@ module _ (g : Ground) (fixed : IsFixed g) where
   no_state x name h e = let z : g.pages x ≡ 0 = ap g.pages e ∙ fixed.no_thing name in absurd (omega (arith, h, z))
 
   -- memory shows things that are the same where they have pages
-  shows_things : (pages : List Page) (things later : Things) → ((x : Thing) → 0 < g.pages x → thing_in later x ≡ thing_in things x) → Shows g pages things → Shows g pages later
+  shows_things : (pages : List Page) (things later : Things) → ((x : Thing) → 0 < g.pages x → thing_in later x ≡ thing_in things x) → ShowsThings g pages things → ShowsThings g pages later
   shows_things pages things later same shows = record {
     bytes = λ x j h. shows.bytes x j h ∙ ap (option_map _) (sym (same x (omega (arith, h))));
     kept = shows.kept;
@@ -184,7 +184,7 @@ module _ (g : Ground) (fixed : IsFixed g) where
     entered_fit (Some e) = fits
 
     -- the things of memory are those of the system: no page of a state is one
-    things_shown : Shows g k.machine.pages things_then
+    things_shown : ShowsThings g k.machine.pages things_then
     things_shown =
         shows_things k.machine.pages y.things things_then
         (λ x h. value_other same_thing (state n.name) x (λ _. page_bytes st) y.things (things_apart (state n.name) x (λ e. no_state x n.name h (sym e)))) run.stands.shows

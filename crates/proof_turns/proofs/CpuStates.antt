@@ -6,7 +6,7 @@ use Rattle.muen_num.specs.ListChange.{change_at}
 use Rattle.guest_isa.specs.Step.{MsrWrite}
 use Rattle.guest_isa.specs.declared.end.StepEnd.{StepEnd}
 use Rattle.subject_model.specs.SubjectState.{SubjectState}
-use Rattle.vmx_machine.specs.Machine.{Stepped, with_state, with_write as with_file}
+use Rattle.vmx_machine.specs.Machine.{Stepped, with_state, msr_file_with_write as with_file}
 use Rattle.vmx_machine.specs.declared.cpu.Cpu.{Cpu}
 use Rattle.vmx_machine.specs.declared.cpu.Entered.{Entered}
 use Rattle.kernel_core.specs.Kernel.{Live}

@@ -24,7 +24,7 @@ use Rattle.frame_clock.specs.Frames.{slot_in}
 use Rattle.subject_model.specs.StatePage.{page_bytes, state_in}
 use Rattle.subject_model.specs.SubjectState.{SubjectState}
 use Rattle.frame_clock.specs.Run.{all_taken, begun, turns, tick_ran, run_to}
-use Rattle.vmx_machine.specs.Machine.{MachineState, left, left_by, page_at}
+use Rattle.vmx_machine.specs.Machine.{MachineState, left, left_by, page_bytes_at}
 use Rattle.vmx_machine.specs.declared.control.Control.{Control}
 use Rattle.vmx_machine.specs.declared.cpu.Cpu.{Cpu}
 use Rattle.vmx_machine.specs.declared.cpu.Entered.{Entered}
@@ -35,7 +35,7 @@ use Rattle.subject_model.specs.System.{System, answered, change_thing, inbox_of,
 use Rattle.subject_model.specs.Clock.{ByteWrite, begins, irq_reaches, line_writes, system, takes, with_byte, with_each, with_line}
 use Rattle.proof_turns.specs.Ground.{Ground, Joined, part}
 use Rattle.proof_turns.specs.Fixed.{IsFixed}
-use Rattle.proof_turns.specs.Held.{Held, held, is_on, on_pages}
+use Rattle.proof_turns.specs.Held.{Held, held, is_subject_entered, on_pages}
 use Rattle.proof_turns.specs.Stands.{SameEntered, StandsFor}
 use Rattle.subject_model.proofs.KeyLaws.{things_apart, value_changed, value_other}
 use Rattle.policy_lawful.proofs.SameThings.{cases_thing}
@@ -210,7 +210,7 @@ module _ (g : Ground) (fixed : IsFixed g) where
     final_held s q c =
         held_off s c.msrs (page_of (ended cpus k).machine.pages c.state) (page_of (ended cpus k).machine.pages c.msr_area)
         (slice_get (replicate cpus None) q.cpu) (slice_get (ended cpus k).machine.cpus q.cpu)
-        (λ who at. ap (is_on s) (of_many cpus q.cpu None who at))
+        (λ who at. ap (is_subject_entered s) (of_many cpus q.cpu None who at))
 
     -- a subject's page in the system is its state page
     pub final_state_page : (s : ℕ) (n : Subject) (q : SubjectPart) (c : Control) → Joined g s n q c → thing_in y.things (state n.name) ≡ page_of (ended cpus k).machine.pages c.state
@@ -218,21 +218,21 @@ module _ (g : Ground) (fixed : IsFixed g) where
 
     -- and so its state is what that page says
     pub final_state : (s : ℕ) (n : Subject) (q : SubjectPart) (c : Control) → Joined g s n q c
-        → option_map state_in (thing_in y.things (state n.name)) ≡ Some (state_in (page_at (ended cpus k).machine.pages c.state))
+        → option_map state_in (thing_in y.things (state n.name)) ≡ Some (state_in (page_bytes_at (ended cpus k).machine.pages c.state))
     final_state s n q c j =
         let has = (ended_stands.pages s n q c j).state_is in
         ap (option_map state_in) (final_state_page s n q c j)
         ∙ (ap (option_map state_in) has ∙ ap (λ o. Some (state_in (unwrap_or o []))) (sym has))
 
     -- a page of a thing has its part of the thing's bytes
-    pub final_page : (x : Thing) (j : ℕ) → j < g.pages x → page_at (ended cpus k).machine.pages (g.first x + j) ≡ unwrap_or (option_map (part j) (thing_in y.things x)) []
+    pub final_page : (x : Thing) (j : ℕ) → j < g.pages x → page_bytes_at (ended cpus k).machine.pages (g.first x + j) ≡ unwrap_or (option_map (part j) (thing_in y.things x)) []
     final_page x j l = ap (λ o. unwrap_or o []) (ended_stands.shows.bytes x j l)
 
     -- the pages of a thing are its bytes
     pub final_bytes : (x : Thing) (bytes : List ℕ) → thing_in y.things x ≡ Some bytes → length bytes ≡ 4096 * g.pages x
-        → flat_map (λ j. page_at (ended cpus k).machine.pages (g.first x + j)) (numbers_below (g.pages x)) ≡ bytes
+        → flat_map (λ j. page_bytes_at (ended cpus k).machine.pages (g.first x + j)) (numbers_below (g.pages x)) ≡ bytes
     final_bytes x bytes at many =
-        flat_map_below (λ j. page_at (ended cpus k).machine.pages (g.first x + j)) (λ j. part j bytes) (g.pages x) (λ j l. final_page x j l ∙ ap (λ o. unwrap_or (option_map (part j) o) []) at)
+        flat_map_below (λ j. page_bytes_at (ended cpus k).machine.pages (g.first x + j)) (λ j. part j bytes) (g.pages x) (λ j l. final_page x j l ∙ ap (λ o. unwrap_or (option_map (part j) o) []) at)
         ∙ parts_join (g.pages x) bytes many
 
 -- ---- how long things are

@@ -11,7 +11,7 @@ use Rattle.muen_num.specs.ListChange.{change_at}
 use Rattle.muen_num.proofs.ChangeLaws.{element_changes}
 use Rattle.muen_num.proofs.Options.{one_value}
 use Rattle.subject_model.specs.StatePage.{state_in}
-use Rattle.vmx_machine.specs.Machine.{entries_in, put_on, entered, page_at}
+use Rattle.vmx_machine.specs.Machine.{entries_in, put_on, entered, page_bytes_at}
 use Rattle.vmx_machine.specs.MsrFile.{value_in}
 use Rattle.vmx_machine.specs.declared.control.Control.{Control}
 use Rattle.vmx_machine.specs.declared.cpu.Cpu.{Cpu}
@@ -22,8 +22,8 @@ use Rattle.subject_model.specs.System.{System}
 use Rattle.proof_turns.specs.Ground.{Ground, Joined}
 use Rattle.proof_turns.specs.Fixed.{IsFixed}
 use Rattle.guest_isa.specs.Words.{IsByte}
-use Rattle.proof_turns.specs.Held.{Held, held, on_pages, is_on, AreEntries, IsOwn, MsrsAre}
-use Rattle.proof_turns.specs.Stands.{HasPages, SameEntered, FitsCpu, FitsEntered, CpusStand, StandsFor, Running}
+use Rattle.proof_turns.specs.Held.{Held, held, on_pages, is_subject_entered, AreEntries, IsOwn, MsrsAre}
+use Rattle.proof_turns.specs.Stands.{HasStateAndMsrArea, SameEntered, FitsCpu, FitsEntered, CpusStand, StandsFor, Running}
 use Rattle.proof_turns.proofs.AreaLaws.{filled_value, entries_fit, filled_fits}
 use Rattle.guest_isa.proofs.StateLaws.{state_law, read_fits}
 use Rattle.proof_turns.proofs.Holds.{not_some, found_before, some_changed, not_on, held_off, held_apart, own_same}
@@ -60,7 +60,7 @@ module _ (g : Ground) (fixed : IsFixed g) where
     now_on = put_on k.machine.pages c v
 
     abbrev entry_now : Entered
-    entry_now = record { control = c; state = state_in (page_at k.machine.pages c.state) }
+    entry_now = record { control = c; state = state_in (page_bytes_at k.machine.pages c.state) }
 
     entered_there : slice_get (change_at cpu (put_on k.machine.pages c) k.machine.cpus) cpu ≡ Some now_on
     entered_there = element_changes cpu (put_on k.machine.pages c) k.machine.cpus ∙ ap (option_map (put_on k.machine.pages c)) at
@@ -68,7 +68,7 @@ module _ (g : Ground) (fixed : IsFixed g) where
     on_there : slice_get (change_at cpu (λ _. Some s) k.on) cpu ≡ Some (Some s)
     on_there = element_changes cpu (λ _. Some s) k.on ∙ ap (option_map (λ _. Some s)) nobody
 
-    its_pages : HasPages k.machine.pages n c
+    its_pages : HasStateAndMsrArea k.machine.pages n c
     its_pages = stands.pages s n q c j
 
     its_own : IsOwn n y.things y.msrs (held k s q c)
@@ -78,15 +78,15 @@ module _ (g : Ground) (fixed : IsFixed g) where
     was_off : held k s q c ≡ on_pages c.msrs (page_of k.machine.pages c.state) (page_of k.machine.pages c.msr_area)
     was_off =
         held_off s c.msrs (page_of k.machine.pages c.state) (page_of k.machine.pages c.msr_area) (slice_get k.on q.cpu) (slice_get k.machine.cpus q.cpu)
-        (λ who w. ap (is_on s) (one_value _ who None (ap (slice_get k.on) (sym enters.its) ∙ w) nobody))
+        (λ who w. ap (is_subject_entered s) (one_value _ who None (ap (slice_get k.on) (sym enters.its) ∙ w) nobody))
 
-    area_at_hand : page_at k.machine.pages c.msr_area ≡ its_pages.area
+    area_at_hand : page_bytes_at k.machine.pages c.msr_area ≡ its_pages.area
     area_at_hand = ap (λ x. unwrap_or x []) its_pages.area_is
 
     -- its MSRs on the CPU are those of its area
     entered_msrs : MsrsAre n y.msrs (value_in now_on.file)
     entered_msrs =
-        let es : List AreaEntry = entries_in c.msrs (page_at k.machine.pages c.msr_area) in
+        let es : List AreaEntry = entries_in c.msrs (page_bytes_at k.machine.pages c.msr_area) in
         let ok : AreEntries n es = subst (λ x. AreEntries n (entries_in c.msrs x)) (sym area_at_hand) its_pages.entries in
         record {
           values = its_own.values.values;
@@ -108,9 +108,9 @@ module _ (g : Ground) (fixed : IsFixed g) where
         let state_bytes = stands.shows.small c.state its_pages.state its_pages.state_is in
         let area_bytes = stands.shows.small c.msr_area its_pages.area its_pages.area_is in
         record {
-          entered = read_fits (page_at k.machine.pages c.state) (subst (λ x. All IsByte (unwrap_or x [])) (sym its_pages.state_is) state_bytes);
-          file = filled_fits (entries_in c.msrs (page_at k.machine.pages c.msr_area)) v.file
-              (entries_fit c.msrs (page_at k.machine.pages c.msr_area) (subst (All IsByte) (sym area_at_hand) area_bytes)) (stands.cpus.fits cpu v at).file;
+          entered = read_fits (page_bytes_at k.machine.pages c.state) (subst (λ x. All IsByte (unwrap_or x [])) (sym its_pages.state_is) state_bytes);
+          file = filled_fits (entries_in c.msrs (page_bytes_at k.machine.pages c.msr_area)) v.file
+              (entries_fit c.msrs (page_bytes_at k.machine.pages c.msr_area) (subst (All IsByte) (sym area_at_hand) area_bytes)) (stands.cpus.fits cpu v at).file;
         }
 
     -- it is on the CPU by the kernel and by the machine
@@ -138,7 +138,7 @@ module _ (g : Ground) (fixed : IsFixed g) where
     others_own t m r d i ne =
         own_same m y.things y.things y.msrs y.msrs (held k t r d) (held (entered_live cpu s c k) t r d) refl refl
         (held_apart (put_on k.machine.pages c) (λ _. Some s) t d.msrs (page_of k.machine.pages d.state) (page_of k.machine.pages d.msr_area) k.on k.machine.cpus cpu r.cpu
-        (λ who wat. (ap (is_on t) (one_value _ who None wat nobody), not_on t s (Some s) refl ne)))
+        (λ who wat. (ap (is_subject_entered t) (one_value _ who None wat nobody), not_on t s (Some s) refl ne)))
         (stands.owns t m r d i (λ x. not_some t x))
 
     -- so it runs

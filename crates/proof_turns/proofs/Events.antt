@@ -13,12 +13,12 @@ use Rattle.image_pack.specs.declared.parts.SubjectPart.{SubjectPart}
 use Rattle.muen_num.specs.ListChange.{change_at}
 use Rattle.muen_num.proofs.ChangeLaws.{element_changes, others_stay}
 use Rattle.kernel_core.specs.Vectors.{with_vector, without_vector}
-use Rattle.kernel_core.specs.Router.{RouterState, hands_over, pends, pends_now as kernel_pends_now, pends_later as kernel_pends_later, raised_as, taken}
+use Rattle.kernel_core.specs.Router.{RouterState, hands_over, pends, router_pends_now as kernel_pends_now, router_pends_later as kernel_pends_later, raised_as, taken}
 use Rattle.kernel_core.specs.Kernel.{Live, entry, raised_by as kernel_raised_by}
 use Rattle.policy_lawful.specs.Frames.{group_of}
 use Rattle.vmx_machine.specs.declared.control.Control.{Control}
 use Rattle.subject_model.specs.System.{Named, System, change_named, happens, happens_as, named, pends_now, pends_later, raised_by, took, with_active}
-use Rattle.proof_turns.specs.Ground.{Ground, IsSubject, Joined, name_at, raised_of}
+use Rattle.proof_turns.specs.Ground.{Ground, IsSubject, Joined, subject_name_at, raised_of}
 use Rattle.proof_turns.specs.Fixed.{IsFixed}
 use Rattle.proof_turns.specs.Held.{SameSet}
 use Rattle.proof_turns.specs.Stands.{IsMember, RouterStands, StandsFor}
@@ -45,7 +45,7 @@ mapped_at f (x ∷ xs) zero = refl
 mapped_at f (x ∷ xs) (suc i) = mapped_at f xs i
 
 module _ (g : Ground) (fixed : IsFixed g) where
-  pub name_is : (s : ℕ) (n : Subject) (q : SubjectPart) (c : Control) → Joined g s n q c → name_at g s ≡ n.name
+  pub name_is : (s : ℕ) (n : Subject) (q : SubjectPart) (c : Control) → Joined g s n q c → subject_name_at g s ≡ n.name
   name_is s n q c j = ap (λ o. unwrap_or (option_map (λ (x : Subject). x.name) o) []) j.subject
 
   -- ---- one set
@@ -138,22 +138,22 @@ module _ (g : Ground) (fixed : IsFixed g) where
       })
 
   -- ---- a handover
-  active_alike : (i h s : ℕ) (name : List ℕ) (numbers : List ℕ) (names : List (List ℕ)) → name_at g s ≡ name
-      → slice_get names i ≡ option_map (name_at g) (slice_get numbers i)
-      → slice_get (change_at h (λ _. name) names) i ≡ option_map (name_at g) (slice_get (change_at h (λ _. s) numbers) i)
+  active_alike : (i h s : ℕ) (name : List ℕ) (numbers : List ℕ) (names : List (List ℕ)) → subject_name_at g s ≡ name
+      → slice_get names i ≡ option_map (subject_name_at g) (slice_get numbers i)
+      → slice_get (change_at h (λ _. name) names) i ≡ option_map (subject_name_at g) (slice_get (change_at h (λ _. s) numbers) i)
   active_alike i h s name numbers names e is =
       elim (cases_eq i h) [
         | inl z ↦
             ap (λ x. slice_get (change_at h (λ _. name) names) x) z
             ∙ element_changes h (λ _. name) names
-            ∙ ap (option_map (λ _. name)) (ap (slice_get names) (sym z) ∙ is ∙ ap (λ x. option_map (name_at g) (slice_get numbers x)) z)
+            ∙ ap (option_map (λ _. name)) (ap (slice_get names) (sym z) ∙ is ∙ ap (λ x. option_map (subject_name_at g) (slice_get numbers x)) z)
             ∙ constant (slice_get numbers h)
-            ∙ ap (option_map (name_at g)) (sym (element_changes h (λ _. s) numbers))
-            ∙ ap (λ x. option_map (name_at g) (slice_get (change_at h (λ _. s) numbers) x)) (sym z)
-        | inr ne ↦ others_stay h i (λ _. name) names ne ∙ (is ∙ ap (option_map (name_at g)) (sym (others_stay h i (λ _. s) numbers ne)))
+            ∙ ap (option_map (subject_name_at g)) (sym (element_changes h (λ _. s) numbers))
+            ∙ ap (λ x. option_map (subject_name_at g) (slice_get (change_at h (λ _. s) numbers) x)) (sym z)
+        | inr ne ↦ others_stay h i (λ _. name) names ne ∙ (is ∙ ap (option_map (subject_name_at g)) (sym (others_stay h i (λ _. s) numbers ne)))
       ]
     where
-      constant : (o : Option ℕ) → option_map (λ _. name) (option_map (name_at g) o) ≡ option_map (name_at g) (option_map (λ _. s) o)
+      constant : (o : Option ℕ) → option_map (λ _. name) (option_map (subject_name_at g) o) ≡ option_map (subject_name_at g) (option_map (λ _. s) o)
       constant None = refl
       constant (Some x) = ap Some (sym e)
 

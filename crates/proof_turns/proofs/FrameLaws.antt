@@ -17,15 +17,15 @@ use Rattle.muen_num.specs.declared.access.AccessSize.TheVariants.{One, Two, Four
 use Rattle.muen_num.specs.declared.limits.TheConstants.{GUEST_END}
 use Rattle.policy_lawful.specs.Thing.{Thing, same_thing}
 use Rattle.guest_isa.specs.Step.{word_at}
-use Rattle.vmx_machine.specs.Machine.{look_in, msr_exits_in, ports_exit, page_at, reach_by}
+use Rattle.vmx_machine.specs.Machine.{look_in, msr_exits_in, ports_exit, page_bytes_at, reach_by}
 use Rattle.vmx_machine.specs.declared.control.Control.{Control}
 use Rattle.subject_model.specs.Alone.{Things, thing_in}
 use Rattle.subject_model.specs.System.{change_thing}
-use Rattle.proof_turns.specs.Ground.{Ground, Spot, thing_at, IsAt, part}
+use Rattle.proof_turns.specs.Ground.{Ground, Spot, thing_at, IsSpotAt, part}
 use Rattle.guest_isa.specs.Words.{IsByte}
 use Rattle.guest_isa.proofs.StateLaws.{over_small}
 use Rattle.proof_turns.specs.Fixed.{IsFixed}
-use Rattle.proof_turns.specs.Stands.{Shows}
+use Rattle.proof_turns.specs.Stands.{ShowsThings}
 use Rattle.subject_model.proofs.KeyLaws.{value_changed, value_other, things_apart}
 use Rattle.policy_lawful.proofs.SameThings.{cases_thing}
 
@@ -116,7 +116,7 @@ load_alike old new q n e =
 
 module _ (g : Ground) (fixed : IsFixed g) where
   -- walks end as at the start
-  pub look_stays : (pages : List Page) (things : Things) (s : ℕ) (c : Control) (kind : AccessKind) (addr : ℕ) → Shows g pages things
+  pub look_stays : (pages : List Page) (things : Things) (s : ℕ) (c : Control) (kind : AccessKind) (addr : ℕ) → ShowsThings g pages things
       → slice_get g.setup.controls s ≡ Some c → addr < GUEST_END → look_in pages c.eptp kind addr ≡ look_in g.memory c.eptp kind addr
   look_stays pages things s c kind addr shows at low =
       ap (reach_by kind addr) (same_walks g.memory pages c.eptp addr kind (record {
@@ -124,11 +124,11 @@ module _ (g : Ground) (fixed : IsFixed g) where
         there = shows.there;
       }))
 
-  kept_page : (pages : List Page) (things : Things) (k : ℕ) → Shows g pages things → g.kept k ≡ true → page_at pages k ≡ page_at g.memory k
+  kept_page : (pages : List Page) (things : Things) (k : ℕ) → ShowsThings g pages things → g.kept k ≡ true → page_bytes_at pages k ≡ page_bytes_at g.memory k
   kept_page pages things k shows h = ap (λ o. unwrap_or o []) (shows.kept k h)
 
   -- the same ports exit as at the start
-  pub ports_stay : (pages : List Page) (things : Things) (s : ℕ) (c : Control) (port size : ℕ) → Shows g pages things → slice_get g.setup.controls s ≡ Some c
+  pub ports_stay : (pages : List Page) (things : Things) (s : ℕ) (c : Control) (port size : ℕ) → ShowsThings g pages things → slice_get g.setup.controls s ≡ Some c
       → ports_exit pages c port size ≡ ports_exit g.memory c port size
   ports_stay pages things s c port size shows at =
       let first = kept_page pages things c.io_bitmaps shows (fixed.io_bitmap s c at) in
@@ -136,22 +136,22 @@ module _ (g : Ground) (fixed : IsFixed g) where
       rw (first, second) refl
 
   -- and the same MSRs
-  pub msrs_stay : (pages : List Page) (things : Things) (s : ℕ) (c : Control) (index : ℕ) (write : Bool) → Shows g pages things → slice_get g.setup.controls s ≡ Some c
+  pub msrs_stay : (pages : List Page) (things : Things) (s : ℕ) (c : Control) (index : ℕ) (write : Bool) → ShowsThings g pages things → slice_get g.setup.controls s ≡ Some c
       → msr_exits_in pages c index write ≡ msr_exits_in g.memory c index write
   msrs_stay pages things s c index write shows at =
       let page = kept_page pages things c.msr_bitmap shows (fixed.msr_bitmap s c at) in rw page refl
 
   -- ---- a change of the page of a spot
 
-  kept_after : (pages : List Page) (things : Things) (k : ℕ) (f : List ℕ → List ℕ) (a : Spot) → IsAt g a k → Shows g pages things → (q : ℕ) → g.kept q ≡ true
+  kept_after : (pages : List Page) (things : Things) (k : ℕ) (f : List ℕ → List ℕ) (a : Spot) → IsSpotAt g a k → ShowsThings g pages things → (q : ℕ) → g.kept q ≡ true
       → page_of (change pages k f) q ≡ page_of g.memory q
   kept_after pages things k f a at shows q h =
       page_of-change_other pages k f q (λ e. true≢false (sym h ∙ (ap g.kept e ∙ fixed.aside a k at))) ∙ shows.kept q h
 
   -- a page that is no thing's, and things of which those that have pages stay
-  pub change_elsewhere : (pages : List Page) (things things' : Things) (k : ℕ) (f : List ℕ → List ℕ) (a : Spot) → IsAt g a k
+  pub change_elsewhere : (pages : List Page) (things things' : Things) (k : ℕ) (f : List ℕ → List ℕ) (a : Spot) → IsSpotAt g a k
       → ((x : Thing) (j : ℕ) → a ≡ thing_at x j → ⊥) → ((x : Thing) → 0 < g.pages x → thing_in things' x ≡ thing_in things x)
-      → ((old : List ℕ) → All IsByte old → All IsByte (f old)) → Shows g pages things → Shows g (change pages k f) things'
+      → ((old : List ℕ) → All IsByte old → All IsByte (f old)) → ShowsThings g pages things → ShowsThings g (change pages k f) things'
   change_elsewhere pages things things' k f a at away same keeps shows =
       record {
         bytes = λ x j l.
@@ -170,8 +170,8 @@ module _ (g : Ground) (fixed : IsFixed g) where
 
   -- bytes over a part of one page of a thing
   pub thing_changes : (pages : List Page) (things : Things) (x : Thing) (offset : ℕ) (new : List ℕ) → offset / 4096 < g.pages x → offset % 4096 + length new ≤ 4096
-      → All IsByte new → Shows g pages things
-      → Shows g (change pages (g.first x + offset / 4096) (λ old. over old (offset % 4096) new)) (change_thing x (λ old. over old offset new) things)
+      → All IsByte new → ShowsThings g pages things
+      → ShowsThings g (change pages (g.first x + offset / 4096) (λ old. over old (offset % 4096) new)) (change_thing x (λ old. over old offset new) things)
   thing_changes pages things z o new hz room bytes shows =
       let f : List ℕ → List ℕ = λ old. over old o new in
       let h : List ℕ → List ℕ = λ old. over old (o % 4096) new in

@@ -13,7 +13,7 @@ use Rattle.policy_lawful.specs.source.Subject.{Subject}
 use Rattle.vmx_machine.specs.declared.control.Control.{Control}
 use Rattle.vmx_machine.specs.declared.cpu.Cpu.{Cpu}
 use Rattle.proof_turns.specs.Ground.{Ground, Joined}
-use Rattle.proof_turns.specs.Held.{Held, IsOwn, held_by, is_on, on_pages}
+use Rattle.proof_turns.specs.Held.{Held, IsOwn, held_by, is_subject_entered, on_pages}
 
 pub not_some : {A : Type 0} (a : A) → None ≡ Some a → ⊥
 not_some a e = cc (e)
@@ -42,10 +42,10 @@ some_changed i f xs j =
 
 -- ---- by who is on the CPU
 
-pub not_on : (s t : ℕ) (who : Option ℕ) → who ≡ Some t → (s ≡ t → ⊥) → is_on s who ≡ false
+pub not_on : (s t : ℕ) (who : Option ℕ) → who ≡ Some t → (s ≡ t → ⊥) → is_subject_entered s who ≡ false
 not_on s t who e ne = rw (e, ne_eqb t s (λ i. ne (sym i))) refl
 
-pub held_off : (s msrs : ℕ) (page area : Option (List ℕ)) (on : Option (Option ℕ)) (u : Option Cpu) → ((who : Option ℕ) → on ≡ Some who → is_on s who ≡ false)
+pub held_off : (s msrs : ℕ) (page area : Option (List ℕ)) (on : Option (Option ℕ)) (u : Option Cpu) → ((who : Option ℕ) → on ≡ Some who → is_subject_entered s who ≡ false)
     → held_by s msrs page area on u ≡ on_pages msrs page area
 held_off s msrs page area None u h = refl
 held_off s msrs page area (Some who) None h = refl
@@ -53,14 +53,14 @@ held_off s msrs page area (Some who) (Some u) h = rw (h who refl) refl
 
 -- a CPU on which the subject isn't, before or after
 pub held_apart : (f : Cpu → Cpu) (h : Option ℕ → Option ℕ) (s msrs : ℕ) (page area : Option (List ℕ)) (on : List (Option ℕ)) (cpus : List Cpu) (cpu its : ℕ)
-    → ((who : Option ℕ) → slice_get on cpu ≡ Some who → (is_on s who ≡ false) × (is_on s (h who) ≡ false))
+    → ((who : Option ℕ) → slice_get on cpu ≡ Some who → (is_subject_entered s who ≡ false) × (is_subject_entered s (h who) ≡ false))
     → held_by s msrs page area (slice_get (change_at cpu h on) its) (slice_get (change_at cpu f cpus) its) ≡ held_by s msrs page area (slice_get on its) (slice_get cpus its)
 held_apart f h s msrs page area on cpus cpu its away =
     elim (cases_eq its cpu) [
       | inl e ↦
           held_off s msrs page area (slice_get (change_at cpu h on) its) (slice_get (change_at cpu f cpus) its)
           (λ who at. found_before cpu h on its who at
-          (λ w i wat is. subst (λ x. is_on s x ≡ false) is (away w (ap (slice_get on) (sym i) ∙ wat)).1)
+          (λ w i wat is. subst (λ x. is_subject_entered s x ≡ false) is (away w (ap (slice_get on) (sym i) ∙ wat)).1)
           (λ ne wat. absurd (ne e)))
           ∙ sym (held_off s msrs page area (slice_get on its) (slice_get cpus its) (λ who at. (away who (ap (slice_get on) (sym e) ∙ at)).0))
       | inr ne ↦ rw (others_stay cpu its h on ne, others_stay cpu its f cpus ne) refl
@@ -68,7 +68,7 @@ held_apart f h s msrs page area on cpus cpu its away =
 
 -- .. where the kernel's own list stays
 pub held_apart_on : (f : Cpu → Cpu) (s msrs : ℕ) (page area : Option (List ℕ)) (on : List (Option ℕ)) (cpus : List Cpu) (cpu its : ℕ)
-    → ((who : Option ℕ) → slice_get on cpu ≡ Some who → is_on s who ≡ false)
+    → ((who : Option ℕ) → slice_get on cpu ≡ Some who → is_subject_entered s who ≡ false)
     → held_by s msrs page area (slice_get on its) (slice_get (change_at cpu f cpus) its) ≡ held_by s msrs page area (slice_get on its) (slice_get cpus its)
 held_apart_on f s msrs page area on cpus cpu its away =
     elim (cases_eq its cpu) [

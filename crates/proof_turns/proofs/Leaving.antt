@@ -17,8 +17,8 @@ use Rattle.kernel_core.specs.Kernel.{Live}
 use Rattle.subject_model.specs.System.{System}
 use Rattle.proof_turns.specs.Ground.{Ground, IsSubject, Joined}
 use Rattle.proof_turns.specs.Fixed.{IsFixed}
-use Rattle.proof_turns.specs.Held.{entry_value, Held, held_by, held, on_cpu, on_pages, is_on, FitsFile, IsOwn}
-use Rattle.proof_turns.specs.Stands.{HasPages, SameEntered, FitsCpu, FitsEntered, CpusStand, StandsFor}
+use Rattle.proof_turns.specs.Held.{entry_value, Held, held_by, held, on_cpu, on_pages, is_subject_entered, FitsFile, IsOwn}
+use Rattle.proof_turns.specs.Stands.{HasStateAndMsrArea, SameEntered, FitsCpu, FitsEntered, CpusStand, StandsFor}
 use Rattle.proof_turns.proofs.AreaLaws.{saved_page, entries_saved, refreshed_value}
 use Rattle.proof_turns.proofs.Holds.{not_some, found_before, some_changed, not_on, held_off, held_apart, held_same, own_same, each_subject}
 use Rattle.proof_turns.proofs.LeftPages.{area_stays, left_area, left_other_pages, left_own_pages, left_pages, left_shows, left_state, state_stays}
@@ -105,7 +105,7 @@ module _ (g : Ground) (fixed : IsFixed g) where
     pages = stands.pages;
     owns = λ s n q c j but. own_same n y.things y.things y.msrs y.msrs (held k s q c) (held (left_with cpu k.machine.pages k) s q c) refl refl
         (held_apart (off k.machine.pages) (λ _. None) s c.msrs (page_of k.machine.pages c.state) (page_of k.machine.pages c.msr_area) k.on k.machine.cpus cpu q.cpu
-        (λ who at. (ap (is_on s) (one_value _ who None at nobody), refl)))
+        (λ who at. (ap (is_subject_entered s) (one_value _ who None at nobody), refl)))
         (stands.owns s n q c j but);
     router = stands.router;
     cpus = left_cpus k.machine.pages k.on k.machine.cpus cpu stands.cpus;
@@ -144,7 +144,7 @@ module _ (g : Ground) (fixed : IsFixed g) where
     abbrev later : List Page
     later = left_pages d st u.file k.machine.pages
 
-    has : HasPages k.machine.pages m d
+    has : HasStateAndMsrArea k.machine.pages m d
     has = stands.pages t m r d x.joined
 
     fit : FitsCpu u
@@ -164,7 +164,7 @@ module _ (g : Ground) (fixed : IsFixed g) where
     now_off : held (left_with cpu later k) t r d ≡ on_pages d.msrs (Some (page_bytes st)) (Some (saved_page d.msrs u.file has.area))
     now_off =
         held_off t d.msrs (page_of later d.state) (page_of later d.msr_area) (slice_get (change_at cpu (λ _. None) k.on) r.cpu) (slice_get (change_at cpu (off k.machine.pages) k.machine.cpus) r.cpu)
-        (λ who w. found_before cpu (λ _. None) k.on r.cpu who w (λ v f vat isv. ap (is_on t) (sym isv)) (λ ne vat. absurd (ne here.who.its)))
+        (λ who w. found_before cpu (λ _. None) k.on r.cpu who w (λ v f vat isv. ap (is_subject_entered t) (sym isv)) (λ ne vat. absurd (ne here.who.its)))
         ∙ rw (left_state g fixed t x st u.file k.machine.pages has, left_area g fixed t x st u.file k.machine.pages has) refl
 
     -- that is what it had
@@ -199,7 +199,7 @@ module _ (g : Ground) (fixed : IsFixed g) where
     pub left_by_subject : StandsFor g (left_with cpu later k) y
     left_by_subject = record {
       shows = left_shows g fixed t x st u.file k.machine.pages has y.things stands.shows;
-      pages = each_subject g (λ s n q c. HasPages later n c) t m r d x.joined (left_own_pages g fixed t x st u.file k.machine.pages has fit.file)
+      pages = each_subject g (λ s n q c. HasStateAndMsrArea later n c) t m r d x.joined (left_own_pages g fixed t x st u.file k.machine.pages has fit.file)
           (λ s n q c j ne. left_other_pages g fixed t x st u.file k.machine.pages has s n c j.control ne (stands.pages s n q c j));
       owns = λ s n q c j but. each_subject g (λ s n q c. IsOwn n y.things y.msrs (held (left_with cpu later k) s q c)) t m r d x.joined own other_own s n q c j;
       router = stands.router;

@@ -15,11 +15,11 @@ use Rattle.vmx_machine.specs.Machine.{saved, entries_in}
 use Rattle.vmx_machine.specs.declared.control.Control.{Control}
 use Rattle.subject_model.specs.Alone.{Things}
 use Rattle.muen_num.specs.Numbers.{is_among}
-use Rattle.proof_turns.specs.Ground.{Ground, IsSubject, Spot, thing_at, state_at, area_at, IsAt}
+use Rattle.proof_turns.specs.Ground.{Ground, IsSubject, Spot, thing_at, state_at, area_at, IsSpotAt}
 use Rattle.proof_turns.specs.Fixed.{IsFixed}
 use Rattle.guest_isa.specs.Words.{IsByte}
-use Rattle.proof_turns.specs.Held.{AreDistinct, AreEntries, FitsFile, indices}
-use Rattle.proof_turns.specs.Stands.{Shows, HasPages}
+use Rattle.proof_turns.specs.Held.{AreDistinctIndices, AreEntries, FitsFile, indices}
+use Rattle.proof_turns.specs.Stands.{ShowsThings, HasStateAndMsrArea}
 use Rattle.proof_turns.proofs.AreaLaws.{saved_elsewhere, saved_there, saved_page, saved_is, length-saved, saved_small, entries_saved, indices_refreshed}
 use Rattle.guest_isa.proofs.StateLaws.{written_bytes}
 
@@ -37,7 +37,7 @@ area_spot s t ne e = ne (cc (e))
 
 -- a subject has its pages where they stay
 pub pages_stay : (pages later : List Page) (n : Subject) (c : Control) → page_of later c.state ≡ page_of pages c.state → page_of later c.msr_area ≡ page_of pages c.msr_area
-    → HasPages pages n c → HasPages later n c
+    → HasStateAndMsrArea pages n c → HasStateAndMsrArea later n c
 pages_stay pages later n c same same_area h = record {
   state = h.state;
   state_is = same ∙ h.state_is;
@@ -53,7 +53,7 @@ module _ (g : Ground) (fixed : IsFixed g) where
   shows_same : (pages later : List Page) (things : Things)
       → ((x : Thing) (j : ℕ) → j < g.pages x → page_of later (g.first x + j) ≡ page_of pages (g.first x + j))
       → ((k : ℕ) → g.kept k ≡ true → page_of later k ≡ page_of pages k) → ((k : ℕ) → is_there later k ≡ is_there pages k)
-      → ((k : ℕ) (page : List ℕ) → page_of later k ≡ Some page → All IsByte page) → Shows g pages things → Shows g later things
+      → ((k : ℕ) (page : List ℕ) → page_of later k ≡ Some page → All IsByte page) → ShowsThings g pages things → ShowsThings g later things
   shows_same pages later things same kept there small shows = record {
     bytes = λ x j h. same x j h ∙ shows.bytes x j h;
     kept = λ k h. kept k h ∙ shows.kept k h;
@@ -62,14 +62,14 @@ module _ (g : Ground) (fixed : IsFixed g) where
   }
 
   -- a page that is kept isn't one that changes
-  kept_apart : (a : Spot) (j k : ℕ) → IsAt g a j → g.kept k ≡ true → k ≡ j → ⊥
+  kept_apart : (a : Spot) (j k : ℕ) → IsSpotAt g a j → g.kept k ≡ true → k ≡ j → ⊥
   kept_apart a j k at h e = true_false (sym h ∙ (ap g.kept e ∙ fixed.aside a j at))
     where
       true_false : true ≡ false → ⊥
       true_false i = cc (i)
 
   -- subject t leaves its CPU with this state and these MSRs
-  module _ (t : ℕ) (x : IsSubject g t) (st : SubjectState) (file : List ℕ) (pages : List Page) (has : HasPages pages x.subject x.control) where
+  module _ (t : ℕ) (x : IsSubject g t) (st : SubjectState) (file : List ℕ) (pages : List Page) (has : HasStateAndMsrArea pages x.subject x.control) where
     abbrev d : Control
     d = x.control
 
@@ -81,10 +81,10 @@ module _ (g : Ground) (fixed : IsFixed g) where
     later = left_pages d st file pages
 
     -- where the two pages are
-    at_state : IsAt g (state_at t) d.state
+    at_state : IsSpotAt g (state_at t) d.state
     at_state = (d, x.joined.control, refl)
 
-    at_area : IsAt g (area_at t) d.msr_area
+    at_area : IsSpotAt g (area_at t) d.msr_area
     at_area = (d, x.joined.control, refl)
 
     -- they are two
@@ -113,7 +113,7 @@ module _ (g : Ground) (fixed : IsFixed g) where
         (page_of-change_other pages d.state (λ _. page_bytes st) d.msr_area (λ e. differ (sym e)) ∙ has.area_is) has.room
 
     -- what every page holds are bytes
-    left_small : (things : Things) → Shows g pages things → (k : ℕ) (page : List ℕ) → page_of later k ≡ Some page → All IsByte page
+    left_small : (things : Things) → ShowsThings g pages things → (k : ℕ) (page : List ℕ) → page_of later k ≡ Some page → All IsByte page
     left_small things shows k page at =
         elim (cases_eq k d.state) [
           | inl e ↦ subst (All IsByte) (one_value _ _ _ left_state (ap (page_of later) (sym e) ∙ at)) (written_bytes st)
@@ -126,7 +126,7 @@ module _ (g : Ground) (fixed : IsFixed g) where
         ]
 
     -- memory shows the same things
-    pub left_shows : (things : Things) → Shows g pages things → Shows g later things
+    pub left_shows : (things : Things) → ShowsThings g pages things → ShowsThings g later things
     left_shows things shows =
         shows_same pages later things
         (λ z j h. left_elsewhere (g.first z + j)
@@ -150,7 +150,7 @@ module _ (g : Ground) (fixed : IsFixed g) where
         (λ e. fixed.apart (area_at s) (area_at t) c.msr_area d.msr_area (c, is, refl) at_area (area_spot s t ne) e)
 
     -- the subject has its pages still
-    pub left_own_pages : FitsFile file → HasPages later x.subject d
+    pub left_own_pages : FitsFile file → HasStateAndMsrArea later x.subject d
     left_own_pages fits = record {
       state = page_bytes st;
       state_is = left_state;
@@ -168,10 +168,10 @@ module _ (g : Ground) (fixed : IsFixed g) where
 
         left_entries : AreEntries x.subject (entries_in d.msrs (saved_page d.msrs file has.area))
         left_entries = record {
-          distinct = subst AreDistinct (sym same_indices) has.entries.distinct;
+          distinct = subst AreDistinctIndices (sym same_indices) has.entries.distinct;
           covers = λ index h. ap (λ is. is_among is index) same_indices ∙ has.entries.covers index h;
         }
 
     -- and so has every other one
-    pub left_other_pages : (s : ℕ) (n : Subject) (c : Control) → slice_get g.setup.controls s ≡ Some c → (s ≡ t → ⊥) → HasPages pages n c → HasPages later n c
+    pub left_other_pages : (s : ℕ) (n : Subject) (c : Control) → slice_get g.setup.controls s ≡ Some c → (s ≡ t → ⊥) → HasStateAndMsrArea pages n c → HasStateAndMsrArea later n c
     left_other_pages s n c is ne h = pages_stay pages later n c (state_stays s c is ne) (area_stays s c is ne) h

@@ -10,7 +10,7 @@ use Rattle.vmx_machine.specs.Machine.{left, entered}
 use Rattle.vmx_machine.specs.declared.control.Control.{Control}
 use Rattle.vmx_machine.specs.declared.cpu.Cpu.{Cpu}
 use Rattle.vmx_machine.specs.declared.cpu.Entered.{Entered}
-use Rattle.kernel_core.specs.Kernel.{Live, goes_on, switched}
+use Rattle.kernel_core.specs.Kernel.{Live, enters_cpu, switched}
 use Rattle.subject_model.specs.System.{System}
 use Rattle.proof_turns.specs.Ground.{Ground}
 use Rattle.proof_turns.specs.Fixed.{IsFixed}
@@ -22,7 +22,7 @@ use Rattle.proof_turns.proofs.Residents.{Present, Resident}
 
 -- leaving, and then entering, is what the kernel does
 goes_on_is : (cpu s : ℕ) (c : Control) (k : Live) (later : List Page) → left cpu k.machine ≡ machine_off cpu later k.machine
-    → entered_live cpu s c (left_with cpu later k) ≡ goes_on cpu s c k
+    → entered_live cpu s c (left_with cpu later k) ≡ enters_cpu cpu s c k
 goes_on_is cpu s c k later e =
     same_live k (entered cpu c (machine_off cpu later k.machine)) (entered cpu c (left cpu k.machine))
     (change_at cpu (λ _. Some s) (change_at cpu (λ _. None) k.on)) (change_at cpu (λ _. Some s) k.on)
@@ -35,7 +35,7 @@ module _ (g : Ground) (fixed : IsFixed g) (k : Live) (y : System) (stands : Stan
 
   -- it enters a CPU that was left
   goes_on_runs : (later : List Page) (u : Cpu) → slice_get k.machine.cpus cpu ≡ Some u → (who : Option ℕ) → slice_get k.on cpu ≡ Some who
-      → left cpu k.machine ≡ machine_off cpu later k.machine → StandsFor g (left_with cpu later k) y → RunsIn (goes_on cpu enters.number enters.is.control k)
+      → left cpu k.machine ≡ machine_off cpu later k.machine → StandsFor g (left_with cpu later k) y → RunsIn (enters_cpu cpu enters.number enters.is.control k)
   goes_on_runs later u at who on e after =
       subst (λ x. RunsIn x) (goes_on_is cpu enters.number enters.is.control k later e)
       (entered_runs g fixed (left_with cpu later k) y after cpu enters

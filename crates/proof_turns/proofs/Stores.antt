@@ -14,11 +14,11 @@ use Rattle.vmx_machine.specs.declared.control.Control.{Control}
 use Rattle.kernel_core.specs.Kernel.{Live}
 use Rattle.subject_model.specs.Alone.{Things}
 use Rattle.subject_model.specs.System.{System, change_thing, with_bytes, with_store}
-use Rattle.proof_turns.specs.Ground.{Ground, Joined, Spot, thing_at, state_at, area_at, IsAt, page_and_offset}
+use Rattle.proof_turns.specs.Ground.{Ground, Joined, Spot, thing_at, state_at, area_at, IsSpotAt, page_and_offset}
 use Rattle.proof_turns.specs.Fixed.{IsFixed, Watches}
 use Rattle.guest_isa.specs.Words.{IsByte}
-use Rattle.proof_turns.specs.Held.{Held, held, is_on, on_pages, IsOwn}
-use Rattle.proof_turns.specs.Stands.{HasPages, StandsFor}
+use Rattle.proof_turns.specs.Held.{Held, held, is_subject_entered, on_pages, IsOwn}
+use Rattle.proof_turns.specs.Stands.{HasStateAndMsrArea, StandsFor}
 use Rattle.guest_isa.proofs.StateLaws.{over_small}
 use Rattle.subject_model.proofs.KeyLaws.{value_changed, value_other, things_apart}
 use Rattle.policy_lawful.proofs.SameThings.{state_names}
@@ -34,7 +34,7 @@ module _ (g : Ground) (fixed : IsFixed g) where
   other_spot x i s = (λ e. cc (e), λ e. cc (e))
 
   -- a change of a page at one spot keeps the page at any other
-  other_page : (pages : List Page) (f : List ℕ → List ℕ) (a b : Spot) (j page : ℕ) → IsAt g a j → IsAt g b page → (a ≡ b → ⊥)
+  other_page : (pages : List Page) (f : List ℕ → List ℕ) (a b : Spot) (j page : ℕ) → IsSpotAt g a j → IsSpotAt g b page → (a ≡ b → ⊥)
       → page_of (change pages page f) j ≡ page_of pages j
   other_page pages f a b j page at is ne = page_of-change_other pages page f j (fixed.apart a b j page at is ne)
 
@@ -47,7 +47,7 @@ module _ (g : Ground) (fixed : IsFixed g) where
       let pages : List Page = k.machine.pages in
       let later : List Page = change pages page f in
       let things : Things = change_thing x (λ old. over old offset new) y.things in
-      let spot : IsAt g (thing_at x (offset / 4096)) page = (h, refl) in
+      let spot : IsSpotAt g (thing_at x (offset / 4096)) page = (h, refl) in
       let states : (s : ℕ) (c : Control) → slice_get g.setup.controls s ≡ Some c → page_of later c.state ≡ page_of pages c.state = λ s c e.
       other_page pages f (state_at s) (thing_at x (offset / 4096)) c.state page (c, e, refl) spot (λ i. (other_spot x (offset / 4096) s).0 (sym i)) in
       let areas : (s : ℕ) (c : Control) → slice_get g.setup.controls s ≡ Some c → page_of later c.msr_area ≡ page_of pages c.msr_area = λ s c e.
@@ -72,7 +72,7 @@ module _ (g : Ground) (fixed : IsFixed g) where
   -- ---- .. of the state page of a subject that is on no CPU
 
   module _ (k : Live) (y : System) (t : ℕ) (m : Subject) (r : SubjectPart) (d : Control) (offset : ℕ) (new : List ℕ) (i : Joined g t m r d) (small : All IsByte new)
-      (away : (who : Option ℕ) → slice_get k.on r.cpu ≡ Some who → is_on t who ≡ false) (stands : StandsFor g k y) where
+      (away : (who : Option ℕ) → slice_get k.on r.cpu ≡ Some who → is_subject_entered t who ≡ false) (stands : StandsFor g k y) where
     -- what the change makes of the page, and memory after it
     abbrev changed : List ℕ → List ℕ
     changed old = over old offset new
@@ -87,7 +87,7 @@ module _ (g : Ground) (fixed : IsFixed g) where
     abbrev things_after : Things
     things_after = change_thing (state m.name) changed y.things
 
-    at_spot : IsAt g (state_at t) d.state
+    at_spot : IsSpotAt g (state_at t) d.state
     at_spot = (d, i.control, refl)
 
     -- the state pages of others stay
@@ -109,7 +109,7 @@ module _ (g : Ground) (fixed : IsFixed g) where
         ∙ rw (page_of-change_same k.machine.pages d.state changed, areas_stay t d i.control) refl
 
     -- it has its pages still
-    its_pages : HasPages after m d
+    its_pages : HasStateAndMsrArea after m d
     its_pages =
         let e = stands.pages t m r d i in
         record {
@@ -153,7 +153,7 @@ module _ (g : Ground) (fixed : IsFixed g) where
       shows = change_elsewhere g fixed k.machine.pages y.things things_after d.state changed (state_at t) at_spot (λ x b e. cc (e))
           (λ x hx. value_other same_thing (state m.name) x changed y.things (things_apart (state m.name) x (λ e. no_state g fixed x m.name hx (sym e))))
           (λ old h. over_small old offset new h small) stands.shows;
-      pages = each_subject g (λ s n q c. HasPages after n c) t m r d i its_pages
+      pages = each_subject g (λ s n q c. HasStateAndMsrArea after n c) t m r d i its_pages
           (λ s n q c j ne. pages_stay k.machine.pages after n c (states_stay s c j.control ne) (areas_stay s c j.control) (stands.pages s n q c j));
       owns = λ s n q c j but. each_subject g (λ s n q c. IsOwn n things_after y.msrs (held live_after s q c)) t m r d i its_own others_own s n q c j;
       router = stands.router;
@@ -166,7 +166,7 @@ module _ (g : Ground) (fixed : IsFixed g) where
 
   -- who is watched is not on the CPU
   pub watched_away : (k : Live) (cpu s : ℕ) (n : Subject) (q : SubjectPart) (c : Control) (x : Thing) → Joined g s n q c → q.cpu ≡ cpu
-      → slice_get k.on cpu ≡ Some (Some s) → (w : Watches g s n x) → (who : Option ℕ) → slice_get k.on w.part.cpu ≡ Some who → is_on w.number who ≡ false
+      → slice_get k.on cpu ≡ Some (Some s) → (w : Watches g s n x) → (who : Option ℕ) → slice_get k.on w.part.cpu ≡ Some who → is_subject_entered w.number who ≡ false
   watched_away k cpu s n q c x j its on w who at =
       let same : w.part.cpu ≡ cpu = w.joined.cpu ∙ (w.cpu ∙ (sym j.cpu ∙ its)) in
       not_on w.number s who (one_value _ who (Some s) (ap (slice_get k.on) (sym same) ∙ at) on) w.other

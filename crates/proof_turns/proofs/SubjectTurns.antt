@@ -22,11 +22,11 @@ use Rattle.frame_clock.specs.Alike.{AreAlikeTurns}
 use Rattle.subject_model.specs.TurnLine.{TurnLine}
 use Rattle.subject_model.specs.TurnAction.{TurnAction}
 use Rattle.subject_model.specs.TurnAction.TheVariants.{Ran, Inject, Exit}
-use Rattle.vmx_machine.specs.Machine.{CpuStepped, MachineState, Stepped, answered as cpu_answered, cpu_step, machine_step, machine_world, ports_exit, state_on, step_by, step_on, with_state, with_store as with_page, with_write as with_file}
+use Rattle.vmx_machine.specs.Machine.{CpuStepped, MachineState, Stepped, answered as cpu_answered, cpu_step, machine_step, machine_world, ports_exit, state_on, step_by, step_on, with_state, with_store as with_page, msr_file_with_write as with_file}
 use Rattle.vmx_machine.specs.declared.control.Control.{Control}
 use Rattle.vmx_machine.specs.declared.cpu.Cpu.{Cpu}
 use Rattle.vmx_machine.specs.declared.cpu.Entered.{Entered}
-use Rattle.kernel_core.specs.Kernel.{Live, acts_on, delivers, line_of, event_of, handled, idle as kernel_idle, raised_by as kernel_raised_by, vector_for as kernel_vector_for}
+use Rattle.kernel_core.specs.Kernel.{Live, acts_on, delivers, turn_line_of, event_of, handled, kernel_idles as kernel_idle, raised_by as kernel_raised_by, vector_for as kernel_vector_for}
 use Rattle.subject_model.specs.Alone.{Inbox, TurnAnswer, msr_value, alone, exit_end_of, injects, own_of, solo_turn, stepped, unless_delivered, vector_for, waits, way_of}
 use Rattle.muen_num.specs.Numbers.{is_among}
 use Rattle.subject_model.specs.System.{System, inbox_of, line_at, named, raised_by, state_of, took, turn_answered, turn_from, with_own, with_store}
@@ -83,7 +83,7 @@ module _ (g : Ground) (fixed : IsFixed g) (k : Live) (y : System) (cpu tick : �
 
   -- the kernel's line, and what it does after a step, and with a vector that is delivered or none
   abbrev kernel_line : TurnAction → TurnLine
-  kernel_line what = line_of (record { tick = tick; cpu = cpu; subject = q.name; pc = st.pc }) what
+  kernel_line what = turn_line_of (record { tick = tick; cpu = cpu; subject = q.name; pc = st.pc }) what
 
   abbrev kernel_handles : StepEnd → Live → Turned Live TurnLine
   kernel_handles e now = handled (record { tick = tick; cpu = cpu; subject = q.name; pc = st.pc }) q e now

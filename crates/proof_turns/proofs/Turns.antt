@@ -7,9 +7,9 @@ use Rattle.frame_clock.specs.Plan.{frames_in}
 use Rattle.frame_clock.specs.Slot.{Slot}
 use Rattle.frame_clock.specs.Frames.{slot_in}
 use Rattle.frame_clock.specs.Alike.{AreAlikeTurns}
-use Rattle.kernel_core.specs.Kernel.{Live, turn_in_slot as kernel_turn_in_slot, turn_of, turn_of_member as kernel_turn_of_member, turn_on, switched}
+use Rattle.kernel_core.specs.Kernel.{Live, cpu_turn_in_slot as kernel_turn_in_slot, turn_of, cpu_turn_of_member as kernel_turn_of_member, turn_on, switched}
 use Rattle.subject_model.specs.System.{System, system_turn, turn_in_slot, turn_of_member}
-use Rattle.proof_turns.specs.Ground.{Ground, name_at}
+use Rattle.proof_turns.specs.Ground.{Ground, subject_name_at}
 use Rattle.proof_turns.specs.Fixed.{IsFixed}
 use Rattle.guest_isa.specs.Words.{IsWord}
 use Rattle.proof_turns.specs.Stands.{StandsFor}
@@ -30,7 +30,7 @@ module _ (g : Ground) (fixed : IsFixed g) (k : Live) (y : System) (stands : Stan
   -- by the active member of the slot's group: it is on the CPU, and acts
   member_alike : (slot : Slot) → slot_in (frames_of g.policy cpu) y.frame tick ≡ Some slot → (who : Option ℕ) → slice_get k.on cpu ≡ Some who
       → (o : Option ℕ) → slice_get k.router.active slot.group ≡ o
-      → AreAlikeTurns (StandsFor g) (kernel_turn_of_member g.setup cpu tick slot.first who o k) (turn_of_member g.policy cpu tick slot.first (option_map (name_at g) o) y)
+      → AreAlikeTurns (StandsFor g) (kernel_turn_of_member g.setup cpu tick slot.first who o k) (turn_of_member g.policy cpu tick slot.first (option_map (subject_name_at g) o) y)
   member_alike slot found who on None at = record { state = stands; line = refl }
   member_alike slot found who on (Some s) at =
       let m = stands.router.members slot.group s at in

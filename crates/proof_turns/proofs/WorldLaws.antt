@@ -22,7 +22,7 @@ use Rattle.guest_isa.specs.Step.{word_at}
 use Rattle.guest_isa.specs.declared.reach.Reach.TheVariants.{Reached}
 use Rattle.image_pack.specs.declared.parts.SubjectPart.{SubjectPart}
 use Rattle.kernel_core.specs.Kernel.{Live}
-use Rattle.vmx_machine.specs.Machine.{machine_world, msr_exits_in, page_at, ports_exit}
+use Rattle.vmx_machine.specs.Machine.{machine_world, msr_exits_in, page_bytes_at, ports_exit}
 use Rattle.vmx_machine.specs.declared.control.Control.{Control}
 use Rattle.vmx_machine.specs.declared.cpu.Cpu.{Cpu}
 use Rattle.subject_model.specs.Alone.{Things, alone, bytes_in, input_byte, own_of, reach_by, thing_in}
@@ -125,14 +125,14 @@ module _ (g : Ground) (fixed : IsFixed g) where
   -- what is read of a thing that is reached
   seen_word : (k : Live) (y : System) (cpu s : ℕ) (n : Subject) (q : SubjectPart) (c : Control) (r : Running g k y cpu s n c) → Joined g s n q c → q.cpu ≡ cpu
       → (size : AccessSize) (x : Thing) (offset : ℕ) → offset % count size ≡ 0 → (offset / 4096 < g.pages x) ⊎ ((offset < 4096) × Watches g s n x)
-      → word_at (count size) (page_at k.machine.pages (g.first x + offset / 4096)) (offset % 4096) ≡ word_at (count size) (bytes_in y.things x) offset
+      → word_at (count size) (page_bytes_at k.machine.pages (g.first x + offset / 4096)) (offset % 4096) ≡ word_at (count size) (bytes_in y.things x) offset
   seen_word k y cpu s n q c r joined its size x offset h (inl l) =
       word_of_part size (thing_in y.things x) (page_of k.machine.pages (g.first x + offset / 4096)) offset h (r.stands.shows.bytes x (offset / 4096) l)
   seen_word k y cpu s n q c r joined its size x offset h (inr w) =
       let page : g.first x + offset / 4096 ≡ g.first x = omega (arith, w.0) in
       let inside : offset % 4096 ≡ offset = omega (arith, w.0) in
-      ap (λ p. word_at (count size) (page_at k.machine.pages p) (offset % 4096)) page
-      ∙ (ap (λ i. word_at (count size) (page_at k.machine.pages (g.first x)) i) inside
+      ap (λ p. word_at (count size) (page_bytes_at k.machine.pages p) (offset % 4096)) page
+      ∙ (ap (λ i. word_at (count size) (page_bytes_at k.machine.pages (g.first x)) i) inside
       ∙ (ap (λ b. word_at (count size) (unwrap_or b []) offset) (watched_page k y cpu s n q c r joined its x w.1)
       ∙ there size (thing_in y.things x) offset))
     where

@@ -3,7 +3,7 @@ use Rattle.std.specs.Prelude.{◌≡◌, ◌⊎◌, ℕ, ◌+◌, ◌/◌, ◌%�
 use Rattle.std.specs.List.{All}
 use Rattle.subject_model.specs.Clock.{ticks_of_majors}
 use Rattle.subject_model.specs.Resources.{is_granted, msrs_of}
-use Rattle.frame_clock.specs.Frames.{slot_in, ticks_of_majors as ticks_in_plan}
+use Rattle.frame_clock.specs.Frames.{slot_in, ticks_of_plan_majors as ticks_in_plan}
 use Rattle.frame_clock.specs.declared.frame_at.FrameAt.{FrameAt}
 use Rattle.image_pack.specs.declared.parts.EventPart.{EventPart}
 use Rattle.image_pack.specs.declared.parts.SubjectPart.{SubjectPart}
@@ -18,10 +18,10 @@ use Rattle.policy_lawful.specs.Thing.{Thing, region, state}
 use Rattle.policy_lawful.specs.Windows.{access_of, byte, windows_of}
 use Rattle.policy_lawful.specs.source.Subject.{Subject}
 use Rattle.policy_lawful.specs.source.Tau0.{Tau0}
-use Rattle.vmx_machine.specs.MsrFile.{slot_of}
+use Rattle.vmx_machine.specs.MsrFile.{msr_slot_of}
 use Rattle.vmx_machine.specs.declared.control.Control.{Control}
 use Rattle.subject_model.specs.System.{is_shown}
-use Rattle.proof_turns.specs.Ground.{Ground, Joined, IsSubject, Spot, IsAt}
+use Rattle.proof_turns.specs.Ground.{Ground, Joined, IsSubject, Spot, IsSpotAt}
 
 -- x is the state page of another subject on the CPU of this one
 pub record Watches (g : Ground) (s : ℕ) (n : Subject) (x : Thing) : Type 0 where
@@ -60,8 +60,8 @@ pub record IsFixed (g : Ground) : Type 0 where
   pub tau0 : g.setup.tau0 ≡ option_map (λ t. g.first (region t.region)) g.policy.scheduling.tau0
   pub tau0_there : (t : Tau0) → g.policy.scheduling.tau0 ≡ Some t → 0 < g.pages (region t.region)
   -- the pages of things, states and areas differ, and none is one of tables or bitmaps
-  pub apart : (a b : Spot) (j k : ℕ) → IsAt g a j → IsAt g b k → (a ≡ b → ⊥) → j ≡ k → ⊥
-  pub aside : (a : Spot) (j : ℕ) → IsAt g a j → g.kept j ≡ false
+  pub apart : (a b : Spot) (j k : ℕ) → IsSpotAt g a j → IsSpotAt g b k → (a ≡ b → ⊥) → j ≡ k → ⊥
+  pub aside : (a : Spot) (j : ℕ) → IsSpotAt g a j → g.kept j ≡ false
   pub tables : (s : ℕ) (c : Control) (addr : ℕ) → slice_get g.setup.controls s ≡ Some c → addr < GUEST_END → All (λ at. g.kept (at / 4096) ≡ true) (addresses_read g.memory c.eptp addr)
   pub io_bitmap : (s : ℕ) (c : Control) → slice_get g.setup.controls s ≡ Some c → g.kept c.io_bitmaps ≡ true
   pub second_io_bitmap : (s : ℕ) (c : Control) → slice_get g.setup.controls s ≡ Some c → g.kept (c.io_bitmaps + 1) ≡ true
@@ -72,4 +72,4 @@ pub record IsFixed (g : Ground) : Type 0 where
   -- what a subject reaches
   pub sees : (s : ℕ) (n : Subject) (kind : AccessKind) (addr : ℕ) (x : Thing) (offset : ℕ) → slice_get g.policy.subjects s ≡ Some n → access_of (windows_of g.policy n) addr kind ≡ byte x offset → Sees g s n addr x offset
   -- the MSRs that are granted are those of the MSR file
-  pub in_file : (s : ℕ) (n : Subject) (index : ℕ) (write : Bool) → slice_get g.policy.subjects s ≡ Some n → is_granted (msrs_of n) index write ≡ true → is_some (slot_of index) ≡ true
+  pub in_file : (s : ℕ) (n : Subject) (index : ℕ) (write : Bool) → slice_get g.policy.subjects s ≡ Some n → is_granted (msrs_of n) index write ≡ true → is_some (msr_slot_of index) ≡ true

@@ -36,12 +36,12 @@ pub record Ground : Type 0 where
   pub memory : List Page
 
 -- the name of a subject by its number
-abbrev pub name_at : Ground → ℕ → List ℕ
-name_at g s = unwrap_or (option_map (λ n. n.name) (slice_get g.policy.subjects s)) []
+abbrev pub subject_name_at : Ground → ℕ → List ℕ
+subject_name_at g s = unwrap_or (option_map (λ n. n.name) (slice_get g.policy.subjects s)) []
 
 -- what an entry of a table of events raises
 abbrev pub raised_of : Ground → EventPart → Raised
-raised_of g e = record { mode = e.mode; target = record { subject = name_at g e.target; vector = e.vector } }
+raised_of g e = record { mode = e.mode; target = record { subject = subject_name_at g e.target; vector = e.vector } }
 
 -- the page and the offset in it of a thing's byte
 abbrev pub page_and_offset : (Thing → ℕ) → Thing → ℕ → ℕ × ℕ
@@ -85,7 +85,7 @@ pub data Spot : Type 0 where
   state_at : ℕ → Spot
   area_at : ℕ → Spot
 
-abbrev pub IsAt : Ground → Spot → ℕ → Type 0
-IsAt g (thing_at x j) page = (j < g.pages x) × (g.first x + j ≡ page)
-IsAt g (state_at s) page = (c : Control) × (slice_get g.setup.controls s ≡ Some c) × (c.state ≡ page)
-IsAt g (area_at s) page = (c : Control) × (slice_get g.setup.controls s ≡ Some c) × (c.msr_area ≡ page)
+abbrev pub IsSpotAt : Ground → Spot → ℕ → Type 0
+IsSpotAt g (thing_at x j) page = (j < g.pages x) × (g.first x + j ≡ page)
+IsSpotAt g (state_at s) page = (c : Control) × (slice_get g.setup.controls s ≡ Some c) × (c.state ≡ page)
+IsSpotAt g (area_at s) page = (c : Control) × (slice_get g.setup.controls s ≡ Some c) × (c.msr_area ≡ page)

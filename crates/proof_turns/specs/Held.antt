@@ -37,13 +37,13 @@ on_cpu u = record { page = option_map (λ e. page_bytes e.state) u.entered; msr 
 abbrev pub on_pages : ℕ → Option (List ℕ) → Option (List ℕ) → Held
 on_pages msrs page area = record { page = page; msr = entry_value (entries_in msrs (unwrap_or area [])) }
 
-abbrev pub is_on : ℕ → Option ℕ → Bool
-is_on s None = false
-is_on s (Some t) = t == s
+abbrev pub is_subject_entered : ℕ → Option ℕ → Bool
+is_subject_entered s None = false
+is_subject_entered s (Some t) = t == s
 
 -- by the two pages, by who is on the CPU, and by the CPU
 abbrev pub held_by : ℕ → ℕ → Option (List ℕ) → Option (List ℕ) → Option (Option ℕ) → Option Cpu → Held
-held_by s msrs page area (Some on) (Some u) = if is_on s on then on_cpu u else on_pages msrs page area
+held_by s msrs page area (Some on) (Some u) = if is_subject_entered s on then on_cpu u else on_pages msrs page area
 held_by s msrs page area (Some on) None = on_pages msrs page area
 held_by s msrs page area None u = on_pages msrs page area
 
@@ -57,9 +57,9 @@ abbrev pub indices : List AreaEntry → List ℕ
 indices [] = []
 indices (e ∷ es) = e.index ∷ indices es
 
-abbrev pub AreDistinct : List ℕ → Type 0
-AreDistinct [] = Unit {0}
-AreDistinct (i ∷ is) = (is_among is i ≡ false) × AreDistinct is
+abbrev pub AreDistinctIndices : List ℕ → Type 0
+AreDistinctIndices [] = Unit {0}
+AreDistinctIndices (i ∷ is) = (is_among is i ≡ false) × AreDistinctIndices is
 
 -- an MSR is granted to a subject, for reads or for writes
 abbrev pub HasMsr : Subject → ℕ → Type 0
@@ -67,7 +67,7 @@ HasMsr n index = (write : Bool) × (is_granted (msrs_of n) index write ≡ true)
 
 -- the entries have each index once, and each MSR that is granted
 pub record AreEntries (n : Subject) (entries : List AreaEntry) : Type 0 where
-  pub distinct : AreDistinct (indices entries)
+  pub distinct : AreDistinctIndices (indices entries)
   pub covers : (index : ℕ) → HasMsr n index → is_among (indices entries) index ≡ true
 
 -- ---- sets of vectors: marks that hold the same vectors as a list

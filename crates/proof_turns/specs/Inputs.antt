@@ -7,7 +7,7 @@ use Rattle.policy_lawful.specs.Events.{irq_of}
 use Rattle.policy_lawful.specs.Thing.{Thing, device_memory}
 use Rattle.subject_model.specs.DeviceRecord.{NamedInput, port_input, memory_input, irq_input, dma_input}
 use Rattle.subject_model.specs.Clock.{ByteWrite, line_writes}
-use Rattle.proof_turns.specs.Ground.{Ground, IsSubject, name_at}
+use Rattle.proof_turns.specs.Ground.{Ground, IsSubject, subject_name_at}
 use Rattle.guest_isa.specs.Words.{IsByte}
 
 -- the port has this byte
@@ -37,7 +37,7 @@ pub record AreWrite (g : Ground) (es : List Effect) (x : Part) : Type 0 where
 -- the interrupt is granted to this subject, under this vector
 pub record SameIrq (g : Ground) (s v : ℕ) (device irq : List ℕ) : Type 0 where
   pub is : IsSubject g s
-  pub granted : irq_of g.policy device irq ≡ Some (record { subject = name_at g s; vector = Some v })
+  pub granted : irq_of g.policy device irq ≡ Some (record { subject = subject_name_at g s; vector = Some v })
 
 -- one that nobody has reaches nobody
 pub data AreIrq (g : Ground) (es : List Effect) (device irq : List ℕ) : Type 0 where

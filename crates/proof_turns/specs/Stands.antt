@@ -16,12 +16,12 @@ use Rattle.vmx_machine.specs.MsrFile.{value_in}
 use Rattle.vmx_machine.specs.declared.control.Control.{Control}
 use Rattle.vmx_machine.specs.declared.cpu.Cpu.{Cpu}
 use Rattle.vmx_machine.specs.declared.cpu.Entered.{Entered}
-use Rattle.proof_turns.specs.Ground.{Ground, IsSubject, Joined, name_at, part}
+use Rattle.proof_turns.specs.Ground.{Ground, IsSubject, Joined, subject_name_at, part}
 use Rattle.guest_isa.specs.Words.{IsByte, FitsState}
 use Rattle.proof_turns.specs.Held.{AreEntries, FitsFile, IsOwn, MsrsAre, SameSet, held}
 
 -- memory has the things' bytes, and tables and bitmaps are as they were at the start
-pub record Shows (g : Ground) (pages : List Page) (things : Things) : Type 0 where
+pub record ShowsThings (g : Ground) (pages : List Page) (things : Things) : Type 0 where
   pub bytes : (x : Thing) (j : ℕ) → j < g.pages x → page_of pages (g.first x + j) ≡ option_map (part j) (thing_in things x)
   pub kept : (k : ℕ) → g.kept k ≡ true → page_of pages k ≡ page_of g.memory k
   pub there : (k : ℕ) → is_there pages k ≡ is_there g.memory k
@@ -29,7 +29,7 @@ pub record Shows (g : Ground) (pages : List Page) (things : Things) : Type 0 whe
   pub small : (k : ℕ) (page : List ℕ) → page_of pages k ≡ Some page → All IsByte page
 
 -- the pages of a subject's state and of its MSR area
-pub record HasPages (pages : List Page) (n : Subject) (c : Control) : Type 0 where
+pub record HasStateAndMsrArea (pages : List Page) (n : Subject) (c : Control) : Type 0 where
   pub state : List ℕ
   pub state_is : page_of pages c.state ≡ Some state
   pub area : List ℕ
@@ -67,7 +67,7 @@ pub record RouterStands (g : Ground) (r : RouterState) (sets waiting : Named (Li
   pub now : (s : ℕ) (n : Subject) (q : SubjectPart) (c : Control) → Joined g s n q c → SameSet (slice_get r.pending_now s) (named sets n.name)
   pub later : (s : ℕ) (n : Subject) (q : SubjectPart) (c : Control) → Joined g s n q c → SameSet (slice_get r.pending_later s) (named waiting n.name)
   pub groups : r.groups ≡ map (λ q. q.group) g.setup.subjects
-  pub same_active : (i : ℕ) → slice_get active i ≡ option_map (name_at g) (slice_get r.active i)
+  pub same_active : (i : ℕ) → slice_get active i ≡ option_map (subject_name_at g) (slice_get r.active i)
   pub members : (i s : ℕ) → slice_get r.active i ≡ Some s → IsMember g i s
 
 -- the CPUs are there, and who is on one by the kernel is on it by the machine
@@ -79,11 +79,11 @@ pub record CpusStand (g : Ground) (on : List (Option ℕ)) (cpus : List Cpu) : T
 
 -- each subject has its pages
 abbrev pub HavePages : Ground → List Page → Type 0
-HavePages g pages = (s : ℕ) (n : Subject) (q : SubjectPart) (c : Control) → Joined g s n q c → HasPages pages n c
+HavePages g pages = (s : ℕ) (n : Subject) (q : SubjectPart) (c : Control) → Joined g s n q c → HasStateAndMsrArea pages n c
 
 -- it stands for the system but for what is said of the own page and MSR values of one subject
 pub record StandsBut (g : Ground) (but : Option ℕ) (k : Live) (y : System) : Type 0 where
-  pub shows : Shows g k.machine.pages y.things
+  pub shows : ShowsThings g k.machine.pages y.things
   pub pages : HavePages g k.machine.pages
   pub owns : (s : ℕ) (n : Subject) (q : SubjectPart) (c : Control) → Joined g s n q c → (but ≡ Some s → ⊥) → IsOwn n y.things y.msrs (held k s q c)
   pub router : RouterStands g k.router y.now y.later y.active

@@ -16,7 +16,7 @@ use Rattle.policy_lawful.specs.Ranges.{in_a_block}
 use Rattle.policy_lawful.specs.Resolution.{Resolution, source_of}
 use Rattle.policy_lawful.specs.source.Block.{Block}
 use Rattle.region_alloc.specs.Placed.{AreDisjoint, AreInside, IsPlaced}
-use Rattle.region_alloc.specs.Placement.{address_in, by_number, in_turn, placed_after, placement_in, placement_of}
+use Rattle.region_alloc.specs.Placement.{address_in, addresses_by_number, in_turn, placed_after, placement_in, placement_of}
 use Rattle.region_alloc.specs.declared.spot.Spot.{Spot}
 use Rattle.region_alloc.proofs.EachInTurn.{each_from_turns, each_in_turn, numbered_at}
 use Rattle.region_alloc.proofs.Sized.{placement_is}
@@ -51,7 +51,7 @@ record IsAt (out : List Spot) (number bytes : ℕ) : Type 0 where
   address : address_in out number ≡ spot.address
   size : spot.size ≡ bytes
 
-made : (many : ℕ) (placed : Result (List Spot) Region) (addresses : List ℕ) → by_number many placed ≡ Ok addresses → (out : List Spot) × (placed ≡ Ok out) × (addresses ≡ map (address_in out) (numbers_below many))
+made : (many : ℕ) (placed : Result (List Spot) Region) (addresses : List ℕ) → addresses_by_number many placed ≡ Ok addresses → (out : List Spot) × (placed ≡ Ok out) × (addresses ≡ map (address_in out) (numbers_below many))
 made many (Ok out) addresses e = (out, refl, cc)
 made many (Err r) addresses e = absurd (cc)
 

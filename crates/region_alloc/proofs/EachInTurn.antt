@@ -7,16 +7,16 @@ use Rattle.std.proofs.lemmas.List.Elements.{All-append, All-cons, All-filter, Al
 use Rattle.expand_kernel.proofs.Ordered.{All-in_order}
 use Rattle.expand_kernel.specs.Ordered.{in_order, inserted}
 use Rattle.expand_kernel.specs.declared.region.Region.{Region}
-use Rattle.region_alloc.specs.Placement.{in_turn, is_fixed}
+use Rattle.region_alloc.specs.Placement.{in_turn, has_fixed_address}
 
 -- what holds of each with its number
 pub each_in_turn : (P : ℕ × Region → Type 0) (regions : List Region) → All P (enumerate_from 0 regions) → All P (in_turn regions)
 unfolding in_turn
 each_in_turn P regions h =
-    All-append P (filter (λ x. is_fixed x.1) (enumerate_from 0 regions)) _
-    (All-filter (λ x. is_fixed x.1) P (enumerate_from 0 regions) h)
-    (All-in_order (λ x y. nat_le y.1.size x.1.size) P (filter (λ x. not (is_fixed x.1)) (enumerate_from 0 regions))
-    (All-filter (λ x. not (is_fixed x.1)) P (enumerate_from 0 regions) h))
+    All-append P (filter (λ x. has_fixed_address x.1) (enumerate_from 0 regions)) _
+    (All-filter (λ x. has_fixed_address x.1) P (enumerate_from 0 regions) h)
+    (All-in_order (λ x y. nat_le y.1.size x.1.size) P (filter (λ x. not (has_fixed_address x.1)) (enumerate_from 0 regions))
+    (All-filter (λ x. not (has_fixed_address x.1)) P (enumerate_from 0 regions) h))
 
 numbered : (P : Region → Type 0) (k : ℕ) (regions : List Region) → All P regions → All (λ x. P x.1) (enumerate_from k regions)
 numbered P k [] h = All-nil (λ x. P x.1)
@@ -69,9 +69,9 @@ from_both p P (x ∷ xs) h k = elim (cases_Bool (p x)) [
 pub each_from_turns : (P : ℕ × Region → Type 0) (regions : List Region) → All P (in_turn regions) → All P (enumerate_from 0 regions)
 unfolding in_turn
 each_from_turns P regions h =
-    let parts = all_split P (filter (λ x. is_fixed x.1) (enumerate_from 0 regions)) _ h in
-    from_both (λ x. is_fixed x.1) P (enumerate_from 0 regions) parts.0
-    (from_in_order (λ x y. nat_le y.1.size x.1.size) P (filter (λ x. not (is_fixed x.1)) (enumerate_from 0 regions)) parts.1)
+    let parts = all_split P (filter (λ x. has_fixed_address x.1) (enumerate_from 0 regions)) _ h in
+    from_both (λ x. has_fixed_address x.1) P (enumerate_from 0 regions) parts.0
+    (from_in_order (λ x y. nat_le y.1.size x.1.size) P (filter (λ x. not (has_fixed_address x.1)) (enumerate_from 0 regions)) parts.1)
 
 -- ---- by number
 

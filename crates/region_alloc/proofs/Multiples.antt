@@ -5,7 +5,7 @@ use Rattle.std.specs.Int.{next_multiple_of}
 use Rattle.std.proofs.Math.Nat.{mul-le-mul_left, mul-mod_right}
 use Rattle.std.proofs.lemmas.Bool.{and_from, and_parts, both_ways, cases_eq, cases_lt, eq-eqb, eqb-true, false_from_ne_true, le-leb, leb-true}
 use Rattle.std.proofs.lemmas.Nat.{mod_below, mod-mul-add}
-use Rattle.region_alloc.specs.Gaps.{IsLeast, fits, holds}
+use Rattle.region_alloc.specs.Gaps.{IsLeast, fits_in_gap, holds}
 use Rattle.region_alloc.specs.declared.gaps.Gap.{Gap}
 
 small_rest : (b m : ℕ) → b < m → b % m ≡ b
@@ -60,35 +60,35 @@ next_least n m a some l e = elim (next_is n m some) [
 
 module _ (alignment size : ℕ) (g : Gap) (some : 0 < alignment) where
   -- what fits is that multiple, or lies behind it
-  from_next : (a : ℕ) → fits alignment size g a ≡ true → next_multiple_of g.start alignment ≤ a
+  from_next : (a : ℕ) → fits_in_gap alignment size g a ≡ true → next_multiple_of g.start alignment ≤ a
   from_next a h =
       let both = and_parts (a % alignment == 0) (holds g a size) h in
       let within = and_parts (nat_le g.start a) (nat_le (a + size) g.end) both.1 in
       next_least g.start alignment a some (leb-true _ _ within.0) (eqb-true _ _ both.0)
 
-  ends : (a : ℕ) → fits alignment size g a ≡ true → a + size ≤ g.end
+  ends : (a : ℕ) → fits_in_gap alignment size g a ≡ true → a + size ≤ g.end
   ends a h =
       let both = and_parts (a % alignment == 0) (holds g a size) h in
       let within = and_parts (nat_le g.start a) (nat_le (a + size) g.end) both.1 in
       leb-true _ _ within.1
 
-  no_fit : (a : ℕ) → (fits alignment size g a ≡ true → ⊥) → fits alignment size g a ≡ false
+  no_fit : (a : ℕ) → (fits_in_gap alignment size g a ≡ true → ⊥) → fits_in_gap alignment size g a ≡ false
   no_fit a h = false_from_ne_true _ h
 
-  pub none_beyond : (next_multiple_of g.start alignment < 2 ^ 64 → ⊥) → g.end < 2 ^ 64 → (a : ℕ) → fits alignment size g a ≡ false
+  pub none_beyond : (next_multiple_of g.start alignment < 2 ^ 64 → ⊥) → g.end < 2 ^ 64 → (a : ℕ) → fits_in_gap alignment size g a ≡ false
   none_beyond far end a = no_fit a (λ h.
       let p = from_next a h in
       let q = ends a h in
       far (omega arith))
 
-  pub none_here : holds g (next_multiple_of g.start alignment) size ≡ false → (a : ℕ) → fits alignment size g a ≡ false
+  pub none_here : holds g (next_multiple_of g.start alignment) size ≡ false → (a : ℕ) → fits_in_gap alignment size g a ≡ false
   none_here out a = no_fit a (λ h.
       let p = from_next a h in
       let q = ends a h in
       let in' : holds g (next_multiple_of g.start alignment) size ≡ true = and_from _ _ (le-leb _ _ (next_from g.start alignment)) (le-leb _ _ (omega arith)) in
       both_ways _ out in')
 
-  pub here : holds g (next_multiple_of g.start alignment) size ≡ true → IsLeast (fits alignment size g) (Some (next_multiple_of g.start alignment))
+  pub here : holds g (next_multiple_of g.start alignment) size ≡ true → IsLeast (fits_in_gap alignment size g) (Some (next_multiple_of g.start alignment))
   here in' = (
     and_from _ _ (eq-eqb _ _ (next_multiple g.start alignment some)) in',
     λ b l. no_fit b (λ h. let p = from_next b h in absurd (omega arith)),

@@ -4,7 +4,7 @@ use Rattle.std.specs.Prelude.{◌&&◌, ◌%◌, ◌==◌}
 use Rattle.std.specs.List.{list_any}
 use Rattle.std.proofs.lemmas.Bool.{and_from, and_left, and_right, cases_eq, eq-eqb, ne_eqb}
 use Rattle.expand_kernel.specs.declared.region.Region.{Region}
-use Rattle.region_alloc.specs.Gaps.{IsLeast, fits, has_room, holds}
+use Rattle.region_alloc.specs.Gaps.{IsLeast, fits_in_gap, has_room, holds}
 use Rattle.region_alloc.specs.Placement.{suits}
 use Rattle.region_alloc.specs.declared.gaps.Gap.{Gap}
 use Rattle.region_alloc.proofs.Least.{least_same}
@@ -14,7 +14,7 @@ any_both true p xs = refl
 any_both false p [] = refl
 any_both false p (x ∷ xs) = any_both false p xs
 
-pub room_anywhere : (gaps : List Gap) (r : Region) (o : Option ℕ) → r.fixed ≡ None → IsLeast (λ a. list_any (λ g. fits r.alignment r.size g a) gaps) o → IsLeast (has_room gaps r) o
+pub room_anywhere : (gaps : List Gap) (r : Region) (o : Option ℕ) → r.fixed ≡ None → IsLeast (λ a. list_any (λ g. fits_in_gap r.alignment r.size g a) gaps) o → IsLeast (has_room gaps r) o
 room_anywhere gaps r o e h =
     least_same _ _
     (λ a. any_both (a % r.alignment == 0) (λ g. holds g a r.size) gaps ∙ ap (λ f. suits r f a && list_any (λ g. holds g a r.size) gaps) (sym e)) o h

@@ -33,8 +33,8 @@ IsLeast p None = (a : ℕ) → p a ≡ false
 IsLeast p (Some a) = (p a ≡ true) × ((b : ℕ) → b < a → p b ≡ false)
 
 -- a multiple of the alignment, from which on so many bytes lie in the gap
-abbrev pub fits : ℕ → ℕ → Gap → ℕ → Bool
-fits alignment size g address = (address % alignment == 0) && holds g address size
+abbrev pub fits_in_gap : ℕ → ℕ → Gap → ℕ → Bool
+fits_in_gap alignment size g address = (address % alignment == 0) && holds g address size
 
 -- the region may be at this address, where these gaps are free
 abbrev pub has_room : List Gap → Region → ℕ → Bool

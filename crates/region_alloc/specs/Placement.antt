@@ -17,8 +17,8 @@ use Rattle.region_alloc.specs.declared.spot.Spot.{Spot}
 
 -- ---- the order
 
-abbrev pub is_fixed : Region → Bool
-is_fixed r = option_map_or (λ address. true) r.fixed false
+abbrev pub has_fixed_address : Region → Bool
+has_fixed_address r = option_map_or (λ address. true) r.fixed false
 
 -- regions with their numbers, by size downwards; of the same size the earlier stays first
 abbrev pub by_size : List (ℕ × Region) → List (ℕ × Region)
@@ -27,8 +27,8 @@ by_size regions = in_order (λ x y. nat_le y.1.size x.1.size) regions
 -- those with an address of their own by number, then the others by size downwards and then by number; each with its number
 unfoldable pub in_turn : List Region → List (ℕ × Region)
 in_turn regions =
-    filter (λ x. is_fixed x.1) (enumerate_from 0 regions)
-    ++ by_size (filter (λ x. not (is_fixed x.1)) (enumerate_from 0 regions))
+    filter (λ x. has_fixed_address x.1) (enumerate_from 0 regions)
+    ++ by_size (filter (λ x. not (has_fixed_address x.1)) (enumerate_from 0 regions))
 
 -- ---- one region
 
@@ -74,13 +74,13 @@ placed_after blocks (x ∷ rest) spots =
 abbrev pub address_in : List Spot → ℕ → ℕ
 address_in spots number = option_map_or (λ q. q.address) (find (λ q. q.number == number) spots) 0
 
-abbrev pub by_number : ℕ → Result (List Spot) Region → Result (List ℕ) Region
-by_number many (Ok spots) = Ok (map (address_in spots) (numbers_below many))
-by_number many (Err r) = Err r
+abbrev pub addresses_by_number : ℕ → Result (List Spot) Region → Result (List ℕ) Region
+addresses_by_number many (Ok spots) = Ok (map (address_in spots) (numbers_below many))
+addresses_by_number many (Err r) = Err r
 
 -- the addresses of these regions by number, or the first in turn that has none
 unfoldable pub placement_in : List Block → List Region → Result (List ℕ) Region
-placement_in blocks regions = by_number (length regions) (placed_after blocks (in_turn regions) [])
+placement_in blocks regions = addresses_by_number (length regions) (placed_after blocks (in_turn regions) [])
 
 -- the addresses of a policy's regions by number, or the first that has none
 unfoldable pub placement_of : Source → Result (List ℕ) Region

@@ -1,7 +1,7 @@
 //! The memory that no region has.
 ghost use Rattle.std.specs.Prelude.{◌≡◌, ◌+◌, ◌<◌, ◌^◌, ◌++◌, map, IfOk, OnOk, All};
 ghost use Rattle.std.specs.List.{flat_map, list_any};
-ghost use Rattle.region_alloc.specs.Gaps.{IsLeast, fits, gap_of, has_room, holds, lower, remaining_of, some_gap};
+ghost use Rattle.region_alloc.specs.Gaps.{IsLeast, fits_in_gap, gap_of, has_room, holds, lower, remaining_of, some_gap};
 
 use crate::spot::Spot;
 use expand_kernel::Region;
@@ -37,7 +37,7 @@ impl Gap {
     // The lowest multiple of an alignment from which on so many bytes lie in it.
     fn first_fit(self, alignment: u64, size: u64) -> Option<u64>
         requires { 0 < alignment }
-        ensures { IsLeast (fits alignment size self) result }
+        ensures { IsLeast (fits_in_gap alignment size self) result }
     {
         match self.start.checked_next_multiple_of(alignment) {
             None => None,
@@ -66,7 +66,7 @@ fn lower(a: Option<u64>, b: Option<u64>) -> Option<u64>
 // The lowest multiple of an alignment from which on so many bytes lie in one of the gaps.
 fn first_fit(gaps: &[Gap], alignment: u64, size: u64) -> Option<u64>
     requires { 0 < alignment }
-    ensures { IsLeast (λ a. list_any (λ g. fits alignment size g a) gaps.now) result }
+    ensures { IsLeast (λ a. list_any (λ g. fits_in_gap alignment size g a) gaps.now) result }
 {
     let mut lowest = None;
     for gap in gaps {

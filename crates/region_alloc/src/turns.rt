@@ -1,7 +1,7 @@
 //! The order in which regions are placed.
 ghost use Rattle.std.specs.Prelude.{◌≡◌, filter, IfOk, OnOk, not};
 ghost use Rattle.std.specs.List.{enumerate_from};
-ghost use Rattle.region_alloc.specs.Placement.{by_size, in_turn, is_fixed};
+ghost use Rattle.region_alloc.specs.Placement.{by_size, in_turn, has_fixed_address};
 
 use expand_kernel::Region;
 use std::alloc::{AllocError, Global};
@@ -9,7 +9,7 @@ use std::cmp::Reverse;
 
 // The regions that have an address of their own, each with its number.
 fn fixed(alloc: Global, regions: &[Region]) -> Result<Vec<(usize, Region)>, AllocError>
-    ensures { IfOk result (λ v. v.items ≡ filter (λ x. is_fixed x.1) (enumerate_from 0 regions.now)) }
+    ensures { IfOk result (λ v. v.items ≡ filter (λ x. has_fixed_address x.1) (enumerate_from 0 regions.now)) }
 {
     regions
         .iter()
@@ -21,7 +21,7 @@ fn fixed(alloc: Global, regions: &[Region]) -> Result<Vec<(usize, Region)>, Allo
 
 // Those that have none, each with its number.
 fn others(alloc: Global, regions: &[Region]) -> Result<Vec<(usize, Region)>, AllocError>
-    ensures { IfOk result (λ v. v.items ≡ filter (λ x. not (is_fixed x.1)) (enumerate_from 0 regions.now)) }
+    ensures { IfOk result (λ v. v.items ≡ filter (λ x. not (has_fixed_address x.1)) (enumerate_from 0 regions.now)) }
 {
     regions
         .iter()

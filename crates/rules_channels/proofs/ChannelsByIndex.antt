@@ -19,7 +19,7 @@ use Rattle.policy_lawful.specs.Events.{ChannelEnd}
 use Rattle.policy_lawful.specs.source.Channel.{Channel}
 use Rattle.policy_lawful.proofs.UniqueNames.{channel_names}
 use Rattle.rules_channels.specs.ByIndex.{AreItems}
-use Rattle.rules_channels.specs.Channels.{channel_fault, fits_event, has_call, has_neither, is_apart, is_connected}
+use Rattle.rules_channels.specs.Channels.{channel_fault, ends_fit_event, has_call, has_neither, is_apart_from_readers, are_ends_connected}
 use Rattle.rules_channels.specs.ChannelEnds.{all_readers, all_writers}
 use Rattle.rules_channels.specs.declared.channel_ends.Met.{Met}
 use Rattle.rules_channels.proofs.EndsByChannel.{met_named, readers_same, writers_same}
@@ -32,7 +32,7 @@ connected_by writers readers mode =
     && list_all (λ w. list_all (λ r. not (bytes_eq r.0 w.0)) readers) writers
     && rules.fits_event writers readers mode
 
-fits_same : (r : Resolution) (writers readers : List Met) (mode : Option EventMode) → rules.fits_event (map (met_named r) writers) (map (met_named r) readers) mode ≡ fits_event writers readers mode
+fits_same : (r : Resolution) (writers readers : List Met) (mode : Option EventMode) → rules.fits_event (map (met_named r) writers) (map (met_named r) readers) mode ≡ ends_fit_event writers readers mode
 fits_same r writers readers None =
     list_all-append (λ e. not (is_some e.1.call) && not (is_some e.1.vector)) (map (met_named r) writers) (map (met_named r) readers)
     ∙ ap (λ b. b && list_all (λ e. not (is_some e.1.call) && not (is_some e.1.vector)) (map (met_named r) readers)) (list_all-map (λ e. not (is_some e.1.call) && not (is_some e.1.vector)) (met_named r) writers)
@@ -42,18 +42,18 @@ fits_same r writers readers (Some mode) =
     ∙ ap (λ b. (length readers == 1) && b && list_all (λ e. not (is_some e.1.call) && (is_some e.1.vector || is_switch mode)) (map (met_named r) readers)) (list_all-map (λ e. is_some e.1.call && not (is_some e.1.vector)) (met_named r) writers)
     ∙ ap (λ b. (length readers == 1) && list_all has_call writers && b) (list_all-map (λ e. not (is_some e.1.call) && (is_some e.1.vector || is_switch mode)) (met_named r) readers)
 
-apart_same : (r : Resolution) (writers readers : List Met) → list_all (λ w. list_all (λ x. not (bytes_eq x.0 w.0)) (map (met_named r) readers)) (map (met_named r) writers) ≡ list_all (is_apart readers) writers
+apart_same : (r : Resolution) (writers readers : List Met) → list_all (λ w. list_all (λ x. not (bytes_eq x.0 w.0)) (map (met_named r) readers)) (map (met_named r) writers) ≡ list_all (is_apart_from_readers readers) writers
 apart_same r writers readers =
     list_all-map (λ w. list_all (λ x. not (bytes_eq x.0 w.0)) (map (met_named r) readers)) (met_named r) writers
-    ∙ list_all_same (λ w. list_all (λ x. not (bytes_eq x.0 w.party.name)) (map (met_named r) readers)) (is_apart readers) (λ _. true)
+    ∙ list_all_same (λ w. list_all (λ x. not (bytes_eq x.0 w.party.name)) (map (met_named r) readers)) (is_apart_from_readers readers) (λ _. true)
     (λ w _. list_all-map (λ x. not (bytes_eq x.0 w.party.name)) (met_named r) readers) writers (all_true writers)
 
-connected_same : (r : Resolution) (writers readers : List Met) (mode : Option EventMode) → connected_by (map (met_named r) writers) (map (met_named r) readers) mode ≡ is_connected writers readers mode
+connected_same : (r : Resolution) (writers readers : List Met) (mode : Option EventMode) → connected_by (map (met_named r) writers) (map (met_named r) readers) mode ≡ are_ends_connected writers readers mode
 connected_same r writers readers mode =
     ap (λ n. (n == 1) && nat_le 1 (length (map (met_named r) readers)) && list_all (λ w. list_all (λ x. not (bytes_eq x.0 w.0)) (map (met_named r) readers)) (map (met_named r) writers) && rules.fits_event (map (met_named r) writers) (map (met_named r) readers) mode) (length-map writers (met_named r))
     ∙ ap (λ b. (length writers == 1) && b && list_all (λ w. list_all (λ x. not (bytes_eq x.0 w.0)) (map (met_named r) readers)) (map (met_named r) writers) && rules.fits_event (map (met_named r) writers) (map (met_named r) readers) mode) (ap (nat_le 1) (length-map readers (met_named r)) ∙ at_least_one (length readers))
     ∙ ap (λ b. (length writers == 1) && not (length readers == 0) && b && rules.fits_event (map (met_named r) writers) (map (met_named r) readers) mode) (apart_same r writers readers)
-    ∙ ap (λ b. (length writers == 1) && not (length readers == 0) && list_all (is_apart readers) writers && b) (fits_same r writers readers mode)
+    ∙ ap (λ b. (length writers == 1) && not (length readers == 0) && list_all (is_apart_from_readers readers) writers && b) (fits_same r writers readers mode)
 
 pub name_of_channel : (r : Resolution) (k : ℕ) (c : Channel) → slice_get r.channels k ≡ Some c → c.name ≡ name_at (channel_names r) k
 name_of_channel r k c at =

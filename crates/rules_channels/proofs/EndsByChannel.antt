@@ -16,8 +16,8 @@ use Rattle.policy_lawful.specs.Events.{ChannelEnd, channel_ends}
 use Rattle.policy_lawful.specs.Views.{channel_end_named, channel_ends_of}
 use Rattle.policy_lawful.specs.declared.view.IndexedEnd.{IndexedEnd}
 use Rattle.policy_lawful.proofs.EndsByIndex.{ends_by_index, ends_in_range}
-use Rattle.rules_channels.specs.ByIndex.{items_at}
-use Rattle.rules_channels.specs.ChannelEnds.{met, met_channel_ends, all_channel_ends, all_readers, all_writers, reads, writes}
+use Rattle.rules_channels.specs.ByIndex.{items_at_index}
+use Rattle.rules_channels.specs.ChannelEnds.{met, met_channel_ends, all_channel_ends, all_readers, all_writers, is_reading_end, is_writing_end}
 use Rattle.rules_channels.specs.Parties.{party}
 use Rattle.rules_channels.specs.declared.channel_ends.Met.{Met}
 use Rattle.rules_channels.proofs.Items.{of_all, of_one}
@@ -35,29 +35,29 @@ same_channel r j k h ok within =
 
 -- of one subject
 of_subject : (r : Resolution) (k n : ℕ) (s : ResolvedSubject) → IsResolved r → k < length r.channels → subject_in_range r s ≡ true
-    → map (λ e. (s.name, e)) (filter (λ e. bytes_eq e.channel (name_at (channel_names r) k)) (channel_ends (source_of r) (subject_named r s))) ≡ map (met_named r) (items_at k (met_channel_ends r (n, s)))
+    → map (λ e. (s.name, e)) (filter (λ e. bytes_eq e.channel (name_at (channel_names r) k)) (channel_ends (source_of r) (subject_named r s))) ≡ map (met_named r) (items_at_index k (met_channel_ends r (n, s)))
 of_subject r k n s h within ok =
     ap (λ es. map (λ e. (s.name, e)) (filter (λ e. bytes_eq e.channel (name_at (channel_names r) k)) es)) (ends_by_index r s h ok)
     ∙ of_one (λ (e : ChannelEnd). bytes_eq e.channel (name_at (channel_names r) k)) (channel_end_named r) (λ (e : IndexedEnd). e.channel) (λ e. nat_lt e.channel (length r.channels)) k (λ e ok. same_channel r e.channel k h ok within)
     (λ e. (s.name, e)) (met (party (n, s))) (met_named r) (λ e. refl) (channel_ends_of r s) (ends_in_range r s ok)
 
 -- of all
-pub channel_ends_same : (r : Resolution) (k : ℕ) → IsResolved r → k < length r.channels → rules.ends_of_channel (source_of r) (name_at (channel_names r) k) ≡ map (met_named r) (items_at k (all_channel_ends r))
+pub channel_ends_same : (r : Resolution) (k : ℕ) → IsResolved r → k < length r.channels → rules.ends_of_channel (source_of r) (name_at (channel_names r) k) ≡ map (met_named r) (items_at_index k (all_channel_ends r))
 unfolding source_of
 channel_ends_same r k h within =
     of_all (subject_named r) (subject_in_range r) k (λ s. map (λ e. (s.name, e)) (filter (λ e. bytes_eq e.channel (name_at (channel_names r) k)) (channel_ends (source_of r) s))) (met_channel_ends r) (met_named r)
     (λ n s ok. of_subject r k n s h within ok) 0 r.subjects (parts_in_range r h.in_range).subjects
 
 -- its writers
-pub writers_same : (r : Resolution) (k : ℕ) → IsResolved r → k < length r.channels → writers_of (source_of r) (name_at (channel_names r) k) ≡ map (met_named r) (items_at k (all_writers r))
+pub writers_same : (r : Resolution) (k : ℕ) → IsResolved r → k < length r.channels → writers_of (source_of r) (name_at (channel_names r) k) ≡ map (met_named r) (items_at_index k (all_writers r))
 writers_same r k h within =
     ap (filter (λ e. is_writer e.1.role)) (channel_ends_same r k h within)
-    ∙ filter-map (λ e. is_writer e.1.role) (met_named r) (items_at k (all_channel_ends r))
-    ∙ ap (map (met_named r)) (sym (items-filter writes k (all_channel_ends r)))
+    ∙ filter-map (λ e. is_writer e.1.role) (met_named r) (items_at_index k (all_channel_ends r))
+    ∙ ap (map (met_named r)) (sym (items-filter is_writing_end k (all_channel_ends r)))
 
 -- and its readers
-pub readers_same : (r : Resolution) (k : ℕ) → IsResolved r → k < length r.channels → readers_of (source_of r) (name_at (channel_names r) k) ≡ map (met_named r) (items_at k (all_readers r))
+pub readers_same : (r : Resolution) (k : ℕ) → IsResolved r → k < length r.channels → readers_of (source_of r) (name_at (channel_names r) k) ≡ map (met_named r) (items_at_index k (all_readers r))
 readers_same r k h within =
     ap (filter (λ e. not (is_writer e.1.role))) (channel_ends_same r k h within)
-    ∙ filter-map (λ e. not (is_writer e.1.role)) (met_named r) (items_at k (all_channel_ends r))
-    ∙ ap (map (met_named r)) (sym (items-filter reads k (all_channel_ends r)))
+    ∙ filter-map (λ e. not (is_writer e.1.role)) (met_named r) (items_at_index k (all_channel_ends r))
+    ∙ ap (map (met_named r)) (sym (items-filter is_reading_end k (all_channel_ends r)))

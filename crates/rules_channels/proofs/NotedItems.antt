@@ -7,31 +7,31 @@ use Rattle.std.proofs.lemmas.List.{append-nil, length-take-le, map-append, take_
 use Rattle.std.proofs.lemmas.List.Concat.{flat_map-cons}
 use Rattle.std.proofs.lemmas.List.Elements.{filter-append}
 use Rattle.muen_num.proofs.Lists.{enumerate_push}
-use Rattle.rules_channels.specs.ByIndex.{items_at}
+use Rattle.rules_channels.specs.ByIndex.{items_at_index}
 
 module _ {X : Type 0} where
   -- of two lists the items of one and then of the other
-  pub items-append : (k : ℕ) (xs ys : List (ℕ × X)) → items_at k (xs ++ ys) ≡ items_at k xs ++ items_at k ys
+  pub items-append : (k : ℕ) (xs ys : List (ℕ × X)) → items_at_index k (xs ++ ys) ≡ items_at_index k xs ++ items_at_index k ys
   items-append k xs ys = ap (map (λ x. x.1)) (filter-append (λ x. x.0 == k) xs ys) ∙ map-append (λ x. x.1) (filter (λ x. x.0 == k) xs) (filter (λ x. x.0 == k) ys)
 
   -- of a list that is filtered, the items that pass
-  pub items-filter : (test : X → Bool) (k : ℕ) (xs : List (ℕ × X)) → items_at k (filter (λ x. test x.1) xs) ≡ filter test (items_at k xs)
+  pub items-filter : (test : X → Bool) (k : ℕ) (xs : List (ℕ × X)) → items_at_index k (filter (λ x. test x.1) xs) ≡ filter test (items_at_index k xs)
   items-filter test k [] = refl
   items-filter test k (x ∷ xs) =
       let rest = items-filter test k xs in
-      elim (test x.1) as (λ t. (test x.1 ≡ t → items_at k (cond t (x ∷ filter (λ x. test x.1) xs) (filter (λ x. test x.1) xs)) ≡ filter test (items_at k (x ∷ xs)))) [
+      elim (test x.1) as (λ t. (test x.1 ≡ t → items_at_index k (cond t (x ∷ filter (λ x. test x.1) xs) (filter (λ x. test x.1) xs)) ≡ filter test (items_at_index k (x ∷ xs)))) [
         | true ↦ λ e. passed x xs rest e (x.0 == k)
         | false ↦ λ e. failed x xs rest e (x.0 == k)
       ] refl
     where
-      passed : (x : ℕ × X) (xs : List (ℕ × X)) → items_at k (filter (λ x. test x.1) xs) ≡ filter test (items_at k xs) → test x.1 ≡ true → (b : Bool)
+      passed : (x : ℕ × X) (xs : List (ℕ × X)) → items_at_index k (filter (λ x. test x.1) xs) ≡ filter test (items_at_index k xs) → test x.1 ≡ true → (b : Bool)
           → map (λ y. y.1) (cond b (x ∷ filter (λ y. y.0 == k) (filter (λ x. test x.1) xs)) (filter (λ y. y.0 == k) (filter (λ x. test x.1) xs))) ≡ filter test (map (λ y. y.1) (cond b (x ∷ filter (λ y. y.0 == k) xs) (filter (λ y. y.0 == k) xs)))
-      passed x xs rest e true = ap (λ ys. x.1 ∷ ys) rest ∙ ap (λ t. cond t (x.1 ∷ filter test (items_at k xs)) (filter test (items_at k xs))) (sym e)
+      passed x xs rest e true = ap (λ ys. x.1 ∷ ys) rest ∙ ap (λ t. cond t (x.1 ∷ filter test (items_at_index k xs)) (filter test (items_at_index k xs))) (sym e)
       passed x xs rest e false = rest
 
-      failed : (x : ℕ × X) (xs : List (ℕ × X)) → items_at k (filter (λ x. test x.1) xs) ≡ filter test (items_at k xs) → test x.1 ≡ false → (b : Bool)
-          → items_at k (filter (λ x. test x.1) xs) ≡ filter test (map (λ y. y.1) (cond b (x ∷ filter (λ y. y.0 == k) xs) (filter (λ y. y.0 == k) xs)))
-      failed x xs rest e true = rest ∙ ap (λ t. cond t (x.1 ∷ filter test (items_at k xs)) (filter test (items_at k xs))) (sym e)
+      failed : (x : ℕ × X) (xs : List (ℕ × X)) → items_at_index k (filter (λ x. test x.1) xs) ≡ filter test (items_at_index k xs) → test x.1 ≡ false → (b : Bool)
+          → items_at_index k (filter (λ x. test x.1) xs) ≡ filter test (map (λ y. y.1) (cond b (x ∷ filter (λ y. y.0 == k) xs) (filter (λ y. y.0 == k) xs)))
+      failed x xs rest e true = rest ∙ ap (λ t. cond t (x.1 ∷ filter test (items_at_index k xs)) (filter test (items_at_index k xs))) (sym e)
       failed x xs rest e false = rest
 
 -- one element more, with its index

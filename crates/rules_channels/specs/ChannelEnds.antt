@@ -20,11 +20,11 @@ met_channel_ends r (index, s) = map (λ e. (e.channel, met (party (index, s)) e)
 abbrev pub all_channel_ends : Resolution → List (ℕ × Met)
 all_channel_ends r = flat_map (met_channel_ends r) (enumerate_from 0 r.subjects)
 
-abbrev pub writes : Met → Bool
-writes m = is_writer m.end.role
+abbrev pub is_writing_end : Met → Bool
+is_writing_end m = is_writer m.end.role
 
-abbrev pub reads : Met → Bool
-reads m = not (is_writer m.end.role)
+abbrev pub is_reading_end : Met → Bool
+is_reading_end m = not (is_writer m.end.role)
 
 -- those of writers, and of readers
 abbrev pub all_writers : Resolution → List (ℕ × Met)

@@ -11,11 +11,11 @@ use Rattle.policy_lawful.specs.source.Channel.{Channel}
 use Rattle.rules_channels.specs.declared.channel_ends.Met.{Met}
 
 -- none of the readers is the writer's subject
-abbrev pub is_apart : List Met → Met → Bool
-is_apart readers w = list_all (λ r. not (bytes_eq r.party.name w.party.name)) readers
+abbrev pub is_apart_from_readers : List Met → Met → Bool
+is_apart_from_readers readers w = list_all (λ r. not (bytes_eq r.party.name w.party.name)) readers
 
-abbrev pub are_apart : List Met → List Met → Bool
-are_apart writers readers = list_all (is_apart readers) writers
+abbrev pub are_ends_apart : List Met → List Met → Bool
+are_ends_apart writers readers = list_all (is_apart_from_readers readers) writers
 
 abbrev pub has_neither : Met → Bool
 has_neither m = not (is_some m.end.call) && not (is_some m.end.vector)
@@ -27,16 +27,16 @@ abbrev pub is_reached : EventMode → Met → Bool
 is_reached mode m = not (is_some m.end.call) && (is_some m.end.vector || is_switch mode)
 
 -- what the mode of a channel's event, or its absence, asks of the ends
-abbrev pub fits_event : List Met → List Met → Option EventMode → Bool
-fits_event writers readers None = list_all has_neither writers && list_all has_neither readers
-fits_event writers readers (Some mode) =
+abbrev pub ends_fit_event : List Met → List Met → Option EventMode → Bool
+ends_fit_event writers readers None = list_all has_neither writers && list_all has_neither readers
+ends_fit_event writers readers (Some mode) =
     (length readers == 1) && list_all has_call writers && list_all (is_reached mode) readers
 
-abbrev pub is_connected : List Met → List Met → Option EventMode → Bool
-is_connected writers readers mode =
-    (length writers == 1) && not (length readers == 0) && are_apart writers readers && fits_event writers readers mode
+abbrev pub are_ends_connected : List Met → List Met → Option EventMode → Bool
+are_ends_connected writers readers mode =
+    (length writers == 1) && not (length readers == 0) && are_ends_apart writers readers && ends_fit_event writers readers mode
 
 -- a channel with its index, where so many writers and readers are noted
 abbrev pub channel_fault : List (List Met) → List (List Met) → ℕ × Channel → Option Offence
 channel_fault writers readers (index, c) =
-    unless (is_connected (slice_index_or writers index []) (slice_index_or readers index []) c.has_event) (alone c.name)
+    unless (are_ends_connected (slice_index_or writers index []) (slice_index_or readers index []) c.has_event) (alone c.name)

@@ -3,7 +3,7 @@ use Rattle.std.specs.Prelude.{ℕ, List, map}
 use Rattle.std.specs.List.{enumerate_from, flat_map}
 use Rattle.policy_lawful.specs.Resolution.{Resolution}
 use Rattle.policy_lawful.specs.declared.resolved.Subject.{Subject}
-use Rattle.rules_channels.specs.ByIndex.{items_at}
+use Rattle.rules_channels.specs.ByIndex.{items_at_index}
 use Rattle.rules_channels.specs.declared.parties.Party.{Party}
 
 abbrev pub party : ℕ × Subject → Party
@@ -19,7 +19,7 @@ target_parties (index, s) = map (λ e. (e.event, party (index, s))) s.targets
 
 -- the sources of the event at an index, and its targets
 abbrev pub sources_at : Resolution → ℕ → List Party
-sources_at r k = items_at k (flat_map source_parties (enumerate_from 0 r.subjects))
+sources_at r k = items_at_index k (flat_map source_parties (enumerate_from 0 r.subjects))
 
 abbrev pub targets_at : Resolution → ℕ → List Party
-targets_at r k = items_at k (flat_map target_parties (enumerate_from 0 r.subjects))
+targets_at r k = items_at_index k (flat_map target_parties (enumerate_from 0 r.subjects))

@@ -5,7 +5,7 @@ ghost use Rattle.std.specs.List.{enumerate_from, list_all};
 ghost use Rattle.muen_num.specs.Search.{first_in, unless};
 ghost use Rattle.policy_lawful.specs.MoreRules.{is_switch, offence_6};
 ghost use Rattle.policy_lawful.specs.Resolution.{source_of};
-ghost use Rattle.rules_channels.specs.Channels.{is_apart, are_apart, has_neither, has_call, is_reached, fits_event, is_connected, channel_fault};
+ghost use Rattle.rules_channels.specs.Channels.{is_apart_from_readers, are_ends_apart, has_neither, has_call, is_reached, ends_fit_event, are_ends_connected, channel_fault};
 
 use crate::by_index::at;
 use crate::channel_ends::{Met, readers_by_channel, writers_by_channel};
@@ -27,7 +27,7 @@ pub fn is_switch(mode: EventMode) -> bool
 
 // Whether none of these readers is this writer's subject.
 fn is_apart(readers: &[Met], writer: &Met) -> bool
-    ensures { result ≡ is_apart readers.now writer.now }
+    ensures { result ≡ is_apart_from_readers readers.now writer.now }
 {
     readers
         .iter()
@@ -35,7 +35,7 @@ fn is_apart(readers: &[Met], writer: &Met) -> bool
 }
 
 fn are_apart(writers: &[Met], readers: &[Met]) -> bool
-    ensures { result ≡ are_apart writers.now readers.now }
+    ensures { result ≡ are_ends_apart writers.now readers.now }
 {
     writers.iter().all(|writer| is_apart(readers, writer))
 }
@@ -81,7 +81,7 @@ fn are_reached(mode: EventMode, ends: &[Met]) -> bool
 
 // What the mode of a channel's event, or its absence, asks of the ends.
 fn fits_event(writers: &[Met], readers: &[Met], mode: Option<EventMode>) -> bool
-    ensures { result ≡ fits_event writers.now readers.now mode }
+    ensures { result ≡ ends_fit_event writers.now readers.now mode }
 {
     match mode {
         None => have_neither(writers) && have_neither(readers),
@@ -90,7 +90,7 @@ fn fits_event(writers: &[Met], readers: &[Met], mode: Option<EventMode>) -> bool
 }
 
 fn is_connected(writers: &[Met], readers: &[Met], mode: Option<EventMode>) -> bool
-    ensures { result ≡ is_connected writers.now readers.now mode }
+    ensures { result ≡ are_ends_connected writers.now readers.now mode }
 {
     writers.len() == 1
         && !readers.is_empty()

@@ -4,7 +4,7 @@ ghost use Rattle.std.specs.List.{enumerate_from, filter_map, list_all};
 ghost use Rattle.muen_num.specs.Search.{first_in, unless};
 ghost use Rattle.policy_lawful.specs.MoreRules.{are_within, offence_7};
 ghost use Rattle.policy_lawful.specs.Resolution.{source_of};
-ghost use Rattle.rules_channels.specs.Components.{memory_grant, channel_grant, gives_region, gives_channel, is_memory_mapped, is_channel_mapped, memory_fault, channel_fault, memory_offence, channel_offence, component_offence, use_offence, subject_offence};
+ghost use Rattle.rules_channels.specs.Components.{memory_grant, channel_grant, gives_region, gives_channel, is_memory_given, is_channel_given, memory_fault, component_channel_fault, memory_offence, channel_offence, component_map_offence, component_use_offence, subject_offence};
 
 use crate::by_index::{at, by_index};
 use muen_num::{Name, NoMemory, Seq, first_numbered};
@@ -114,14 +114,14 @@ fn give_channel(channels: &[Channel], wanted: &ComponentChannel, grants: &[Grant
 
 // Whether a required region is given by one entry, and as it is asked for.
 fn is_memory_mapped(regions: &[Region], wanted: &Required, grants: &[Grant]) -> bool
-    ensures { result ≡ is_memory_mapped regions.now wanted.now grants.now }
+    ensures { result ≡ is_memory_given regions.now wanted.now grants.now }
 {
     grants.len() == 1 && give_region(regions, wanted, grants)
 }
 
 // Whether a channel is given by one entry, and as it is asked for.
 fn is_channel_mapped(channels: &[Channel], wanted: &ComponentChannel, grants: &[Grant]) -> bool
-    ensures { result ≡ is_channel_mapped channels.now wanted.now grants.now }
+    ensures { result ≡ is_channel_given channels.now wanted.now grants.now }
 {
     grants.len() == 1 && give_channel(channels, wanted, grants)
 }
@@ -151,7 +151,7 @@ fn channel_fault(
     index: usize,
     wanted: &ComponentChannel,
 ) -> Option<Offence>
-    ensures { result ≡ channel_fault channels.now by.now grants.now (index, wanted.now) }
+    ensures { result ≡ component_channel_fault channels.now by.now grants.now (index, wanted.now) }
 {
     let offence = Offence {
         first: *by,
@@ -180,7 +180,7 @@ fn first_channel(
     grants: &[Seq<Grant>],
     wanted: &[ComponentChannel],
 ) -> Option<Offence>
-    ensures { result ≡ first_in (channel_fault channels.now by.now grants.now) (enumerate_from 0 wanted.now) }
+    ensures { result ≡ first_in (component_channel_fault channels.now by.now grants.now) (enumerate_from 0 wanted.now) }
 {
     first_numbered(
         wanted,
@@ -228,7 +228,7 @@ fn component_offence(
     entries: &[MapEntry],
     component: &Component,
 ) -> Result<Option<Offence>, NoMemory>
-    ensures { IfOk result (λ o. o ≡ component_offence policy.now by.now entries.now component.now) }
+    ensures { IfOk result (λ o. o ≡ component_map_offence policy.now by.now entries.now component.now) }
 {
     let offence = memory_offence(
         alloc,
@@ -256,7 +256,7 @@ fn use_offence(
     by: &Name,
     used: &Option<ComponentUse>,
 ) -> Result<Option<Offence>, NoMemory>
-    ensures { IfOk result (λ o. o ≡ use_offence policy.now by.now used.now) }
+    ensures { IfOk result (λ o. o ≡ component_use_offence policy.now by.now used.now) }
 {
     match used {
         None => Ok(None),

@@ -11,7 +11,7 @@ use Rattle.policy_lawful.specs.declared.resolved.DeviceUse.{DeviceUse}
 use Rattle.policy_lawful.specs.declared.resolved.Subject.{Subject}
 use Rattle.policy_lawful.specs.source.Device.{Device}
 use Rattle.policy_lawful.specs.Counts.{Adds, times_among}
-use Rattle.rules_devices.specs.Grants.{AreTimes, TableAdds, counts_at, indexes_granted, part_names, times_by_index, times_by_subject, times_by_use}
+use Rattle.rules_devices.specs.Grants.{AreGrantCounts, TableAdds, counts_at, indexes_granted, part_names, times_by_index, times_by_subject, times_by_use}
 use Rattle.rules_devices.specs.declared.resource.Resource.{Resource}
 
 -- ---- one after another
@@ -94,7 +94,7 @@ abbrev zeros : Resource → Device → List ℕ
 zeros resource d = replicate (length (part_names resource d)) 0
 
 pub are_times : (resource : Resource) (ds : List Device) (ss : List Subject) (old new : List (List ℕ)) → old ≡ map (λ d. replicate (length (part_names resource d)) 0) ds
-    → TableAdds old new (λ k j. sum_by (times_by_subject resource k j) ss) → AreTimes resource ds ss new
+    → TableAdds old new (λ k j. sum_by (times_by_subject resource k j) ss) → AreGrantCounts resource ds ss new
 are_times resource ds ss old new is adds k d there j l =
     let at : counts_at old k ≡ zeros resource d =
     ap (λ t. counts_at t k) is

@@ -27,7 +27,7 @@ use Rattle.policy_lawful.proofs.UniqueNames.{devices_unique, parts_unique, uniqu
 use Rattle.policy_lawful.specs.source.Device.{Device}
 use Rattle.policy_lawful.specs.source.DeviceUse.{DeviceUse as NamedUse}
 use Rattle.policy_lawful.specs.Counts.{times_among}
-use Rattle.rules_devices.specs.Grants.{AreTimes, IsOnDevices, counted, counts_at, device_counted, indexes_granted, part_names, times_by_index, times_by_subject, times_by_use}
+use Rattle.rules_devices.specs.Grants.{AreGrantCounts, IsOnDevices, part_counted, counts_at, device_counted, indexes_granted, part_names, times_by_index, times_by_subject, times_by_use}
 use Rattle.rules_devices.specs.declared.resource.Resource.{Resource}
 use Rattle.rules_devices.specs.declared.resource.Resource.TheVariants.{Memory, IoPorts, Irqs}
 
@@ -145,10 +145,10 @@ same_times p r k j d h is within =
 once : (m n : ℕ) → min 2 m ≡ min 2 n → nat_le m 1 ≡ nat_le n 1
 once m n h = grind (arith, nat_tests)
 
-same_part : (p : Resource) (r : Resolution) (table : List (List ℕ)) (k : ℕ) (d : Device) → IsResolved r → AreTimes p r.devices r.subjects table → slice_get r.devices k ≡ Some d
-    → first_in (granted_once (source_of r) d (λ u. granted_names p u)) (part_names p d) ≡ first_in (counted table k d.name) (enumerate_from 0 (part_names p d))
+same_part : (p : Resource) (r : Resolution) (table : List (List ℕ)) (k : ℕ) (d : Device) → IsResolved r → AreGrantCounts p r.devices r.subjects table → slice_get r.devices k ≡ Some d
+    → first_in (granted_once (source_of r) d (λ u. granted_names p u)) (part_names p d) ≡ first_in (part_counted table k d.name) (enumerate_from 0 (part_names p d))
 same_part p r table k d h times is =
-    first_numbered_same (granted_once (source_of r) d (λ u. granted_names p u)) (counted table k d.name) 0 (part_names p d) (λ j name at.
+    first_numbered_same (granted_once (source_of r) d (λ u. granted_names p u)) (part_counted table k d.name) 0 (part_names p d) (λ j name at.
     let within : j < length (part_names p d) = slice_get_within (part_names p d) j name at in
     let named : name ≡ name_at (part_names p d) j = sym (get_or_from_slice_get (part_names p d) j name [] at) in
     let count = same_times p r k j d h is within in
@@ -156,32 +156,32 @@ same_part p r table k d h times is =
     ap (λ n. unless (nat_le (times_granted (source_of r) d.name (λ u. granted_names p u) n) 1) (two d.name name)) named
     ∙ ap (λ n. unless (nat_le n 1) (two d.name name)) count
     ∙ ap (λ b. unless b (two d.name name)) (once (times_by_index p r.subjects k j) (slice_index (counts_at table k) j) (sym (times k d is j within)))
-    ∙ ap (λ i. counted table k d.name (i, name)) (sym number))
+    ∙ ap (λ i. part_counted table k d.name (i, name)) (sym number))
 
-same_memory : (r : Resolution) (table : List (List ℕ)) (k : ℕ) (d : Device) → IsResolved r → AreTimes Memory r.devices r.subjects table → slice_get r.devices k ≡ Some d
-    → first_in (λ x. granted_once (source_of r) d (λ u. map (λ m. m.memory) u.memory) x.name) d.memory ≡ first_in (λ x. counted table k d.name (x.0, x.1.name)) (enumerate_from 0 d.memory)
+same_memory : (r : Resolution) (table : List (List ℕ)) (k : ℕ) (d : Device) → IsResolved r → AreGrantCounts Memory r.devices r.subjects table → slice_get r.devices k ≡ Some d
+    → first_in (λ x. granted_once (source_of r) d (λ u. map (λ m. m.memory) u.memory) x.name) d.memory ≡ first_in (λ x. part_counted table k d.name (x.0, x.1.name)) (enumerate_from 0 d.memory)
 same_memory r table k d h times is =
     sym (first_over-map (λ m. m.name) (granted_once (source_of r) d (λ u. map (λ m. m.memory) u.memory)) d.memory)
     ∙ same_part Memory r table k d h times is
-    ∙ both_named (counted table k d.name) (λ x. counted table k d.name (x.0, x.1.name)) (λ m. m.name) (λ j x. refl) d.memory
+    ∙ both_named (part_counted table k d.name) (λ x. part_counted table k d.name (x.0, x.1.name)) (λ m. m.name) (λ j x. refl) d.memory
 
-same_ports : (r : Resolution) (table : List (List ℕ)) (k : ℕ) (d : Device) → IsResolved r → AreTimes IoPorts r.devices r.subjects table → slice_get r.devices k ≡ Some d
-    → first_in (λ x. granted_once (source_of r) d (λ u. u.io_ports) x.name) d.io_ports ≡ first_in (λ x. counted table k d.name (x.0, x.1.name)) (enumerate_from 0 d.io_ports)
+same_ports : (r : Resolution) (table : List (List ℕ)) (k : ℕ) (d : Device) → IsResolved r → AreGrantCounts IoPorts r.devices r.subjects table → slice_get r.devices k ≡ Some d
+    → first_in (λ x. granted_once (source_of r) d (λ u. u.io_ports) x.name) d.io_ports ≡ first_in (λ x. part_counted table k d.name (x.0, x.1.name)) (enumerate_from 0 d.io_ports)
 same_ports r table k d h times is =
     sym (first_over-map (λ x. x.name) (granted_once (source_of r) d (λ u. u.io_ports)) d.io_ports)
     ∙ same_part IoPorts r table k d h times is
-    ∙ both_named (counted table k d.name) (λ x. counted table k d.name (x.0, x.1.name)) (λ x. x.name) (λ j x. refl) d.io_ports
+    ∙ both_named (part_counted table k d.name) (λ x. part_counted table k d.name (x.0, x.1.name)) (λ x. x.name) (λ j x. refl) d.io_ports
 
-same_irqs : (r : Resolution) (table : List (List ℕ)) (k : ℕ) (d : Device) → IsResolved r → AreTimes Irqs r.devices r.subjects table → slice_get r.devices k ≡ Some d
-    → first_in (λ x. granted_once (source_of r) d (λ u. map (λ i. i.irq) u.irqs) x.name) d.irqs ≡ first_in (λ x. counted table k d.name (x.0, x.1.name)) (enumerate_from 0 d.irqs)
+same_irqs : (r : Resolution) (table : List (List ℕ)) (k : ℕ) (d : Device) → IsResolved r → AreGrantCounts Irqs r.devices r.subjects table → slice_get r.devices k ≡ Some d
+    → first_in (λ x. granted_once (source_of r) d (λ u. map (λ i. i.irq) u.irqs) x.name) d.irqs ≡ first_in (λ x. part_counted table k d.name (x.0, x.1.name)) (enumerate_from 0 d.irqs)
 same_irqs r table k d h times is =
     sym (first_over-map (λ i. i.name) (granted_once (source_of r) d (λ u. map (λ i. i.irq) u.irqs)) d.irqs)
     ∙ same_part Irqs r table k d h times is
-    ∙ both_named (counted table k d.name) (λ x. counted table k d.name (x.0, x.1.name)) (λ i. i.name) (λ j x. refl) d.irqs
+    ∙ both_named (part_counted table k d.name) (λ x. part_counted table k d.name (x.0, x.1.name)) (λ i. i.name) (λ j x. refl) d.irqs
 
 -- ---- rule 9
 
-same_device : (r : Resolution) (memory io_ports irqs : List (List ℕ)) (k : ℕ) (d : Device) → IsResolved r → AreTimes Memory r.devices r.subjects memory → AreTimes IoPorts r.devices r.subjects io_ports → AreTimes Irqs r.devices r.subjects irqs
+same_device : (r : Resolution) (memory io_ports irqs : List (List ℕ)) (k : ℕ) (d : Device) → IsResolved r → AreGrantCounts Memory r.devices r.subjects memory → AreGrantCounts IoPorts r.devices r.subjects io_ports → AreGrantCounts Irqs r.devices r.subjects irqs
     → slice_get r.devices k ≡ Some d → device_offence (source_of r) d ≡ device_counted memory io_ports irqs (0 + k, d)
 same_device r memory io_ports irqs k d h a b c is =
     let number : 0 + k ≡ k = omega arith in
@@ -191,7 +191,7 @@ same_device r memory io_ports irqs k d h a b c is =
     let same : device_offence (source_of r) d ≡ device_counted memory io_ports irqs (k, d) = simp (first, second, third, option_or-None) in
     same ∙ ap (λ i. device_counted memory io_ports irqs (i, d)) (sym number)
 
-pub grants_by_index : (r : Resolution) (memory io_ports irqs : List (List ℕ)) → IsResolved r → AreTimes Memory r.devices r.subjects memory → AreTimes IoPorts r.devices r.subjects io_ports → AreTimes Irqs r.devices r.subjects irqs
+pub grants_by_index : (r : Resolution) (memory io_ports irqs : List (List ℕ)) → IsResolved r → AreGrantCounts Memory r.devices r.subjects memory → AreGrantCounts IoPorts r.devices r.subjects io_ports → AreGrantCounts Irqs r.devices r.subjects irqs
     → first_in (device_counted memory io_ports irqs) (enumerate_from 0 r.devices) ≡ offence_9 (source_of r)
 unfolding offence_9 source_of
 grants_by_index r memory io_ports irqs h a b c =

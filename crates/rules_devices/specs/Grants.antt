@@ -50,23 +50,23 @@ pub record TableAdds (old new : List (List ℕ)) (more : ℕ → ℕ → ℕ) : 
   pub at : (k : ℕ) → Adds (counts_at old k) (counts_at new k) (more k)
 
 -- the table counts how often the parts of these devices are granted
-abbrev pub AreTimes : Resource → List Device → List Subject → List (List ℕ) → Type 0
-AreTimes resource devices subjects table = (k : ℕ) (d : Device) → slice_get devices k ≡ Some d → (j : ℕ) → j < length (part_names resource d) → min 2 (slice_index (counts_at table k) j) ≡ min 2 (times_by_index resource subjects k j)
+abbrev pub AreGrantCounts : Resource → List Device → List Subject → List (List ℕ) → Type 0
+AreGrantCounts resource devices subjects table = (k : ℕ) (d : Device) → slice_get devices k ≡ Some d → (j : ℕ) → j < length (part_names resource d) → min 2 (slice_index (counts_at table k) j) ≡ min 2 (times_by_index resource subjects k j)
 
 -- ---- what was met twice
 
 -- a part with its index, of a device
-abbrev pub counted : List (List ℕ) → ℕ → List ℕ → ℕ × List ℕ → Option Offence
-counted table k by (j, name) = unless (nat_le (slice_index (counts_at table k) j) 1) (two by name)
+abbrev pub part_counted : List (List ℕ) → ℕ → List ℕ → ℕ × List ℕ → Option Offence
+part_counted table k by (j, name) = unless (nat_le (slice_index (counts_at table k) j) 1) (two by name)
 
 abbrev pub memory_counted : List (List ℕ) → ℕ → Device → Option Offence
-memory_counted table k d = first_in (λ x. counted table k d.name (x.0, x.1.name)) (enumerate_from 0 d.memory)
+memory_counted table k d = first_in (λ x. part_counted table k d.name (x.0, x.1.name)) (enumerate_from 0 d.memory)
 
 abbrev pub ports_counted : List (List ℕ) → ℕ → Device → Option Offence
-ports_counted table k d = first_in (λ x. counted table k d.name (x.0, x.1.name)) (enumerate_from 0 d.io_ports)
+ports_counted table k d = first_in (λ x. part_counted table k d.name (x.0, x.1.name)) (enumerate_from 0 d.io_ports)
 
 abbrev pub irqs_counted : List (List ℕ) → ℕ → Device → Option Offence
-irqs_counted table k d = first_in (λ x. counted table k d.name (x.0, x.1.name)) (enumerate_from 0 d.irqs)
+irqs_counted table k d = first_in (λ x. part_counted table k d.name (x.0, x.1.name)) (enumerate_from 0 d.irqs)
 
 -- a device with its index
 abbrev pub device_counted : List (List ℕ) → List (List ℕ) → List (List ℕ) → ℕ × Device → Option Offence

@@ -35,16 +35,16 @@ abbrev pub executable_in : Domain → Option Offence
 executable_in d = first_in (λ m. unless (not (may_execute m.rights)) (two d.name m.region)) d.memory
 
 -- a window as a range of the devices' addresses
-abbrev pub window_extent : List Region → Mapping → Extent
-window_extent regions m = record { name = m.region; address = m.virtual_address; size = size_among regions m.region }
+abbrev pub mapping_extent : List Region → Mapping → Extent
+mapping_extent regions m = record { name = m.region; address = m.virtual_address; size = size_among regions m.region }
 
 -- the first two windows of a domain that share an address, of which the later one is named
 abbrev pub overlap_in : List Region → Domain → Option Offence
-overlap_in regions d = first_pair (domain_overlap d.name) (map (window_extent regions) d.memory)
+overlap_in regions d = first_pair (domain_overlap d.name) (map (mapping_extent regions) d.memory)
 
 -- the conditions in turn
-abbrev pub windows_offence : List Region → List Domain → Option Offence
-windows_offence regions domains =
+abbrev pub domain_windows_offence : List Region → List Domain → Option Offence
+domain_windows_offence regions domains =
     option_or (first_in (undeclared_in regions) domains) (
     option_or (first_in unaligned_in domains) (
     option_or (first_in (outside_in regions) domains) (option_or (first_in executable_in domains) (first_in (overlap_in regions) domains))

@@ -6,7 +6,7 @@ ghost use Rattle.muen_num.specs.Search.{first_in};
 ghost use Rattle.policy_lawful.specs.MoreRules.{offence_9};
 ghost use Rattle.policy_lawful.specs.Offences.{two};
 ghost use Rattle.policy_lawful.specs.Resolution.{source_of};
-ghost use Rattle.rules_devices.specs.Grants.{TableAdds, AreTimes, IsOnDevices, part_names, times_by_use, times_by_subject, memory_counted, ports_counted, irqs_counted, device_counted};
+ghost use Rattle.rules_devices.specs.Grants.{TableAdds, AreGrantCounts, IsOnDevices, part_names, times_by_use, times_by_subject, memory_counted, ports_counted, irqs_counted, device_counted};
 ghost use Rattle.rules_devices.specs.declared.resource.Resource.TheVariants.{Memory, IoPorts, Irqs};
 
 use crate::resource::Resource;
@@ -87,7 +87,7 @@ fn table_of(
     subjects: &[Subject],
 ) -> Result<Vec<Counts>, NoMemory>
     requires { All (IsOnDevices (length devices.now)) subjects.now }
-    ensures { IfOk result (λ v. AreTimes resource devices.now subjects.now v.items) }
+    ensures { IfOk result (λ v. AreGrantCounts resource devices.now subjects.now v.items) }
 {
     let mut table = zeros(alloc, resource, devices)?;
     count_subjects(alloc, resource, subjects, &mut table)?;
@@ -154,9 +154,9 @@ struct Grants {
 impl Grants {
     fn of(alloc: Global, devices: &[Device], subjects: &[Subject]) -> Result<Grants, NoMemory>
         requires { All (IsOnDevices (length devices.now)) subjects.now }
-        ensures memory { IfOk result (λ g. AreTimes Memory devices.now subjects.now g.memory.items) }
-        ensures io_ports { IfOk result (λ g. AreTimes IoPorts devices.now subjects.now g.io_ports.items) }
-        ensures irqs { IfOk result (λ g. AreTimes Irqs devices.now subjects.now g.irqs.items) }
+        ensures memory { IfOk result (λ g. AreGrantCounts Memory devices.now subjects.now g.memory.items) }
+        ensures io_ports { IfOk result (λ g. AreGrantCounts IoPorts devices.now subjects.now g.io_ports.items) }
+        ensures irqs { IfOk result (λ g. AreGrantCounts Irqs devices.now subjects.now g.irqs.items) }
     {
         Ok(Grants {
             memory: table_of(alloc, Resource::Memory, devices, subjects)?,

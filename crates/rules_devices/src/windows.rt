@@ -7,7 +7,7 @@ ghost use Rattle.policy_lawful.specs.Domains.{offence_22};
 ghost use Rattle.policy_lawful.specs.Offences.{two};
 ghost use Rattle.policy_lawful.specs.Resolution.{source_of};
 ghost use Rattle.policy_lawful.specs.Rules.{first_overlap, is_laid, offence_4};
-ghost use Rattle.rules_devices.specs.Windows.{undeclared_in, unaligned_in, outside_in, executable_in, window_extent, overlap_in, windows_offence};
+ghost use Rattle.rules_devices.specs.Windows.{undeclared_in, unaligned_in, outside_in, executable_in, mapping_extent, overlap_in, domain_windows_offence};
 
 use crate::declared::Declared;
 use muen_num::limits::{GUEST_END, PAGE};
@@ -67,7 +67,7 @@ fn executable_in(domain: &Domain) -> Option<Offence>
 
 // A window as a range of the devices' addresses.
 fn extent(regions: &Declared<'_, Region>, window: &Mapping) -> Extent
-    ensures { result ≡ window_extent regions.now.items.now window.now }
+    ensures { result ≡ mapping_extent regions.now.items.now window.now }
 {
     Extent {
         name: window.region,
@@ -81,7 +81,7 @@ fn extents(
     regions: &Declared<'_, Region>,
     windows: &[Mapping],
 ) -> Result<Vec<Extent>, AllocError>
-    ensures { IfOk result (λ v. v.items ≡ map (window_extent regions.now.items.now) windows.now) }
+    ensures { IfOk result (λ v. v.items ≡ map (mapping_extent regions.now.items.now) windows.now) }
 {
     windows
         .iter()
@@ -108,7 +108,7 @@ fn overlap(
 ) -> Result<Option<Offence>, NoMemory>
     requires sizes { list_all is_laid regions.now.items.now ≡ true }
     requires on_regions { undeclared_in regions.now.items.now domain.now ≡ None }
-    ensures { IfOk result (λ o. o ≡ first_overlap (map (window_extent regions.now.items.now) domain.now.memory)) }
+    ensures { IfOk result (λ o. o ≡ first_overlap (map (mapping_extent regions.now.items.now) domain.now.memory)) }
 {
     let extents = extents(alloc, regions, domain.memory.items())?;
     first_overlap(alloc, &extents)
@@ -181,7 +181,7 @@ fn of_windows(
     domains: &[Domain],
 ) -> Result<Option<Offence>, NoMemory>
     requires { list_all is_laid regions.now.items.now ≡ true }
-    ensures { IfOk result (λ o. o ≡ windows_offence regions.now.items.now domains.now) }
+    ensures { IfOk result (λ o. o ≡ domain_windows_offence regions.now.items.now domains.now) }
 {
     if let Some(offence) = undeclared_of(regions, domains) {
         return Ok(Some(offence));

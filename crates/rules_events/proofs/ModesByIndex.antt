@@ -31,10 +31,10 @@ use Rattle.policy_lawful.proofs.UniqueNames.{channel_names, subject_names, subje
 use Rattle.policy_lawful.specs.source.Channel.{Channel}
 use Rattle.policy_lawful.specs.source.Event.{Event}
 use Rattle.policy_lawful.specs.Views.{channel_ends_of}
-use Rattle.rules_channels.specs.ByIndex.{AreItems, items_at}
+use Rattle.rules_channels.specs.ByIndex.{AreItems, items_at_index}
 use Rattle.rules_events.specs.Listings.{all_memberships, memberships}
 use Rattle.muen_num.specs.Numbers.{is_among, share}
-use Rattle.rules_events.specs.Directions.{channel_fault, channel_mode, channels_fault, event_fault, events_fault, fits_mode, mode_fault, parties_of, source_fault}
+use Rattle.rules_events.specs.Directions.{channel_mode_fault, channel_mode, channels_fault, event_direction_fault, events_fault, parties_fit_mode, mode_fault, parties_of, source_fault}
 use Rattle.rules_channels.specs.ChannelEnds.{all_channel_ends, all_readers, all_writers, met, met_channel_ends}
 use Rattle.rules_channels.specs.Parties.{party, source_parties, sources_at, target_parties, targets_at}
 use Rattle.rules_channels.specs.declared.channel_ends.Met.{Met}
@@ -67,7 +67,7 @@ always b e [] = refl
 always b e (x ∷ xs) = and_from b (list_all (λ _. b) xs) e (always b e xs)
 
 -- where each that is noted passes, so do those at an index
-at_passes : {X : Type 0} (q : X → Bool) (k : ℕ) (xs : List (ℕ × X)) → list_all (λ x. q x.1) xs ≡ true → list_all q (items_at k xs) ≡ true
+at_passes : {X : Type 0} (q : X → Bool) (k : ℕ) (xs : List (ℕ × X)) → list_all (λ x. q x.1) xs ≡ true → list_all q (items_at_index k xs) ≡ true
 at_passes q k xs all = list_all-map q (λ x. x.1) (filter (λ x. x.0 == k) xs) ∙ all_kept (λ x. q x.1) (λ x. x.0 == k) xs all
 
 each_noted : {S X : Type 0} (q : X → Bool) (f : ℕ × S → List (ℕ × X)) (n : ℕ) (ss : List S) → ((i : ℕ) (s : S) → slice_get ss i ≡ Some s → list_all (λ x. q x.1) (f (n + i, s)) ≡ true)
@@ -91,10 +91,10 @@ absorb true b = refl
 absorb false true = refl
 absorb false false = refl
 
-of_group : (test : ℕ → Bool) (k n : ℕ) (is : List ℕ) → list_any test (items_at k (map (λ i. (i, n)) is)) ≡ (list_any (λ i. i == k) is && test n)
+of_group : (test : ℕ → Bool) (k n : ℕ) (is : List ℕ) → list_any test (items_at_index k (map (λ i. (i, n)) is)) ≡ (list_any (λ i. i == k) is && test n)
 of_group test k n [] = refl
 of_group test k n (i ∷ is) =
-    let rest : list_any test (items_at k (map (λ i. (i, n)) is)) ≡ (list_any (λ i. i == k) is && test n) = of_group test k n is in
+    let rest : list_any test (items_at_index k (map (λ i. (i, n)) is)) ≡ (list_any (λ i. i == k) is && test n) = of_group test k n is in
     let found : List (ℕ × ℕ) = filter (λ x. x.0 == k) (map (λ i. (i, n)) is) in
     elim (i == k) as (λ b. list_any test (map (λ x. x.1) (cond b ((i, n) ∷ found) found)) ≡ ((b || list_any (λ i. i == k) is) && test n)) [
       | true ↦ ap (λ b. test n || b) rest ∙ absorb (test n) (list_any (λ i. i == k) is)
@@ -102,13 +102,13 @@ of_group test k n (i ∷ is) =
     ]
 
 -- a test of the groups of a subject
-of_groups : (test : ℕ → Bool) (k n : ℕ) (gs : List ResolvedGroup) → list_any test (items_at k (flat_map memberships (enumerate_from n gs))) ≡ list_any (λ x. lists k x.1 && test x.0) (enumerate_from n gs)
+of_groups : (test : ℕ → Bool) (k n : ℕ) (gs : List ResolvedGroup) → list_any test (items_at_index k (flat_map memberships (enumerate_from n gs))) ≡ list_any (λ x. lists k x.1 && test x.0) (enumerate_from n gs)
 of_groups test k n [] = refl
 of_groups test k n (g ∷ gs) =
-    ap (λ xs. list_any test (items_at k xs)) (flat_map-cons memberships (n, g) (enumerate_from (n + 1) gs))
+    ap (λ xs. list_any test (items_at_index k xs)) (flat_map-cons memberships (n, g) (enumerate_from (n + 1) gs))
     ∙ ap (list_any test) (items-append k (memberships (n, g)) (flat_map memberships (enumerate_from (n + 1) gs)))
-    ∙ list_any-append test (items_at k (memberships (n, g))) (items_at k (flat_map memberships (enumerate_from (n + 1) gs)))
-    ∙ ap (λ b. b || list_any test (items_at k (flat_map memberships (enumerate_from (n + 1) gs)))) (of_group test k n g.subjects)
+    ∙ list_any-append test (items_at_index k (memberships (n, g))) (items_at_index k (flat_map memberships (enumerate_from (n + 1) gs)))
+    ∙ ap (λ b. b || list_any test (items_at_index k (flat_map memberships (enumerate_from (n + 1) gs)))) (of_group test k n g.subjects)
     ∙ ap (λ b. (lists k g && test n) || b) (of_groups test k (n + 1) gs)
 
 other_number : (m n : ℕ) → m < n → (n == m) ≡ false
@@ -140,10 +140,10 @@ one_number test n (suc i) (h ∷ gs) g is =
     ∙ one_number test (n + 1) i gs g is
 
 -- two subjects share a group just where some group lists both
-shared : (a b : ℕ) (gs : List ResolvedGroup) → share (items_at a (all_memberships gs)) (items_at b (all_memberships gs)) ≡ list_any (λ g. lists a g && lists b g) gs
+shared : (a b : ℕ) (gs : List ResolvedGroup) → share (items_at_index a (all_memberships gs)) (items_at_index b (all_memberships gs)) ≡ list_any (λ g. lists a g && lists b g) gs
 shared a b gs =
-    of_groups (is_among (items_at b (all_memberships gs))) a 0 gs
-    ∙ any_numbered (λ x. lists a x.1 && is_among (items_at b (all_memberships gs)) x.0) (λ g. lists a g && lists b g) 0 gs
+    of_groups (is_among (items_at_index b (all_memberships gs))) a 0 gs
+    ∙ any_numbered (λ x. lists a x.1 && is_among (items_at_index b (all_memberships gs)) x.0) (λ g. lists a g && lists b g) 0 gs
     (λ i g is. ap (λ t. lists a g && t) (of_groups (λ j. j == 0 + i) b 0 gs ∙ one_number (lists b) 0 i gs g is))
 
 member_same : (r : Resolution) (k : ℕ) (g : ResolvedGroup) → repeated (subject_names r) ≡ None → k < length r.subjects → group_in_range r g ≡ true
@@ -155,7 +155,7 @@ member_same r k g unique within in_range =
     (λ i ok. let l = ltb-true i (length r.subjects) ok in same_name (subject_names r) i k unique (omega (arith, many, l)) (omega (arith, many, within))) g.subjects in_range
 
 groups_same : (r : Resolution) (a b : ℕ) → IsResolved r → a < length r.subjects → b < length r.subjects
-    → some_group_lists (source_of r) (name_at (subject_names r) a) (name_at (subject_names r) b) ≡ share (items_at a (all_memberships r.scheduling.groups)) (items_at b (all_memberships r.scheduling.groups))
+    → some_group_lists (source_of r) (name_at (subject_names r) a) (name_at (subject_names r) b) ≡ share (items_at_index a (all_memberships r.scheduling.groups)) (items_at_index b (all_memberships r.scheduling.groups))
 unfolding source_of
 groups_same r a b h la lb =
     let unique = subjects_unique r h.names in
@@ -188,7 +188,7 @@ party_there r i s is =
     ap (λ j. is_there r (party (j, s))) index ∙ at
 
 fits_same : (r : Resolution) (groups : List (List ℕ)) → IsResolved r → AreItems groups (length r.subjects) (all_memberships r.scheduling.groups) → (mode : EventMode) (a b : Party) → is_there r a ≡ true → is_there r b ≡ true
-    → rules.fits_mode (source_of r) mode a.name b.name ≡ fits_mode groups mode a b
+    → rules.fits_mode (source_of r) mode a.name b.name ≡ parties_fit_mode groups mode a b
 fits_same r groups h had Asap a b x y = refl
 fits_same r groups h had Async a b x y = refl
 fits_same r groups h had Own a b x y = refl
@@ -206,7 +206,7 @@ mode_same r groups h had mode name sources targets a b =
     first_in-map (λ x. x.name) (λ s. unless (list_all (rules.fits_mode (source_of r) mode s) (map (λ x. x.name) targets)) (two name s)) (source_fault groups mode name targets) (is_there r)
     (λ s ok. ap (λ t. unless t (two name s.name)) (
     list_all-map (rules.fits_mode (source_of r) mode s.name) (λ x. x.name) targets
-    ∙ list_all_same (λ t. rules.fits_mode (source_of r) mode s.name t.name) (fits_mode groups mode s) (is_there r) (λ t ok2. fits_same r groups h had mode s t ok ok2) targets b)) sources a
+    ∙ list_all_same (λ t. rules.fits_mode (source_of r) mode s.name t.name) (parties_fit_mode groups mode s) (is_there r) (λ t ok2. fits_same r groups h had mode s t ok ok2) targets b)) sources a
 
 sources_there : (r : Resolution) (k : ℕ) → list_all (is_there r) (sources_at r k) ≡ true
 sources_there r k =
@@ -226,9 +226,9 @@ channel_ends_there r =
     (λ i s is. list_all-map (λ x. is_there r x.1.party) (λ e. (e.channel, met (party (0 + i, s)) e)) (channel_ends_of r s) ∙ always (is_there r (party (0 + i, s))) (party_there r i s is) (channel_ends_of r s))
 
 -- the parties of a channel's ends that pass a test
-parties_there : (r : Resolution) (test : ℕ × Met → Bool) (k : ℕ) → list_all (is_there r) (map (λ m. m.party) (items_at k (filter test (all_channel_ends r)))) ≡ true
+parties_there : (r : Resolution) (test : ℕ × Met → Bool) (k : ℕ) → list_all (is_there r) (map (λ m. m.party) (items_at_index k (filter test (all_channel_ends r)))) ≡ true
 parties_there r test k =
-    list_all-map (is_there r) (λ m. m.party) (items_at k (filter test (all_channel_ends r)))
+    list_all-map (is_there r) (λ m. m.party) (items_at_index k (filter test (all_channel_ends r)))
     ∙ at_passes (λ m. is_there r m.party) k (filter test (all_channel_ends r)) (all_kept (λ x. is_there r x.1.party) test (all_channel_ends r) (channel_ends_there r))
 
 -- ---- channels and events
@@ -237,25 +237,25 @@ names_same : (r : Resolution) (ms : List Met) → map (λ e. e.0) (map (met_name
 names_same r ms = map-map (λ e. e.0) (met_named r) ms ∙ sym (map-map (λ x. x.name) (λ m. m.party) ms)
 
 channel_mode_same : (r : Resolution) (groups : List (List ℕ)) → IsResolved r → AreItems groups (length r.subjects) (all_memberships r.scheduling.groups) → (k : ℕ) (c : Channel) → k < length r.channels → c.name ≡ name_at (channel_names r) k → (mode : Option EventMode)
-    → channel_mode_offence (source_of r) c mode ≡ channel_mode groups c mode (map (λ m. m.party) (items_at k (all_writers r))) (map (λ m. m.party) (items_at k (all_readers r)))
+    → channel_mode_offence (source_of r) c mode ≡ channel_mode groups c mode (map (λ m. m.party) (items_at_index k (all_writers r))) (map (λ m. m.party) (items_at_index k (all_readers r)))
 channel_mode_same r groups h had k c within name None = refl
 channel_mode_same r groups h had k c within name (Some mode) =
-    let w : map (λ e. e.0) (writers_of (source_of r) c.name) ≡ map (λ x. x.name) (map (λ m. m.party) (items_at k (all_writers r))) =
-    ap (λ n. map (λ e. e.0) (writers_of (source_of r) n)) name ∙ ap (map (λ e. e.0)) (writers_same r k h within) ∙ names_same r (items_at k (all_writers r)) in
-    let d : map (λ e. e.0) (readers_of (source_of r) c.name) ≡ map (λ x. x.name) (map (λ m. m.party) (items_at k (all_readers r))) =
-    ap (λ n. map (λ e. e.0) (readers_of (source_of r) n)) name ∙ ap (map (λ e. e.0)) (readers_same r k h within) ∙ names_same r (items_at k (all_readers r)) in
+    let w : map (λ e. e.0) (writers_of (source_of r) c.name) ≡ map (λ x. x.name) (map (λ m. m.party) (items_at_index k (all_writers r))) =
+    ap (λ n. map (λ e. e.0) (writers_of (source_of r) n)) name ∙ ap (map (λ e. e.0)) (writers_same r k h within) ∙ names_same r (items_at_index k (all_writers r)) in
+    let d : map (λ e. e.0) (readers_of (source_of r) c.name) ≡ map (λ x. x.name) (map (λ m. m.party) (items_at_index k (all_readers r))) =
+    ap (λ n. map (λ e. e.0) (readers_of (source_of r) n)) name ∙ ap (map (λ e. e.0)) (readers_same r k h within) ∙ names_same r (items_at_index k (all_readers r)) in
     (λ i. mode_offence (source_of r) mode c.name (w i) (d i))
-    ∙ mode_same r groups h had mode c.name (map (λ m. m.party) (items_at k (all_writers r))) (map (λ m. m.party) (items_at k (all_readers r)))
+    ∙ mode_same r groups h had mode c.name (map (λ m. m.party) (items_at_index k (all_writers r))) (map (λ m. m.party) (items_at_index k (all_readers r)))
     (parties_there r (λ x. is_writer x.1.end.role) k) (parties_there r (λ x. not (is_writer x.1.end.role)) k)
 
 channels_same : (r : Resolution) (groups : List (List ℕ)) → IsResolved r → AreItems groups (length r.subjects) (all_memberships r.scheduling.groups)
     → first_in (λ c. channel_mode_offence (source_of r) c c.has_event) r.channels ≡ channels_fault r groups
 channels_same r groups h had =
     first_numbered_same (λ c. channel_mode_offence (source_of r) c c.has_event)
-    (λ x. channel_mode groups x.1 x.1.has_event (map (λ m. m.party) (items_at x.0 (all_writers r))) (map (λ m. m.party) (items_at x.0 (all_readers r)))) 0 r.channels
+    (λ x. channel_mode groups x.1 x.1.has_event (map (λ m. m.party) (items_at_index x.0 (all_writers r))) (map (λ m. m.party) (items_at_index x.0 (all_readers r)))) 0 r.channels
     (λ k c is. let index : k ≡ 0 + k = omega arith in
     channel_mode_same r groups h had k c (slice_get_within r.channels k c is) (name_of_channel r k c is) c.has_event
-    ∙ ap (λ j. channel_mode groups c c.has_event (map (λ m. m.party) (items_at j (all_writers r))) (map (λ m. m.party) (items_at j (all_readers r)))) index)
+    ∙ ap (λ j. channel_mode groups c c.has_event (map (λ m. m.party) (items_at_index j (all_writers r))) (map (λ m. m.party) (items_at_index j (all_readers r)))) index)
 
 event_mode_same : (r : Resolution) (groups : List (List ℕ)) → IsResolved r → AreItems groups (length r.subjects) (all_memberships r.scheduling.groups) → (k : ℕ) (e : Event) → slice_get r.events k ≡ Some e
     → mode_offence (source_of r) e.mode e.name (sources_of (source_of r) e.name) (targets_of (source_of r) e.name) ≡ mode_fault groups e.mode e.name (sources_at r k) (targets_at r k)
@@ -283,20 +283,20 @@ modes_by_index r groups h had = sym (λ i. option_or (channels_same r groups h h
 -- ---- what is noted
 
 pub channels_noted : (r : Resolution) (groups : List (List ℕ)) (writers readers : List (List Met)) → AreItems writers (length r.channels) (all_writers r) → AreItems readers (length r.channels) (all_readers r)
-    → first_in (channel_fault groups (parties_of writers) (parties_of readers)) (enumerate_from 0 r.channels) ≡ channels_fault r groups
+    → first_in (channel_mode_fault groups (parties_of writers) (parties_of readers)) (enumerate_from 0 r.channels) ≡ channels_fault r groups
 channels_noted r groups writers readers a b =
-    let of_list : (lists : List (List Met)) (all : List (ℕ × Met)) → AreItems lists (length r.channels) all → (k : ℕ) → k < length r.channels → get_or (parties_of lists) (0 + k) [] ≡ map (λ m. m.party) (items_at (0 + k) all) =
+    let of_list : (lists : List (List Met)) (all : List (ℕ × Met)) → AreItems lists (length r.channels) all → (k : ℕ) → k < length r.channels → get_or (parties_of lists) (0 + k) [] ≡ map (λ m. m.party) (items_at_index (0 + k) all) =
     λ lists all had k l.
     let index : 0 + k ≡ k = omega arith in
     let l' : 0 + k < length lists = omega (arith, had.room, l) in
     get_or-map (map (λ m. m.party)) lists (0 + k) [] [] l' ∙ ap (map (λ m. m.party)) (had.at (0 + k) (omega (arith, l))) in
-    both_numbered (channel_fault groups (parties_of writers) (parties_of readers))
-    (λ x. channel_mode groups x.1 x.1.has_event (map (λ m. m.party) (items_at x.0 (all_writers r))) (map (λ m. m.party) (items_at x.0 (all_readers r)))) 0 r.channels
+    both_numbered (channel_mode_fault groups (parties_of writers) (parties_of readers))
+    (λ x. channel_mode groups x.1 x.1.has_event (map (λ m. m.party) (items_at_index x.0 (all_writers r))) (map (λ m. m.party) (items_at_index x.0 (all_readers r)))) 0 r.channels
     (λ k c l. (λ i. channel_mode groups c c.has_event (of_list writers (all_writers r) a k l i) (of_list readers (all_readers r) b k l i)))
 
 pub events_noted : (r : Resolution) (groups : List (List ℕ)) (sources targets : List (List Party))
     → AreItems sources (length r.events) (flat_map source_parties (enumerate_from 0 r.subjects)) → AreItems targets (length r.events) (flat_map target_parties (enumerate_from 0 r.subjects))
-    → first_in (event_fault groups sources targets) (enumerate_from 0 r.events) ≡ events_fault r groups
+    → first_in (event_direction_fault groups sources targets) (enumerate_from 0 r.events) ≡ events_fault r groups
 events_noted r groups sources targets a b =
-    both_numbered (event_fault groups sources targets) (λ x. mode_fault groups x.1.mode x.1.name (sources_at r x.0) (targets_at r x.0)) 0 r.events
+    both_numbered (event_direction_fault groups sources targets) (λ x. mode_fault groups x.1.mode x.1.name (sources_at r x.0) (targets_at r x.0)) 0 r.events
     (λ k e l. (λ i. mode_fault groups e.mode e.name (a.at (0 + k) (omega (arith, l)) i) (b.at (0 + k) (omega (arith, l)) i)))

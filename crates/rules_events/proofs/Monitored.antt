@@ -12,13 +12,13 @@ use Rattle.policy_lawful.specs.declared.resolved.Monitor.{Monitor}
 use Rattle.policy_lawful.specs.declared.resolved.Subject.{Subject}
 use Rattle.policy_lawful.specs.declared.offence.Offence.{Offence}
 use Rattle.rules_events.specs.Marks.{Marks}
-use Rattle.rules_events.specs.Monitors.{AreMarks, is_monitored, monitor_fault, monitor_offence, monitors_offence}
+use Rattle.rules_events.specs.Monitors.{AreMarks, is_monitored, monitor_fault, monitor_offence_after, monitors_offence}
 use Rattle.rules_events.proofs.Distinct.{marked}
 
 -- what a loop keeps
 pub record Kept (now : List Bool) (subjects : List Subject) (s : Subject) (i : ℕ) : Type 0 where
   pub marks : AreMarks now (take i s.monitors)
-  pub rest : first_after (monitor_offence subjects s) (take i s.monitors) (drop i s.monitors) ≡ monitors_offence subjects s
+  pub rest : first_after (monitor_offence_after subjects s) (take i s.monitors) (drop i s.monitors) ≡ monitors_offence subjects s
 
 monitored_push : (before : List Monitor) (m : Monitor) (k : ℕ) → is_monitored (before ++ m ∷ []) k ≡ (is_monitored before k || (m.subject == k))
 monitored_push before m k = list_any-append (λ b. b.subject == k) before (m ∷ []) ∙ ap (λ b. is_monitored before k || b) (or-false (m.subject == k))
@@ -40,9 +40,9 @@ marks_more old new ms i m within is long had now k l =
 
 -- a monitor by its mark is one behind those that are marked
 pub fault_same : (marks : List Bool) (subjects : List Subject) (s : Subject) (before : List Monitor) (m : Monitor) → length marks ≡ length subjects → AreMarks marks before
-    → monitor_fault subjects s (not (get_or marks m.subject false)) m ≡ monitor_offence subjects s before m
+    → monitor_fault subjects s (not (get_or marks m.subject false)) m ≡ monitor_offence_after subjects s before m
 fault_same marks subjects s before m long had =
-    elim (cases_lt m.subject (length marks)) as (λ _. monitor_fault subjects s (not (get_or marks m.subject false)) m ≡ monitor_offence subjects s before m) [
+    elim (cases_lt m.subject (length marks)) as (λ _. monitor_fault subjects s (not (get_or marks m.subject false)) m ≡ monitor_offence_after subjects s before m) [
       | inl l ↦ ap (λ b. monitor_fault subjects s (not b) m) (had m.subject l)
       | inr l ↦
           let none : slice_get subjects m.subject ≡ None = slice_get_past subjects m.subject (omega arith) in
@@ -84,17 +84,17 @@ cleared old new ms long had now k l =
 pub kept : (old new : List Bool) (subjects : List Subject) (s : Subject) (items : List Monitor) (i : ℕ) (d : Monitor) (was : Bool) (o : Option Offence) → items ≡ s.monitors → i < length items
     → length old ≡ length subjects → length new ≡ length old → AreMarks old (take i s.monitors) → was ≡ get_or old (get_or items i d).subject false
     → o ≡ monitor_fault subjects s (not was) (get_or items i d) → o ≡ None → Marks old new (get_or items i d).subject true
-    → first_after (monitor_offence subjects s) (take i s.monitors) (drop i s.monitors) ≡ monitors_offence subjects s
+    → first_after (monitor_offence_after subjects s) (take i s.monitors) (drop i s.monitors) ≡ monitors_offence subjects s
     → Kept new subjects s (i + 1)
 kept old new subjects s items i d was o same within room long had says fault none now rest =
     let m = get_or items i d in
     let within' : i < length s.monitors = rw (← same) within in
     let is : m ≡ get_or s.monitors i m = get_or_default items i d m within ∙ ap (λ xs. get_or xs i m) same in
-    let at : None ≡ monitor_offence subjects s (take i s.monitors) m =
+    let at : None ≡ monitor_offence_after subjects s (take i s.monitors) m =
     sym none ∙ fault ∙ ap (λ b. monitor_fault subjects s (not b) m) says ∙ fault_same old subjects s (take i s.monitors) m room had in
     record {
       marks = marks_more old new s.monitors i m within' is long had now;
-      rest = sym (first_after_step (monitor_offence subjects s) s.monitors i m None within' is at) ∙ rest;
+      rest = sym (first_after_step (monitor_offence_after subjects s) s.monitors i m None within' is at) ∙ rest;
     }
 
 pub ruleset steps = (marks_more, fault_same, no_monitor, clear_more, cleared)

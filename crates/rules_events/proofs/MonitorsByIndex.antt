@@ -23,7 +23,7 @@ use Rattle.policy_lawful.proofs.SourceElements.{parts_in_range}
 use Rattle.policy_lawful.proofs.UniqueNames.{subject_names, subjects_unique}
 use Rattle.policy_lawful.proofs.WindowsByIndex.{name_of_subject}
 use Rattle.policy_lawful.specs.source.Monitor.{Monitor}
-use Rattle.rules_events.specs.Monitors.{monitor_offence, monitors_offence, is_monitored}
+use Rattle.rules_events.specs.Monitors.{monitor_offence_after, monitors_offence, is_monitored}
 
 -- a search where each element is held against those before it, over elements that all pass
 after_map : {X Y O : Type 0} (f : X → Y) (at : List Y → Y → Option O) (by : List X → X → Option O) (ok : X → Bool)
@@ -62,7 +62,7 @@ cpu_at r k o unique is =
 
 one_monitor : (r : Resolution) (s : ResolvedSubject) (before : List ResolvedMonitor) (m : ResolvedMonitor) → repeated (subject_names r) ≡ None
     → list_all (λ m. nat_lt m.subject (length r.subjects)) before ≡ true → nat_lt m.subject (length r.subjects) ≡ true
-    → unless (is_monitor (source_of r) (subject_named r s) (map (monitor_named r) before) (monitor_named r m)) (two s.name (name_at (subject_names r) m.subject)) ≡ monitor_offence r.subjects s before m
+    → unless (is_monitor (source_of r) (subject_named r s) (map (monitor_named r) before) (monitor_named r m)) (two s.name (name_at (subject_names r) m.subject)) ≡ monitor_offence_after r.subjects s before m
 one_monitor r s before m unique all in_range =
     let within : m.subject < length r.subjects = ltb-true m.subject (length r.subjects) in_range in
     let other = there r.subjects m.subject within in
@@ -73,7 +73,7 @@ monitors_same : (r : Resolution) (s : ResolvedSubject) → repeated (subject_nam
 monitors_same r s unique in_range =
     after_map (monitor_named r)
     (λ before m. unless (is_monitor (source_of r) (subject_named r s) before m) (two s.name m.subject))
-    (monitor_offence r.subjects s)
+    (monitor_offence_after r.subjects s)
     (λ m. nat_lt m.subject (length r.subjects))
     (λ before m all one. one_monitor r s before m unique all one)
     [] s.monitors refl (and_parts _ _ in_range).1

@@ -31,7 +31,7 @@ use Rattle.policy_lawful.specs.Views.{channel_end_named, channel_ends_of}
 use Rattle.policy_lawful.proofs.EndsByIndex.{ends_by_index}
 use Rattle.rules_events.specs.Calls.{calls_at, traps_at, call_offence}
 use Rattle.rules_events.specs.Numbers.{are_distinct_in}
-use Rattle.rules_events.specs.Vectors.{has_vector, switches, irq_vectors, vectors_at, vector_offence}
+use Rattle.rules_events.specs.Vectors.{target_has_vector, switches, irq_vectors, vectors_at, vector_offence}
 
 -- ---- lists
 
@@ -96,13 +96,13 @@ unfolding source_of
 switch_same r index resolved ok =
     ap (λ o. option_map_or (λ e. is_switch e.mode) o false) (found_at_index (λ e. e.name) r.events index (unique (source_of r) resolved.names).events (ltb-true index (length r.events) ok))
 
-has_vector_same : (r : Resolution) (t : ResolvedTarget) → IsResolved r → nat_lt t.event (length r.events) ≡ true → rules.has_vector (source_of r) (target_named r t) ≡ has_vector r.events t
+has_vector_same : (r : Resolution) (t : ResolvedTarget) → IsResolved r → nat_lt t.event (length r.events) ≡ true → rules.has_vector (source_of r) (target_named r t) ≡ target_has_vector r.events t
 has_vector_same r t resolved ok = ap (λ b. is_some t.vector || b) (switch_same r t.event resolved ok)
 
-have_vectors : (r : Resolution) (s : ResolvedSubject) → IsResolved r → subject_in_range r s ≡ true → list_all (rules.has_vector (source_of r)) (subject_named r s).targets ≡ list_all (has_vector r.events) s.targets
+have_vectors : (r : Resolution) (s : ResolvedSubject) → IsResolved r → subject_in_range r s ≡ true → list_all (rules.has_vector (source_of r)) (subject_named r s).targets ≡ list_all (target_has_vector r.events) s.targets
 have_vectors r s resolved in_range =
     list_all-map (rules.has_vector (source_of r)) (target_named r) s.targets
-    ∙ list_all_same (λ t. rules.has_vector (source_of r) (target_named r t)) (has_vector r.events) (λ t. nat_lt t.event (length r.events)) (λ t ok. has_vector_same r t resolved ok) s.targets (and_parts _ _ (and_parts _ _ in_range).0).1
+    ∙ list_all_same (λ t. rules.has_vector (source_of r) (target_named r t)) (target_has_vector r.events) (λ t. nat_lt t.event (length r.events)) (λ t ok. has_vector_same r t resolved ok) s.targets (and_parts _ _ (and_parts _ _ in_range).0).1
 
 irqs_same : (r : Resolution) (s : ResolvedSubject) → flat_map (λ d. map (λ i. i.vector) d.irqs) (subject_named r s).devices ≡ irq_vectors s
 irqs_same r s = flat_map_both (λ d. map (λ i. i.vector) d.irqs) (device_named r) (λ d. map (λ i. i.vector) d.irqs) (λ d. map-map (λ i. i.vector) (irq_named r d.device) d.irqs) s.devices
@@ -121,7 +121,7 @@ vector_same : (r : Resolution) (s : ResolvedSubject) → IsResolved r → subjec
     → unless (list_all (rules.has_vector (source_of r)) (subject_named r s).targets && are_vectors (vectors_of (source_of r) (subject_named r s))) (alone s.name) ≡ vector_offence r s
 vector_same r s resolved in_range =
     ap (λ b. unless (b && are_vectors (vectors_of (source_of r) (subject_named r s))) (alone s.name)) (have_vectors r s resolved in_range)
-    ∙ ap (λ ns. unless (list_all (has_vector r.events) s.targets && are_vectors ns) (alone s.name)) (vectors_same r s resolved in_range)
+    ∙ ap (λ ns. unless (list_all (target_has_vector r.events) s.targets && are_vectors ns) (alone s.name)) (vectors_same r s resolved in_range)
 
 pub vectors_by_index : (r : Resolution) → IsResolved r → first_in (vector_offence r) r.subjects ≡ offence_15 (source_of r)
 unfolding offence_15 source_of

@@ -10,7 +10,7 @@ use Rattle.std.proofs.lemmas.List.{get_or-append-add, get_or_append_left, get_or
 use Rattle.std.proofs.lemmas.List.Concat.{flat_map-cons}
 use Rattle.std.proofs.lemmas.List.Sorted.{searched}
 use Rattle.policy_lawful.specs.declared.resolved.Group.{Group}
-use Rattle.rules_channels.specs.ByIndex.{AreItems, items_at}
+use Rattle.rules_channels.specs.ByIndex.{AreItems, items_at_index}
 use Rattle.rules_events.specs.Listings.{HaveRising, Rises, all_memberships, memberships}
 use Rattle.muen_num.specs.Numbers.{is_among}
 use Rattle.rules_channels.proofs.NotedItems.{items-append}
@@ -49,10 +49,10 @@ one_more : (n : ℕ) (xs : List ℕ) → AreAll n xs → AreAll n (n ∷ xs)
 one_more n xs all zero l = refl
 one_more n xs all (suc i) l = all i (omega arith)
 
-of_group : (k n : ℕ) (is : List ℕ) → AreAll n (items_at k (map (λ i. (i, n)) is))
+of_group : (k n : ℕ) (is : List ℕ) → AreAll n (items_at_index k (map (λ i. (i, n)) is))
 of_group k n [] = λ i l. absurd (omega arith)
 of_group k n (j ∷ is) =
-    let rest : AreAll n (items_at k (map (λ i. (i, n)) is)) = of_group k n is in
+    let rest : AreAll n (items_at_index k (map (λ i. (i, n)) is)) = of_group k n is in
     let found : List (ℕ × ℕ) = filter (λ x. x.0 == k) (map (λ i. (i, n)) is) in
     elim (j == k) as (λ b. AreAll n (map (λ x. x.1) (cond b ((j, n) ∷ found) found))) [
       | true ↦ one_more n (map (λ x. x.1) found) rest
@@ -90,12 +90,12 @@ joined xs ys n all up =
           ];
     }
 
-rising : (k n : ℕ) (gs : List Group) → RisesFrom n (items_at k (flat_map memberships (enumerate_from n gs)))
+rising : (k n : ℕ) (gs : List Group) → RisesFrom n (items_at_index k (flat_map memberships (enumerate_from n gs)))
 rising k n [] = record { up = λ i j le l. absurd (omega arith); low = λ i l. absurd (omega arith) }
 rising k n (g ∷ gs) =
     subst (RisesFrom n)
-    (sym (ap (items_at k) (flat_map-cons memberships (n, g) (enumerate_from (n + 1) gs)) ∙ items-append k (memberships (n, g)) (flat_map memberships (enumerate_from (n + 1) gs))))
-    (joined (items_at k (memberships (n, g))) (items_at k (flat_map memberships (enumerate_from (n + 1) gs))) n (of_group k n g.subjects) (rising k (n + 1) gs))
+    (sym (ap (items_at_index k) (flat_map-cons memberships (n, g) (enumerate_from (n + 1) gs)) ∙ items-append k (memberships (n, g)) (flat_map memberships (enumerate_from (n + 1) gs))))
+    (joined (items_at_index k (memberships (n, g))) (items_at_index k (flat_map memberships (enumerate_from (n + 1) gs))) n (of_group k n g.subjects) (rising k (n + 1) gs))
 
 none_rise : Rises []
 none_rise i j le l = absurd (omega arith)

@@ -2,7 +2,7 @@
 use Rattle.std.proofs.Common.{◌≡◌, ℕ, Bool, true, false, List, [], ◌∷◌, refl, sym, ap, ◌∙◌, arith}
 use Rattle.std.specs.Prelude.{◌==◌, ◌||◌}
 use Rattle.muen_num.proofs.Numbers.{equal_turned}
-use Rattle.rules_events.specs.Listings.{AreKnown}
+use Rattle.rules_events.specs.Listings.{AreKnownPairs}
 use Rattle.muen_num.specs.Numbers.{is_among, share}
 use Rattle.rules_events.specs.declared.listings.Shared.{Shared}
 
@@ -29,6 +29,6 @@ share_turned xs [] = sym (none_shared xs)
 share_turned xs (y ∷ ys) = ap (λ b. is_among xs y || b) (share_turned xs ys) ∙ sym (one_more y xs ys)
 
 -- of no pairs anything is known
-pub none_known : (lists : List (List ℕ)) (known : List Shared) → known ≡ [] → AreKnown lists known
+pub none_known : (lists : List (List ℕ)) (known : List Shared) → known ≡ [] → AreKnownPairs lists known
 none_known lists [] none k d l = absurd (omega arith)
 none_known lists (s ∷ known) none k d l = absurd (cc)

@@ -10,7 +10,7 @@ use Rattle.policy_lawful.specs.declared.offence.Offence.{Offence}
 use Rattle.policy_lawful.specs.source.Channel.{Channel}
 use Rattle.policy_lawful.specs.source.Event.{Event}
 use Rattle.policy_lawful.specs.Resolution.{Resolution}
-use Rattle.rules_channels.specs.ByIndex.{items_at}
+use Rattle.rules_channels.specs.ByIndex.{items_at_index}
 use Rattle.rules_channels.specs.ChannelEnds.{all_readers, all_writers}
 use Rattle.muen_num.specs.Numbers.{share}
 use Rattle.rules_channels.specs.Parties.{sources_at, targets_at}
@@ -18,15 +18,15 @@ use Rattle.rules_channels.specs.declared.channel_ends.Met.{Met}
 use Rattle.rules_channels.specs.declared.parties.Party.{Party}
 
 -- an event of this mode may join these subjects, of which the groups are noted
-abbrev pub fits_mode : List (List ℕ) → EventMode → Party → Party → Bool
-fits_mode groups Own source target = bytes_eq source.name target.name
-fits_mode groups Switch source target =
+abbrev pub parties_fit_mode : List (List ℕ) → EventMode → Party → Party → Bool
+parties_fit_mode groups Own source target = bytes_eq source.name target.name
+parties_fit_mode groups Switch source target =
     not (bytes_eq source.name target.name) && share (slice_index_or groups source.index []) (slice_index_or groups target.index [])
-fits_mode groups _ source target = not (bytes_eq source.name target.name)
+parties_fit_mode groups _ source target = not (bytes_eq source.name target.name)
 
 -- a source that doesn't fit all targets, and the first one
 abbrev pub source_fault : List (List ℕ) → EventMode → List ℕ → List Party → Party → Option Offence
-source_fault groups mode name targets s = unless (list_all (fits_mode groups mode s) targets) (two name s.name)
+source_fault groups mode name targets s = unless (list_all (parties_fit_mode groups mode s) targets) (two name s.name)
 
 abbrev pub mode_fault : List (List ℕ) → EventMode → List ℕ → List Party → List Party → Option Offence
 mode_fault groups mode name sources targets = first_in (source_fault groups mode name targets) sources
@@ -36,12 +36,12 @@ channel_mode groups c None writers readers = None
 channel_mode groups c (Some mode) writers readers = mode_fault groups mode c.name writers readers
 
 -- a channel and an event with its index, where so many parties are noted
-abbrev pub channel_fault : List (List ℕ) → List (List Party) → List (List Party) → ℕ × Channel → Option Offence
-channel_fault groups writers readers (index, c) =
+abbrev pub channel_mode_fault : List (List ℕ) → List (List Party) → List (List Party) → ℕ × Channel → Option Offence
+channel_mode_fault groups writers readers (index, c) =
     channel_mode groups c c.has_event (slice_index_or writers index []) (slice_index_or readers index [])
 
-abbrev pub event_fault : List (List ℕ) → List (List Party) → List (List Party) → ℕ × Event → Option Offence
-event_fault groups sources targets (index, e) =
+abbrev pub event_direction_fault : List (List ℕ) → List (List Party) → List (List Party) → ℕ × Event → Option Offence
+event_direction_fault groups sources targets (index, e) =
     mode_fault groups e.mode e.name (slice_index_or sources index []) (slice_index_or targets index [])
 
 -- the parties of ends
@@ -51,7 +51,7 @@ parties_of lists = map (map (λ m. m.party)) lists
 -- the first channel, and the first event, whose mode doesn't fit
 abbrev pub channels_fault : Resolution → List (List ℕ) → Option Offence
 channels_fault r groups =
-    first_in (λ x. channel_mode groups x.1 x.1.has_event (map (λ m. m.party) (items_at x.0 (all_writers r))) (map (λ m. m.party) (items_at x.0 (all_readers r)))) (enumerate_from 0 r.channels)
+    first_in (λ x. channel_mode groups x.1 x.1.has_event (map (λ m. m.party) (items_at_index x.0 (all_writers r))) (map (λ m. m.party) (items_at_index x.0 (all_readers r)))) (enumerate_from 0 r.channels)
 
 abbrev pub events_fault : Resolution → List (List ℕ) → Option Offence
 events_fault r groups =

@@ -21,5 +21,5 @@ abbrev pub HaveRising : List (List ℕ) → Type 0
 HaveRising lists = (k : ℕ) → Rises (slice_index_or lists k [])
 
 -- of each of these pairs of subjects it is said whether some group lists both
-abbrev pub AreKnown : List (List ℕ) → List Shared → Type 0
-AreKnown lists known = All (λ s. s.shares ≡ share (slice_index_or lists s.one []) (slice_index_or lists s.other [])) known
+abbrev pub AreKnownPairs : List (List ℕ) → List Shared → Type 0
+AreKnownPairs lists known = All (λ s. s.shares ≡ share (slice_index_or lists s.one []) (slice_index_or lists s.other [])) known

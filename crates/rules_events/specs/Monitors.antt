@@ -23,11 +23,11 @@ monitor_fault subjects s is_new m =
 abbrev pub is_monitored : List Monitor → ℕ → Bool
 is_monitored before index = list_any (λ b. b.subject == index) before
 
-abbrev pub monitor_offence : List Subject → Subject → List Monitor → Monitor → Option Offence
-monitor_offence subjects s before m = monitor_fault subjects s (not (is_monitored before m.subject)) m
+abbrev pub monitor_offence_after : List Subject → Subject → List Monitor → Monitor → Option Offence
+monitor_offence_after subjects s before m = monitor_fault subjects s (not (is_monitored before m.subject)) m
 
 abbrev pub monitors_offence : List Subject → Subject → Option Offence
-monitors_offence subjects s = first_after (monitor_offence subjects s) [] s.monitors
+monitors_offence subjects s = first_after (monitor_offence_after subjects s) [] s.monitors
 
 -- ---- marks of subjects that are monitored
 

@@ -17,8 +17,8 @@ use Rattle.policy_lawful.specs.declared.view.IndexedEnd.{IndexedEnd}
 abbrev pub switches : List Event → ℕ → Bool
 switches events index = option_map_or (λ e. is_switch e.mode) (slice_get events index) false
 
-abbrev pub has_vector : List Event → EventTarget → Bool
-has_vector events t = is_some t.vector || switches events t.event
+abbrev pub target_has_vector : List Event → EventTarget → Bool
+target_has_vector events t = is_some t.vector || switches events t.event
 
 abbrev pub irq_vectors : Subject → List ℕ
 irq_vectors s = flat_map (λ d. map (λ i. i.vector) d.irqs) s.devices
@@ -28,7 +28,7 @@ abbrev pub vectors_with : List IndexedEnd → Subject → List ℕ
 vectors_with ends s = filter_map (λ t. t.vector) s.targets ++ filter_map (λ e. e.vector) ends ++ irq_vectors s
 
 abbrev pub has_vectors_with : List Event → List IndexedEnd → Subject → Bool
-has_vectors_with events ends s = list_all (has_vector events) s.targets && are_vectors (vectors_with ends s)
+has_vectors_with events ends s = list_all (target_has_vector events) s.targets && are_vectors (vectors_with ends s)
 
 abbrev pub vectors_at : Resolution → Subject → List ℕ
 vectors_at r s = vectors_with (channel_ends_of r s) s

@@ -5,7 +5,7 @@ ghost use Rattle.std.specs.List.{enumerate_from, list_all};
 ghost use Rattle.muen_num.specs.Search.{first_in, unless};
 ghost use Rattle.policy_lawful.specs.MoreRules.{offence_13};
 ghost use Rattle.policy_lawful.specs.Resolution.{source_of};
-ghost use Rattle.rules_events.specs.Directions.{fits_mode, source_fault, mode_fault, channel_mode, channel_fault, event_fault, parties_of, channels_fault, events_fault};
+ghost use Rattle.rules_events.specs.Directions.{parties_fit_mode, source_fault, mode_fault, channel_mode, channel_mode_fault, event_direction_fault, parties_of, channels_fault, events_fault};
 
 use crate::listings::Listings;
 use muen_num::{EventMode, Name, NoMemory, Seq, first_numbered};
@@ -19,7 +19,7 @@ use std::alloc::{AllocError, Global};
 
 // Whether an event of this mode may join these subjects, of which the groups are noted.
 fn fits_mode(groups: &Listings, mode: EventMode, source: &Party, target: &Party) -> bool
-    ensures { result ≡ fits_mode groups.now mode source.now target.now }
+    ensures { result ≡ parties_fit_mode groups.now mode source.now target.now }
 {
     match mode {
         EventMode::Own => source.name == target.name,
@@ -31,7 +31,7 @@ fn fits_mode(groups: &Listings, mode: EventMode, source: &Party, target: &Party)
 }
 
 fn fits_all(groups: &Listings, mode: EventMode, source: &Party, targets: &[Party]) -> bool
-    ensures { result ≡ list_all (fits_mode groups.now mode source.now) targets.now }
+    ensures { result ≡ list_all (parties_fit_mode groups.now mode source.now) targets.now }
 {
     targets
         .iter()
@@ -91,7 +91,7 @@ fn first_channel(
     readers: &[Seq<Party>],
     channels: &[Channel],
 ) -> Option<Offence>
-    ensures { result ≡ first_in (channel_fault groups.now writers.now readers.now) (enumerate_from 0 channels.now) }
+    ensures { result ≡ first_in (channel_mode_fault groups.now writers.now readers.now) (enumerate_from 0 channels.now) }
 {
     first_numbered(channels, |index, channel| {
         channel_mode(groups, channel, at(writers, index), at(readers, index))
@@ -104,7 +104,7 @@ fn first_event(
     targets: &[Seq<Party>],
     events: &[Event],
 ) -> Option<Offence>
-    ensures { result ≡ first_in (event_fault groups.now sources.now targets.now) (enumerate_from 0 events.now) }
+    ensures { result ≡ first_in (event_direction_fault groups.now sources.now targets.now) (enumerate_from 0 events.now) }
 {
     first_numbered(events, |index, event| {
         mode_fault(

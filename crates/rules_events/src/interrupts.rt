@@ -4,7 +4,7 @@ ghost use Rattle.std.specs.List.{filter_map, flat_map, list_all};
 ghost use Rattle.muen_num.specs.Search.{first_in};
 ghost use Rattle.policy_lawful.specs.MoreRules.{are_vectors, offence_15};
 ghost use Rattle.policy_lawful.specs.Resolution.{IsResolved, source_of};
-ghost use Rattle.rules_events.specs.Vectors.{has_vector, has_vectors_with, switches, vector_offence, vectors_with};
+ghost use Rattle.rules_events.specs.Vectors.{target_has_vector, has_vectors_with, switches, vector_offence, vectors_with};
 
 use crate::numbers::are_distinct_in;
 use muen_num::NoMemory;
@@ -28,13 +28,13 @@ fn switches(events: &[Event], index: usize) -> bool
 
 // Whether a target has a vector, or its event needs none.
 fn has_vector(events: &[Event], target: &EventTarget) -> bool
-    ensures { result ≡ has_vector events.now target.now }
+    ensures { result ≡ target_has_vector events.now target.now }
 {
     target.vector.is_some() || switches(events, target.event)
 }
 
 fn have_vectors(events: &[Event], targets: &[EventTarget]) -> bool
-    ensures { result ≡ list_all (has_vector events.now) targets.now }
+    ensures { result ≡ list_all (target_has_vector events.now) targets.now }
 {
     targets.iter().all(|target| has_vector(events, target))
 }

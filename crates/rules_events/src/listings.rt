@@ -1,7 +1,7 @@
 //! The scheduling groups that list each subject.
 ghost use Rattle.std.specs.Prelude.{◌≡◌, ℕ, List, ◌++◌, [], slice_index_or, IfOk, IfSome};
 ghost use Rattle.rules_channels.specs.ByIndex.{AreItems};
-ghost use Rattle.rules_events.specs.Listings.{AreKnown, HaveRising, Rises, memberships, all_memberships};
+ghost use Rattle.rules_events.specs.Listings.{AreKnownPairs, HaveRising, Rises, memberships, all_memberships};
 ghost use Rattle.muen_num.specs.Numbers.{is_among, share};
 
 use muen_num::{NoMemory, Seq};
@@ -32,13 +32,13 @@ pub(crate) struct Listings {
 
 impl Model for Listings {
     ghost use Rattle.std.specs.Prelude.{List, ℕ};
-    ghost use Rattle.rules_events.specs.Listings.{AreKnown, HaveRising};
+    ghost use Rattle.rules_events.specs.Listings.{AreKnownPairs, HaveRising};
 
     ghost Value = { List (List ℕ) };
 
     ghost view = { λ x. x.lists.items };
 
-    ghost invariant = { λ x. HaveRising x.lists.items × AreKnown x.lists.items x.known.items };
+    ghost invariant = { λ x. HaveRising x.lists.items × AreKnownPairs x.lists.items x.known.items };
 }
 
 // Notes a group at each of its members.
@@ -141,7 +141,7 @@ fn find_out(
     pairs: &[(usize, usize)],
 ) -> Result<Vec<Shared>, NoMemory>
     requires { HaveRising lists.now }
-    ensures { IfOk result (λ v. AreKnown lists.now v.items) }
+    ensures { IfOk result (λ v. AreKnownPairs lists.now v.items) }
 {
     let mut known = Vec::new(alloc);
     for pair in pairs {
@@ -157,7 +157,7 @@ fn find_out(
 
 // What is known of a pair, if it is.
 fn find_known(known: &[Shared], one: usize, other: usize) -> Option<bool>
-    ensures { IfSome result (λ b. (lists : List (List ℕ)) → AreKnown lists known.now → b ≡ share (slice_index_or lists one []) (slice_index_or lists other [])) }
+    ensures { IfSome result (λ b. (lists : List (List ℕ)) → AreKnownPairs lists known.now → b ≡ share (slice_index_or lists one []) (slice_index_or lists other [])) }
 {
     let pair = (one, other);
     match known.binary_search_by_key(&pair, |shared| (shared.one, shared.other)) {

@@ -8,7 +8,7 @@ use Rattle.std.proofs.lemmas.List.{append_assoc, get_or-append-add, get_or-map, 
 use Rattle.std.proofs.lemmas.List.Sorted.{All-permutation, IsPermutation-append_comm, IsPermutation-append_left, IsPermutation-map, IsPermutation-sym}
 use Rattle.policy_lawful.specs.Rules.{first_overlap}
 use Rattle.policy_lawful.specs.declared.offence.Extent.{Extent}
-use Rattle.rules_extents.specs.AddressRange.{IsApart, IsBelow, range_of}
+use Rattle.rules_extents.specs.AddressRange.{IsApart, IsBelow, address_range_of}
 use Rattle.rules_extents.specs.Shared.{AreKept, IsBehind, IsInFront, StayApart}
 use Rattle.rules_extents.specs.declared.overlap.AddressRange.{AddressRange}
 use Rattle.rules_extents.proofs.Overlaps.{apart_back, overlap_none, ranges_apart}
@@ -69,27 +69,27 @@ EachTwo-append R turned xs ys one other across i j d li lj n =
 
 -- ---- ranges beside those that are kept
 
-across : (kept others : List Extent) (ranges : List AddressRange) → AreKept ranges kept → All (λ e. All (λ s. IsApart s (range_of e)) ranges) others → Across IsApart (map range_of kept) (map range_of others)
+across : (kept others : List Extent) (ranges : List AddressRange) → AreKept ranges kept → All (λ e. All (λ s. IsApart s (address_range_of e)) ranges) others → Across IsApart (map address_range_of kept) (map address_range_of others)
 across kept others ranges moved clear i j d li lj =
-    let many : length (map range_of others) ≡ length others = length-map others range_of in
+    let many : length (map address_range_of others) ≡ length others = length-map others address_range_of in
     let nowhere : Extent = record { name = []; address = 0; size = 0 } in
-    rw (get_or-map range_of others j nowhere d (omega (arith, many, lj)))
-    (All-permutation (λ s. IsApart s (range_of (get_or others j nowhere))) ranges (map range_of kept) (IsPermutation-sym _ _ moved) (clear j nowhere (omega (arith, many, lj))) i d li)
+    rw (get_or-map address_range_of others j nowhere d (omega (arith, many, lj)))
+    (All-permutation (λ s. IsApart s (address_range_of (get_or others j nowhere))) ranges (map address_range_of kept) (IsPermutation-sym _ _ moved) (clear j nowhere (omega (arith, many, lj))) i d li)
 
-reordered : (front kept behind : List Extent) → EachTwo IsApart (map range_of (kept ++ (front ++ behind))) → EachTwo IsApart (map range_of (front ++ kept ++ behind))
+reordered : (front kept behind : List Extent) → EachTwo IsApart (map address_range_of (kept ++ (front ++ behind))) → EachTwo IsApart (map address_range_of (front ++ kept ++ behind))
 reordered front kept behind h =
-    EachTwo-permutation IsApart (map range_of (kept ++ (front ++ behind))) (map range_of (front ++ kept ++ behind))
-    (IsPermutation-map range_of (kept ++ (front ++ behind)) (front ++ kept ++ behind)
+    EachTwo-permutation IsApart (map address_range_of (kept ++ (front ++ behind))) (map address_range_of (front ++ kept ++ behind))
+    (IsPermutation-map address_range_of (kept ++ (front ++ behind)) (front ++ kept ++ behind)
     (subst (λ xs. IsPermutation xs (front ++ kept ++ behind)) (append_assoc kept front behind)
     (IsPermutation-append_left behind (kept ++ front) (front ++ kept) (IsPermutation-append_comm kept front)))) h
 
 pub stay_apart : (ranges : List AddressRange) (front behind : List Extent) → IsNonDecreasingBy (λ s. s.address) ranges → AllAdjacentBelow IsBelow ranges (length ranges) → first_overlap (front ++ behind) ≡ None
-    → All (λ e. All (λ s. IsApart s (range_of e)) ranges) (front ++ behind) → StayApart ranges front behind
+    → All (λ e. All (λ s. IsApart s (address_range_of e)) ranges) (front ++ behind) → StayApart ranges front behind
 stay_apart ranges front behind up below apart clear kept moved =
-    let both : EachTwo IsApart (map range_of (kept ++ (front ++ behind))) =
-    subst (EachTwo IsApart) (sym (map-append range_of kept (front ++ behind)))
-    (EachTwo-append IsApart apart_back (map range_of kept) (map range_of (front ++ behind))
-    (EachTwo-permutation IsApart ranges (map range_of kept) (IsPermutation-sym _ _ moved) (apart_from_neighbours ranges up below))
+    let both : EachTwo IsApart (map address_range_of (kept ++ (front ++ behind))) =
+    subst (EachTwo IsApart) (sym (map-append address_range_of kept (front ++ behind)))
+    (EachTwo-append IsApart apart_back (map address_range_of kept) (map address_range_of (front ++ behind))
+    (EachTwo-permutation IsApart ranges (map address_range_of kept) (IsPermutation-sym _ _ moved) (apart_from_neighbours ranges up below))
     (ranges_apart (front ++ behind) apart)
     (across kept (front ++ behind) ranges moved clear)) in
     overlap_none (front ++ kept ++ behind) (reordered front kept behind both)

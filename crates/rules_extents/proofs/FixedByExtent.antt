@@ -12,7 +12,7 @@ use Rattle.muen_num.proofs.Lists.{list_any-map}
 use Rattle.muen_num.proofs.SearchLaws.{none_both}
 use Rattle.rules_extents.specs.Inside.{holds}
 use Rattle.rules_extents.specs.Inside as inside
-use Rattle.rules_extents.specs.AddressRange.{range_of}
+use Rattle.rules_extents.specs.AddressRange.{address_range_of}
 use Rattle.rules_extents.proofs.OwnThenPairs.{breaks_at_first, first_fault_is}
 use Rattle.policy_lawful.specs.ByIndex.{block_extent}
 use Rattle.policy_lawful.specs.MoreRules.{offence_19}
@@ -87,7 +87,7 @@ pub fixed_by_extent : (r : Resolution) (n : ℕ) → n ≡ position_or_len (λ e
 unfolding offence_19 source_of
 fixed_by_extent r n is =
     let xs = fixed_extents r.memory in
-    let same : (e : Extent) → inside.is_inside (block_extents r.memory_blocks) e ≡ is_inside (source_of r) e = λ e. list_any-map (λ b. holds e (range_of b)) block_extent r.memory_blocks in
+    let same : (e : Extent) → inside.is_inside (block_extents r.memory_blocks) e ≡ is_inside (source_of r) e = λ e. list_any-map (λ b. holds e (address_range_of b)) block_extent r.memory_blocks in
     let at : n ≡ position_or_len (λ e. not (is_inside (source_of r) e)) xs = is ∙ same_position (inside.is_inside (block_extents r.memory_blocks)) (is_inside (source_of r)) same xs in
     ap (λ m. option_or (first_overlap (take m xs)) (option_map (λ e. alone e.name) (slice_get xs m))) at
     ∙ sym (first_fault_is (is_inside (source_of r)) xs (position_or_len (λ e. not (is_inside (source_of r) e)) xs) (breaks_at_first (is_inside (source_of r)) xs))

@@ -15,7 +15,7 @@ use Rattle.muen_num.proofs.Lists.{list_any-map}
 use Rattle.policy_lawful.specs.Rules.{first_overlap}
 use Rattle.policy_lawful.specs.declared.offence.Extent.{Extent}
 use Rattle.rules_extents.specs.Inside.{holds, is_inside}
-use Rattle.rules_extents.specs.AddressRange.{IsApart, range_of, IsBelow}
+use Rattle.rules_extents.specs.AddressRange.{IsApart, address_range_of, IsBelow}
 use Rattle.rules_extents.specs.declared.overlap.AddressRange.{AddressRange}
 use Rattle.rules_extents.proofs.Overlaps.{ranges_apart}
 use Rattle.rules_extents.proofs.Ranges.{EachTwo-permutation, neighbours_from_apart}
@@ -112,17 +112,17 @@ full : (xs : List Extent) → list_all (λ e. nat_lt 0 e.size) xs ≡ true → A
 full xs h = All-weaker (λ (e : Extent). nat_lt 0 e.size ≡ true) (λ e. 0 < e.size) (λ e t. ltb-true 0 e.size t) xs (AllPass-from_list_all (λ (e : Extent). nat_lt 0 e.size) xs h)
 
 -- in order each ends before the next begins
-pub blocks_below : (blocks : List Extent) (ranges : List AddressRange) → first_overlap blocks ≡ None → list_all (λ e. nat_lt 0 e.size) blocks ≡ true → IsPermutation (map range_of blocks) ranges → IsNonDecreasingBy (λ s. s.address) ranges → AllAdjacentBelow IsBelow ranges (length ranges)
+pub blocks_below : (blocks : List Extent) (ranges : List AddressRange) → first_overlap blocks ≡ None → list_all (λ e. nat_lt 0 e.size) blocks ≡ true → IsPermutation (map address_range_of blocks) ranges → IsNonDecreasingBy (λ s. s.address) ranges → AllAdjacentBelow IsBelow ranges (length ranges)
 blocks_below blocks ranges apart sized moved up =
     neighbours_from_apart ranges
-    (All-permutation (λ s. 0 < s.size) (map range_of blocks) ranges moved (All-map (λ s. 0 < s.size) range_of blocks (full blocks sized)))
+    (All-permutation (λ s. 0 < s.size) (map address_range_of blocks) ranges moved (All-map (λ s. 0 < s.size) address_range_of blocks (full blocks sized)))
     up
-    (EachTwo-permutation IsApart (map range_of blocks) ranges moved (ranges_apart blocks apart))
+    (EachTwo-permutation IsApart (map address_range_of blocks) ranges moved (ranges_apart blocks apart))
 
-same_inside : (blocks : List Extent) (ranges : List AddressRange) (e : Extent) → IsPermutation (map range_of blocks) ranges → list_any (holds e) ranges ≡ is_inside blocks e
-same_inside blocks ranges e moved = sym (list_any-IsPermutation (holds e) (map range_of blocks) ranges moved) ∙ list_any-map (holds e) range_of blocks
+same_inside : (blocks : List Extent) (ranges : List AddressRange) (e : Extent) → IsPermutation (map address_range_of blocks) ranges → list_any (holds e) ranges ≡ is_inside blocks e
+same_inside blocks ranges e moved = sym (list_any-IsPermutation (holds e) (map address_range_of blocks) ranges moved) ∙ list_any-map (holds e) address_range_of blocks
 
-pub counted : (blocks : List Extent) (ranges : List AddressRange) (extents : List Extent) → IsPermutation (map range_of blocks) ranges → position_or_len (λ e. not (list_any (holds e) ranges)) extents ≡ position_or_len (λ e. not (is_inside blocks e)) extents
+pub counted : (blocks : List Extent) (ranges : List AddressRange) (extents : List Extent) → IsPermutation (map address_range_of blocks) ranges → position_or_len (λ e. not (list_any (holds e) ranges)) extents ≡ position_or_len (λ e. not (is_inside blocks e)) extents
 counted blocks ranges [] moved = refl
 counted blocks ranges (e ∷ es) moved =
     λ i. cond (not (not (same_inside blocks ranges e moved i))) (1 + counted blocks ranges es moved i) 0

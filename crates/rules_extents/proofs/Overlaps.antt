@@ -13,20 +13,20 @@ use Rattle.policy_lawful.specs.Rules.{are_apart, overlapping, first_overlap}
 use Rattle.policy_lawful.specs.declared.offence.Extent.{Extent}
 use Rattle.muen_num.proofs.SearchLaws.{unless_none}
 use Rattle.rules_extents.specs.declared.overlap.AddressRange.{AddressRange}
-use Rattle.rules_extents.specs.AddressRange.{IsApart, range_of, IsBelow}
+use Rattle.rules_extents.specs.AddressRange.{IsApart, address_range_of, IsBelow}
 use Rattle.muen_num.proofs.FirstPair.{pairs_at, pairs_from, first_pair-last}
 use Rattle.rules_extents.proofs.Ranges.{EachTwo, EachTwo-permutation, apart_from_neighbours, neighbours_from_apart}
 
 -- ---- two ranges
 
-apart_at : (a b : Extent) → overlapping a b ≡ None → IsApart (range_of a) (range_of b)
+apart_at : (a b : Extent) → overlapping a b ≡ None → IsApart (address_range_of a) (address_range_of b)
 apart_at a b e =
     elim (or_cases _ _ (unless_none (are_apart a b) (two a.name b.name) e)) [
       | inl f ↦ inl (leb-true _ _ f)
       | inr f ↦ inr (leb-true _ _ f)
     ]
 
-apart_from : (a b : Extent) → IsApart (range_of a) (range_of b) → overlapping a b ≡ None
+apart_from : (a b : Extent) → IsApart (address_range_of a) (address_range_of b) → overlapping a b ≡ None
 apart_from a b (inl h) = ap (λ t. unless (t || leb (b.address + b.size) a.address) (two a.name b.name)) (le-leb _ _ h)
 apart_from a b (inr h) =
     ap (λ t. unless t (two a.name b.name)) (or_right (leb (a.address + a.size) b.address) (leb (b.address + b.size) a.address) (le-leb _ _ h))
@@ -41,14 +41,14 @@ nowhere : Extent
 nowhere = record { name = []; address = 0; size = 0 }
 
 -- no two overlap just where each two are apart
-pub ranges_apart : (xs : List Extent) → first_overlap xs ≡ None → EachTwo IsApart (map range_of xs)
+pub ranges_apart : (xs : List Extent) → first_overlap xs ≡ None → EachTwo IsApart (map address_range_of xs)
 unfolding first_overlap
 ranges_apart xs e i j d li lj n =
-    let many : length (map range_of xs) ≡ length xs = length-map xs range_of in
+    let many : length (map address_range_of xs) ≡ length xs = length-map xs address_range_of in
     let ki : i < length xs = omega arith in
     let kj : j < length xs = omega arith in
     let pairs = pairs_at overlapping xs e in
-    rw (get_or-map range_of xs i nowhere d ki, get_or-map range_of xs j nowhere d kj) (
+    rw (get_or-map address_range_of xs i nowhere d ki, get_or-map address_range_of xs j nowhere d kj) (
     elim (cases_order i j) [
       | inl same ↦ absurd (n same)
       | inr apart ↦ elim apart [
@@ -58,25 +58,25 @@ ranges_apart xs e i j d li lj n =
     ]
     )
 
-pub overlap_none : (xs : List Extent) → EachTwo IsApart (map range_of xs) → first_overlap xs ≡ None
+pub overlap_none : (xs : List Extent) → EachTwo IsApart (map address_range_of xs) → first_overlap xs ≡ None
 unfolding first_overlap
 overlap_none xs h =
     pairs_from overlapping xs (λ i j d l m.
-    let many : length (map range_of xs) ≡ length xs = length-map xs range_of in
+    let many : length (map address_range_of xs) ≡ length xs = length-map xs address_range_of in
     let k : i < length xs = omega arith in
-    let apart = h i j (range_of d) (omega arith) (omega arith) (omega arith) in
-    apart_from _ _ (rw (get_or-map range_of xs i d (range_of d) k, get_or-map range_of xs j d (range_of d) m) at apart))
+    let apart = h i j (address_range_of d) (omega arith) (omega arith) (omega arith) in
+    apart_from _ _ (rw (get_or-map address_range_of xs i d (address_range_of d) k, get_or-map address_range_of xs j d (address_range_of d) m) at apart))
 
 -- some two overlap just where, in the order of addresses, one doesn't end before the next begins
-pub overlap_is : (xs : List Extent) (ys : List AddressRange) (r : Bool) → All (λ e. 0 < e.size) xs → IsPermutation (map range_of xs) ys → IsNonDecreasingBy (λ s. s.address) ys → (r ≡ true) ↔ AllAdjacentBelow IsBelow ys (length ys) → not r ≡ is_some (first_overlap xs)
+pub overlap_is : (xs : List Extent) (ys : List AddressRange) (r : Bool) → All (λ e. 0 < e.size) xs → IsPermutation (map address_range_of xs) ys → IsNonDecreasingBy (λ s. s.address) ys → (r ≡ true) ↔ AllAdjacentBelow IsBelow ys (length ys) → not r ≡ is_some (first_overlap xs)
 overlap_is xs ys true full moved up h =
-    let apart = EachTwo-permutation IsApart ys (map range_of xs) (IsPermutation-sym _ _ moved) (apart_from_neighbours ys up (h.0 refl)) in
+    let apart = EachTwo-permutation IsApart ys (map address_range_of xs) (IsPermutation-sym _ _ moved) (apart_from_neighbours ys up (h.0 refl)) in
     ap is_some (sym (overlap_none xs apart))
 overlap_is xs ys false full moved up h =
     (elim (first_overlap xs) as (λ o. first_overlap xs ≡ o → true ≡ is_some o) [
       | None ↦ λ e.
-          let apart = EachTwo-permutation IsApart (map range_of xs) ys moved (ranges_apart xs e) in
-          let some = All-permutation (λ s. 0 < s.size) (map range_of xs) ys moved (All-map (λ s. 0 < s.size) range_of xs full) in
+          let apart = EachTwo-permutation IsApart (map address_range_of xs) ys moved (ranges_apart xs e) in
+          let some = All-permutation (λ s. 0 < s.size) (map address_range_of xs) ys moved (All-map (λ s. 0 < s.size) address_range_of xs full) in
           absurd (false≢true (h.1 (neighbours_from_apart ys some up apart)))
       | Some o ↦ λ e. refl
     ]) refl

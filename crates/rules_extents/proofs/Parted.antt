@@ -23,7 +23,7 @@ use Rattle.policy_views.specs.Parts.{behind_views, front_views, given_views}
 use Rattle.policy_views.proofs.ViewsInParts.{in_parts}
 use Rattle.rules_extents.specs.Parted.{AreProvided, kept_at, provided_extent, provided_to}
 use Rattle.rules_extents.specs.Shared.{AreKept, StayApart}
-use Rattle.rules_extents.specs.Windows.{component_ranges, elements_offence, outside, outside_in, overlap_in, provided_offence}
+use Rattle.rules_extents.specs.Windows.{component_ranges, elements_offence, outside, outside_in_subject, overlap_in_subject, provided_offence}
 use Rattle.rules_extents.specs.declared.overlap.AddressRange.{AddressRange}
 use Rattle.rules_extents.proofs.RangesByIndex.{has_size}
 use Rattle.rules_extents.proofs.RangesByIndex as ranges
@@ -55,7 +55,7 @@ given_inside r by None h = refl
 given_inside r by (Some used) h = of_component by (slice_get r.components used.used) (λ c e. none_there component_ranges r.components h used.used c e)
 
 pub outside_parted : (r : Resolution) (s : Subject) → first_in component_ranges r.components ≡ None
-    → outside_in r s ≡ option_or (first_in (outside s.name) (front_views r s)) (first_in (outside s.name) (behind_views r s))
+    → outside_in_subject r s ≡ option_or (first_in (outside s.name) (front_views r s)) (first_in (outside s.name) (behind_views r s))
 outside_parted r s h =
     ap (first_in (outside s.name)) (sym (in_parts r s))
     ∙ first_in-append (outside s.name) (front_views r s ++ given_views r s) (behind_views r s)
@@ -84,13 +84,13 @@ module _ (r : Resolution) (s : Subject) (front behind : List View) (in_front : f
   all_are =
       (λ i. map view_extent (in_front i) ++ map provided_extent (provided_at r.components s.component) ++ map view_extent (after i)) ∙ sym (extents_parted r s)
 
-  pub overlap_parted : first_overlap (map view_extent front ++ map provided_extent (provided_at r.components s.component) ++ map view_extent behind) ≡ overlap_in r s
+  pub overlap_parted : first_overlap (map view_extent front ++ map provided_extent (provided_at r.components s.component) ++ map view_extent behind) ≡ overlap_in_subject r s
   overlap_parted = ap first_overlap all_are
 
-  pub all_sized : outside_in r s ≡ None → list_all (λ e. nat_lt 0 e.size) (map view_extent front ++ map provided_extent (provided_at r.components s.component) ++ map view_extent behind) ≡ true
+  pub all_sized : outside_in_subject r s ≡ None → list_all (λ e. nat_lt 0 e.size) (map view_extent front ++ map provided_extent (provided_at r.components s.component) ++ map view_extent behind) ≡ true
   all_sized inside = ap (list_all has_size) all_are ∙ ranges.windows_sized s.name (views_of r s) inside
 
-  pub others_sized : outside_in r s ≡ None → list_all (λ e. nat_lt 0 e.size) (map view_extent front ++ map view_extent behind) ≡ true
+  pub others_sized : outside_in_subject r s ≡ None → list_all (λ e. nat_lt 0 e.size) (map view_extent front ++ map view_extent behind) ≡ true
   others_sized inside =
       let given = map provided_extent (provided_at r.components s.component) in
       let parts = and_parts (list_all has_size (map view_extent front ++ given)) (list_all has_size (map view_extent behind)) (sym (list_all-append has_size (map view_extent front ++ given) (map view_extent behind)) ∙ all_sized inside) in
@@ -106,9 +106,9 @@ module _ (r : Resolution) (s : Subject) (front behind : List View) (in_front : f
       ap (λ o. first_overlap (map view_extent front ++ map provided_extent (option_map_or (λ c. c.provides) o []) ++ map view_extent behind)) at
       ∙ stay (map provided_extent c.provides) kept
 
-  pub told_apart : (kept : List (Option (List AddressRange))) → AreProvided kept r.components → IsSomeAnd (provided_to kept s.component) (λ ranges. StayApart ranges (map view_extent front) (map view_extent behind)) → None ≡ overlap_in r s
+  pub told_apart : (kept : List (Option (List AddressRange))) → AreProvided kept r.components → IsSomeAnd (provided_to kept s.component) (λ ranges. StayApart ranges (map view_extent front) (map view_extent behind)) → None ≡ overlap_in_subject r s
   told_apart kept are stay =
-      (elim (provided_to kept s.component) as (λ o. provided_to kept s.component ≡ o → IsSomeAnd o (λ ranges. StayApart ranges (map view_extent front) (map view_extent behind)) → None ≡ overlap_in r s) [
+      (elim (provided_to kept s.component) as (λ o. provided_to kept s.component ≡ o → IsSomeAnd o (λ ranges. StayApart ranges (map view_extent front) (map view_extent behind)) → None ≡ overlap_in_subject r s) [
         | None ↦ λ is stay. absurd stay
         | Some apart ↦ λ is stay. sym (told kept s.component are apart is stay) ∙ overlap_parted
       ]) refl stay

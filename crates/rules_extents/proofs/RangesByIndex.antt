@@ -21,16 +21,16 @@ use Rattle.policy_lawful.specs.source.Device.{Device}
 use Rattle.policy_lawful.specs.Views.{view_extent, views_of}
 use Rattle.policy_lawful.specs.declared.view.View.{View}
 use Rattle.policy_lawful.proofs.ExtentsByIndex.{extents_by_index}
-use Rattle.rules_extents.specs.Windows.{addresses_offence, component_ranges, device_extent, device_extents, device_offence, elements_offence, outside, outside_in, overlap_in, physical_extents}
+use Rattle.rules_extents.specs.Windows.{addresses_offence, component_ranges, device_extent, device_extents, device_memory_offence, elements_offence, outside, outside_in_subject, overlap_in_subject, physical_extents}
 
 -- ---- rule 4
 
 ranges_of_component : (c : Component) → component_ranges c ≡ component_offence c
 ranges_of_component c = simp (option_or_assoc, option_or-None)
 
-outside_named : (r : Resolution) → IsResolved r → first_in (window_offence (source_of r)) (map (subject_named r) r.subjects) ≡ first_in (outside_in r) r.subjects
+outside_named : (r : Resolution) → IsResolved r → first_in (window_offence (source_of r)) (map (subject_named r) r.subjects) ≡ first_in (outside_in_subject r) r.subjects
 outside_named r q =
-    first_in-map (subject_named r) (window_offence (source_of r)) (outside_in r) (subject_in_range r)
+    first_in-map (subject_named r) (window_offence (source_of r)) (outside_in_subject r) (subject_in_range r)
     (λ s in_range.
     ap (first_in (λ e. unless (is_guest e.address e.size) (two s.name e.name))) (extents_by_index r s q in_range)
     ∙ first_over-map view_extent (λ e. unless (is_guest e.address e.size) (two s.name e.name)) (views_of r s))
@@ -41,11 +41,11 @@ unfolding offence_4 source_of
 addresses_by_index r q = simp (outside_named r q, first_in_same component_ranges component_offence ranges_of_component r.components, option_or_assoc, option_or-None)
 
 -- what keeps rule 4, part by part
-parts_none : (r : Resolution) → IsResolved r → offence_4 (source_of r) ≡ None → (elements_offence r ≡ None) × (first_in (outside_in r) r.subjects ≡ None)
-parts_none r q h = none_both (elements_offence r) (first_in (outside_in r) r.subjects) (addresses_by_index r q ∙ h)
+parts_none : (r : Resolution) → IsResolved r → offence_4 (source_of r) ≡ None → (elements_offence r ≡ None) × (first_in (outside_in_subject r) r.subjects ≡ None)
+parts_none r q h = none_both (elements_offence r) (first_in (outside_in_subject r) r.subjects) (addresses_by_index r q ∙ h)
 
 -- windows that keep it
-pub none_outside : (r : Resolution) → IsResolved r → offence_4 (source_of r) ≡ None → first_in (outside_in r) r.subjects ≡ None
+pub none_outside : (r : Resolution) → IsResolved r → offence_4 (source_of r) ≡ None → first_in (outside_in_subject r) r.subjects ≡ None
 none_outside r q h = (parts_none r q h).1
 
 -- ---- ranges that aren't empty
@@ -62,16 +62,16 @@ blocks_sized bs h =
     list_all-map has_size block_extent bs
     ∙ each_from (λ b. is_physical b.physical_address b.size) (λ b. nat_lt 0 b.size) (λ b. sized (is_page_aligned b.physical_address) b.size _) bs h
 
-device_sized : (d : Device) → device_offence d ≡ None → list_all has_size (map device_extent d.memory) ≡ true
+device_sized : (d : Device) → device_memory_offence d ≡ None → list_all has_size (map device_extent d.memory) ≡ true
 device_sized d h =
     list_all-map has_size device_extent d.memory
     ∙ each_from (λ m. is_physical m.physical_address m.size) (λ m. nat_lt 0 m.size) (λ m. sized (is_page_aligned m.physical_address) m.size _) d.memory
     (all_pass (λ m. is_physical m.physical_address m.size) (λ m. two d.name m.name) d.memory h)
 
-devices_sized : (ds : List Device) → first_in device_offence ds ≡ None → list_all has_size (device_extents ds) ≡ true
+devices_sized : (ds : List Device) → first_in device_memory_offence ds ≡ None → list_all has_size (device_extents ds) ≡ true
 devices_sized [] h = refl
 devices_sized (d ∷ ds) h =
-    let both = none_both (device_offence d) (first_in device_offence ds) h in
+    let both = none_both (device_memory_offence d) (first_in device_memory_offence ds) h in
     list_all-append has_size (map device_extent d.memory) (device_extents ds)
     ∙ and_from (list_all has_size (map device_extent d.memory)) (list_all has_size (device_extents ds)) (device_sized d both.0) (devices_sized ds both.1)
 
@@ -80,7 +80,7 @@ pub physical_sized : (r : Resolution) → offence_4 (source_of r) ≡ None → l
 unfolding offence_4 source_of
 physical_sized r h =
     let blocks = none_both (first_in (λ b. unless (is_physical b.physical_address b.size) (alone b.name)) r.memory_blocks) _ h in
-    let devices = none_both (first_in device_offence r.devices) _ blocks.1 in
+    let devices = none_both (first_in device_memory_offence r.devices) _ blocks.1 in
     let sizes = blocks_sized r.memory_blocks (all_pass (λ b. is_physical b.physical_address b.size) (λ b. alone b.name) r.memory_blocks blocks.0) in
     list_all-append has_size (map block_extent r.memory_blocks) (device_extents r.devices)
     ∙ and_from (list_all has_size (map block_extent r.memory_blocks)) (list_all has_size (device_extents r.devices)) sizes (devices_sized r.devices devices.0)
@@ -94,10 +94,10 @@ windows_sized name vs h =
 
 -- ---- rule 5
 
-pub windows_apart : (r : Resolution) → IsResolved r → first_in (overlap_in r) r.subjects ≡ offence_5 (source_of r)
+pub windows_apart : (r : Resolution) → IsResolved r → first_in (overlap_in_subject r) r.subjects ≡ offence_5 (source_of r)
 unfolding offence_5 source_of
 windows_apart r q =
-    sym (first_in-map (subject_named r) (λ s. first_overlap (window_extents (source_of r) s)) (overlap_in r) (subject_in_range r)
+    sym (first_in-map (subject_named r) (λ s. first_overlap (window_extents (source_of r) s)) (overlap_in_subject r) (subject_in_range r)
     (λ s in_range. ap first_overlap (extents_by_index r s q in_range)) r.subjects (parts_in_range r q.in_range).subjects)
 
 -- ---- rule 18

@@ -4,8 +4,8 @@ use Rattle.policy_lawful.specs.declared.offence.Extent.{Extent}
 use Rattle.rules_extents.specs.declared.overlap.AddressRange.{AddressRange}
 
 -- a range without its name
-abbrev pub range_of : Extent → AddressRange
-range_of e = record { address = e.address; size = e.size }
+abbrev pub address_range_of : Extent → AddressRange
+address_range_of e = record { address = e.address; size = e.size }
 
 -- the first ends at or before the address of the second
 abbrev pub IsBelow : AddressRange → AddressRange → Type 0

@@ -2,7 +2,7 @@
 use Rattle.std.specs.Prelude.{◌+◌, ◌&&◌, Bool, List, nat_le}
 use Rattle.std.specs.List.{list_any}
 use Rattle.policy_lawful.specs.declared.offence.Extent.{Extent}
-use Rattle.rules_extents.specs.AddressRange.{range_of}
+use Rattle.rules_extents.specs.AddressRange.{address_range_of}
 use Rattle.rules_extents.specs.declared.overlap.AddressRange.{AddressRange}
 
 -- the range lies wholly in this one
@@ -11,4 +11,4 @@ holds e s = nat_le s.address e.address && nat_le (e.address + e.size) (s.address
 
 -- it lies wholly in one of the blocks
 abbrev pub is_inside : List Extent → Extent → Bool
-is_inside blocks e = list_any (λ b. holds e (range_of b)) blocks
+is_inside blocks e = list_any (λ b. holds e (address_range_of b)) blocks

@@ -3,12 +3,12 @@ use Rattle.std.specs.Prelude.{◌≡◌, ℕ, ◌-◌, ◌<◌, List, ◌++◌, 
 use Rattle.std.specs.List.Sorted.{IsPermutation}
 use Rattle.policy_lawful.specs.Rules.{first_overlap}
 use Rattle.policy_lawful.specs.declared.offence.Extent.{Extent}
-use Rattle.rules_extents.specs.AddressRange.{IsBelow, range_of}
+use Rattle.rules_extents.specs.AddressRange.{IsBelow, address_range_of}
 use Rattle.rules_extents.specs.declared.overlap.AddressRange.{AddressRange}
 
 -- these ranges are kept, in another order
 abbrev pub AreKept : List AddressRange → List Extent → Type 0
-AreKept ranges extents = IsPermutation (map range_of extents) ranges
+AreKept ranges extents = IsPermutation (map address_range_of extents) ranges
 
 -- whatever extents are kept, those in front of them and those behind share no address with them nor with each other
 abbrev pub StayApart : List AddressRange → List Extent → List Extent → Type 0

@@ -27,18 +27,18 @@ abbrev pub outside : List ℕ → View → Option Offence
 outside by v = unless (is_guest v.guest v.size) (two by v.name)
 
 -- the first such window of a subject
-abbrev pub outside_in : Resolution → Subject → Option Offence
-outside_in r s = first_in (outside s.name) (views_of r s)
+abbrev pub outside_in_subject : Resolution → Subject → Option Offence
+outside_in_subject r s = first_in (outside s.name) (views_of r s)
 
 -- the first two windows of a subject that share an address
-abbrev pub overlap_in : Resolution → Subject → Option Offence
-overlap_in r s = first_overlap (map view_extent (views_of r s))
+abbrev pub overlap_in_subject : Resolution → Subject → Option Offence
+overlap_in_subject r s = first_overlap (map view_extent (views_of r s))
 
 -- ---- physical memory
 
 -- memory of this device that isn't a range of physical memory
-abbrev pub device_offence : Device → Option Offence
-device_offence d = first_in (λ m. unless (is_physical m.physical_address m.size) (two d.name m.name)) d.memory
+abbrev pub device_memory_offence : Device → Option Offence
+device_memory_offence d = first_in (λ m. unless (is_physical m.physical_address m.size) (two d.name m.name)) d.memory
 
 -- memory of a device as a named range
 abbrev pub device_extent : DeviceMemory → Extent
@@ -79,11 +79,11 @@ abbrev pub elements_offence : Resolution → Option Offence
 elements_offence r =
     option_or (option_or (option_or (option_or
     (first_in (λ b. unless (is_physical b.physical_address b.size) (alone b.name)) r.memory_blocks)
-    (first_in device_offence r.devices))
+    (first_in device_memory_offence r.devices))
     (first_in (λ r. unless (is_laid r) (alone r.name)) r.memory))
     (first_in (λ c. unless (is_page_size c.size) (alone c.name)) r.channels))
     (first_in component_ranges r.components)
 
 -- those, then the windows
 abbrev pub addresses_offence : Resolution → Option Offence
-addresses_offence r = option_or (elements_offence r) (first_in (outside_in r) r.subjects)
+addresses_offence r = option_or (elements_offence r) (first_in (outside_in_subject r) r.subjects)

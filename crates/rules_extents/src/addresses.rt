@@ -5,7 +5,7 @@ ghost use Rattle.policy_lawful.specs.Offences.{alone};
 ghost use Rattle.policy_lawful.specs.Rules.{is_page_size, is_physical, is_guest, is_alignment, is_fixed, is_laid, offence_4};
 ghost use Rattle.muen_num.specs.Numbers.{is_page_aligned};
 ghost use Rattle.policy_lawful.specs.Resolution.{IsResolved, source_of};
-ghost use Rattle.rules_extents.specs.Windows.{addresses_offence, component_channel_offence, component_ranges, device_offence, elements_offence, provided_offence, range_offence, required_offence};
+ghost use Rattle.rules_extents.specs.Windows.{addresses_offence, component_channel_offence, component_ranges, device_memory_offence, elements_offence, provided_offence, range_offence, required_offence};
 
 use crate::windows::outside;
 use muen_num::limits::{GUEST_END, LARGE_PAGE, PAGE, PHYSICAL_END};
@@ -80,7 +80,7 @@ fn blocks(blocks: &[Block]) -> Option<Offence>
 
 // The first memory of a device that isn't one.
 fn device(device: &Device) -> Option<Offence>
-    ensures { result ≡ device_offence device.now }
+    ensures { result ≡ device_memory_offence device.now }
 {
     first(device.memory.items(), |memory| {
         Offence {
@@ -92,7 +92,7 @@ fn device(device: &Device) -> Option<Offence>
 }
 
 fn devices(devices: &[Device]) -> Option<Offence>
-    ensures { result ≡ first_in device_offence devices.now }
+    ensures { result ≡ first_in device_memory_offence devices.now }
 {
     first(devices, |each| device(each))
 }

@@ -7,7 +7,7 @@ ghost use Rattle.policy_lawful.specs.Rules.{first_overlap, offence_4, offence_5,
 ghost use Rattle.policy_views.specs.Parts.{behind_views, front_views};
 ghost use Rattle.rules_extents.specs.Parted.{AreProvided, provided_extent, provided_to};
 ghost use Rattle.rules_extents.specs.Shared.{StayApart};
-ghost use Rattle.rules_extents.specs.Windows.{device_extent, device_extents, outside_in, overlap_in, physical_extents};
+ghost use Rattle.rules_extents.specs.Windows.{device_extent, device_extents, outside_in_subject, overlap_in_subject, physical_extents};
 
 use crate::overlap::first_overlap;
 use crate::shared::Apart;
@@ -171,9 +171,9 @@ fn of_subject(
 ) -> Result<Option<Offence>, NoMemory>
     requires front { front.now ≡ front_views policy.now subject.now }
     requires behind { behind.now ≡ behind_views policy.now subject.now }
-    requires inside { outside_in policy.now subject.now ≡ None }
+    requires inside { outside_in_subject policy.now subject.now ≡ None }
     requires provided { AreProvided provided.now policy.now.components }
-    ensures { IfOk result (λ o. o ≡ overlap_in policy.now subject.now) }
+    ensures { IfOk result (λ o. o ≡ overlap_in_subject policy.now subject.now) }
 {
     let front = view_extents(alloc, front)?;
     let behind = view_extents(alloc, behind)?;

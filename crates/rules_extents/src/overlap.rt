@@ -6,7 +6,7 @@ ghost use Rattle.std.specs.List.Sorted.{IsPermutation, IsNonDecreasingBy};
 ghost use Rattle.muen_num.specs.Search.{first_in};
 ghost use Rattle.policy_lawful.specs.Offences.{alone};
 ghost use Rattle.policy_lawful.specs.Rules.{are_apart, overlapping, first_overlap};
-ghost use Rattle.rules_extents.specs.AddressRange.{range_of, IsBelow};
+ghost use Rattle.rules_extents.specs.AddressRange.{address_range_of, IsBelow};
 
 use muen_num::{NoMemory, first};
 use policy_lawful::{Extent, Offence};
@@ -22,7 +22,7 @@ pub(crate) struct AddressRange {
 impl AddressRange {
     /// The range of an extent.
     pub(crate) fn of(extent: &Extent) -> AddressRange
-        ensures { result ≡ range_of extent.now }
+        ensures { result ≡ address_range_of extent.now }
     {
         AddressRange {
             address: extent.address,
@@ -48,14 +48,14 @@ fn are_apart(a: &Extent, b: &Extent) -> bool
 
 // The ranges in their order, without their names.
 fn ranges(alloc: Global, extents: &[Extent]) -> Result<Vec<AddressRange>, AllocError>
-    ensures { IfOk result (λ v. v.items ≡ map range_of extents.now) }
+    ensures { IfOk result (λ v. v.items ≡ map address_range_of extents.now) }
 {
     extents.iter().map(AddressRange::of).collect(alloc)
 }
 
 /// The ranges in the order of their addresses.
 pub(crate) fn rising(alloc: Global, extents: &[Extent]) -> Result<Vec<AddressRange>, AllocError>
-    ensures moved { IfOk result (λ v. IsPermutation (map range_of extents.now) v.items) }
+    ensures moved { IfOk result (λ v. IsPermutation (map address_range_of extents.now) v.items) }
     ensures rising { IfOk result (λ v. IsNonDecreasingBy (λ s. s.address) v.items) }
 {
     let mut rising = ranges(alloc, extents)?;

@@ -2,7 +2,7 @@
 ghost use Rattle.std.specs.Prelude.{◌≡◌, ◌≤◌, ◌++◌, true, length, nat_lt, IfOk, IfSome, IsTrue};
 ghost use Rattle.std.specs.List.{All, AllAdjacentBelow, list_all};
 ghost use Rattle.std.specs.List.Sorted.{IsNonDecreasingBy};
-ghost use Rattle.rules_extents.specs.AddressRange.{IsApart, IsBelow, range_of};
+ghost use Rattle.rules_extents.specs.AddressRange.{IsApart, IsBelow, address_range_of};
 ghost use Rattle.rules_extents.specs.Shared.{AreKept, IsBehind, IsInFront, StayApart};
 
 use crate::inside::count_before;
@@ -54,7 +54,7 @@ fn is_in_front(ranges: &[AddressRange], count: usize, range: AddressRange) -> bo
 fn is_clear(ranges: &[AddressRange], extent: &Extent) -> bool
     requires rising { IsNonDecreasingBy (λ s. s.address) ranges.now }
     requires below { AllAdjacentBelow IsBelow ranges.now (length ranges.now) }
-    ensures { IsTrue result → All (λ s. IsApart s (range_of extent.now)) ranges.now }
+    ensures { IsTrue result → All (λ s. IsApart s (address_range_of extent.now)) ranges.now }
 {
     let count = count_before(ranges, extent.address);
     let range = AddressRange::of(extent);
@@ -65,7 +65,7 @@ fn is_clear(ranges: &[AddressRange], extent: &Extent) -> bool
 fn are_clear(ranges: &[AddressRange], extents: &[Extent]) -> bool
     requires rising { IsNonDecreasingBy (λ s. s.address) ranges.now }
     requires below { AllAdjacentBelow IsBelow ranges.now (length ranges.now) }
-    ensures { IsTrue result → All (λ e. All (λ s. IsApart s (range_of e)) ranges.now) extents.now }
+    ensures { IsTrue result → All (λ e. All (λ s. IsApart s (address_range_of e)) ranges.now) extents.now }
 {
     for extent in extents {
         if !is_clear(ranges, extent) {

@@ -1,7 +1,7 @@
 // The windows of subjects, as named ranges of guest addresses.
 ghost use Rattle.std.specs.Prelude.{◌≡◌, None, map, IfOk};
 ghost use Rattle.muen_num.specs.Search.{first_in};
-ghost use Rattle.rules_extents.specs.Windows.{component_ranges, outside, outside_in};
+ghost use Rattle.rules_extents.specs.Windows.{component_ranges, outside, outside_in_subject};
 ghost use Rattle.policy_lawful.specs.Views.{view_extent};
 
 use crate::addresses::is_guest;
@@ -45,7 +45,7 @@ fn outside_among(by: &Name, views: &[View]) -> Option<Offence>
 /// provides are such, where the component keeps the rule.
 pub(crate) fn outside(policy: &Linked) -> Option<Offence>
     requires { first_in component_ranges policy.now.components ≡ None }
-    ensures { result ≡ first_in (outside_in policy.now) policy.now.subjects }
+    ensures { result ≡ first_in (outside_in_subject policy.now) policy.now.subjects }
 {
     first_numbered(policy.subjects(), |index, subject| {
         outside_among(&subject.name, policy.front(index)).or_else(|| outside_among(

@@ -13,7 +13,7 @@ use Rattle.policy_lawful.specs.source.Block.{Block}
 use Rattle.policy_lawful.specs.source.Source.{Source}
 use Rattle.region_alloc.proofs.EachInTurn.{regions_in_turn}
 use Rattle.region_alloc.proofs.Spots.{least_passes}
-use Rattle.region_alloc.specs.Placement.{address_in, by_number, if_placed, in_turn, is_apart, is_room, lowest, placed_after, placement_in, placement_of, spot, suits}
+use Rattle.region_alloc.specs.Placement.{address_in, addresses_by_number, if_placed, in_turn, is_apart, is_room, lowest, placed_after, placement_in, placement_of, spot, suits}
 use Rattle.span_emit.proofs.KeptRegions.{IsWhole}
 use Rattle.policy_lawful.specs.Ranges.{in_a_block}
 
@@ -64,7 +64,7 @@ aligned_after blocks (x ∷ rest) spots out e k h n =
     ])
     n
 
-made : (many : ℕ) (placed : _) (addresses : List ℕ) → by_number many placed ≡ Ok addresses → (out : _) × (placed ≡ Ok out) × (addresses ≡ map (address_in out) (numbers_below many))
+made : (many : ℕ) (placed : _) (addresses : List ℕ) → addresses_by_number many placed ≡ Ok addresses → (out : _) × (placed ≡ Ok out) × (addresses ≡ map (address_in out) (numbers_below many))
 made many (Ok out) addresses e = (out, refl, cc)
 made many (Err r) addresses e = absurd (cc)
 

@@ -7,7 +7,7 @@ use Rattle.std.proofs.lemmas.List.Folds.{list_all-map}
 use Rattle.expand_kernel.specs.Grants.{AreGrantsOf}
 use Rattle.expand_kernel.specs.Resources.{msr_grant}
 use Rattle.expand_kernel.specs.granted.Grants.{Grants}
-use Rattle.msrbm_emit.specs.Area.{count_of, size_of}
+use Rattle.msrbm_emit.specs.Area.{msr_count, size_of}
 use Rattle.msrbm_emit.specs.Msrs.{is_covered}
 use Rattle.muen_num.proofs.Lists.{passes_at, sum_by-map}
 use Rattle.muen_num.specs.declared.limits.TheConstants.{MOST_MSRS, MOST_WINDOWS}
@@ -28,8 +28,8 @@ module _ (r : Resolution) (k : ℕ) (s : Subject) (g : Grants) (at : slice_get r
       ∙ list_all-map is_covered msr_grant s.msrs
       ∙ (and_parts (list_all is_msr_range s.msrs) (msrs_apart s.msrs) ranges).0
 
-  pub msrs_few : offence_20 (source_of r) ≡ None → count_of g.msrs ≤ MOST_MSRS
-  unfolding source_of count_of
+  pub msrs_few : offence_20 (source_of r) ≡ None → msr_count g.msrs ≤ MOST_MSRS
+  unfolding source_of msr_count
   msrs_few h =
       let few : has_few (source_of r) (subject_named r s) ≡ true =
       passes_at (λ s. has_few (source_of r) (subject_named r s)) r.subjects k s (sym (list_all-map (has_few (source_of r)) (subject_named r) r.subjects) ∙ (limits_kept (source_of r) h).subjects) at in

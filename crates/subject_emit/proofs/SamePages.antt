@@ -1,7 +1,7 @@
 -- The guest addresses of a subject's windows are those of its views, wherever what they show lies.
 use Rattle.std.proofs.Common.{◌≡◌, ℕ, ◌+◌, ◌≤◌, sym, ap, subst}
 use Rattle.std.specs.List.{AllPairs}
-use Rattle.ept_emit.specs.Pages.{AreApart, ept_pages, range_of, ranges_of}
+use Rattle.ept_emit.specs.Pages.{AreApart, ept_pages, guest_range_of, ranges_of}
 use Rattle.ept_emit.specs.declared.window.GuestRange.{GuestRange}
 use Rattle.ept_emit.specs.declared.window.Window.{Window}
 use Rattle.expand_kernel.specs.granted.Grants.{Grants}
@@ -15,7 +15,7 @@ use Rattle.subject_emit.specs.Mapped.{mapped, mapped_windows}
 
 module _ (x : Placement) (subject : ℕ) (g : Grants) where
   pub ranges_same : ranges_of (mapped_windows x subject g) ≡ view_ranges g.views
-  ranges_same = map-map range_of (mapped x subject) g.views
+  ranges_same = map-map guest_range_of (mapped x subject) g.views
 
   pub pages_same : ept_pages (ranges_of (mapped_windows x subject g)) ≡ ept_pages (view_ranges g.views)
   pages_same = ap ept_pages ranges_same
@@ -24,4 +24,4 @@ module _ (x : Placement) (subject : ℕ) (g : Grants) where
   is_before a b = a.guest + a.size ≤ b.guest
 
   pub apart_mapped : AreApart (view_ranges g.views) → AllPairs (λ (a b : Window). a.guest + a.size ≤ b.guest) (mapped_windows x subject g)
-  apart_mapped h = pairs_unmapped range_of is_before (mapped_windows x subject g) (subst AreApart (sym ranges_same) h)
+  apart_mapped h = pairs_unmapped guest_range_of is_before (mapped_windows x subject g) (subst AreApart (sym ranges_same) h)

@@ -17,7 +17,7 @@ use Rattle.muen_num.specs.Range.{numbers_below}
 use Rattle.muen_num.specs.declared.limits.TheConstants.{PHYSICAL_END}
 use Rattle.policy_lawful.specs.source.Block.{Block}
 use Rattle.region_alloc.specs.Placed.{IsPlaced, Placement}
-use Rattle.region_alloc.specs.Placement.{address_in, by_number, if_placed, in_turn, is_room, lowest, placed_after, placement_in, spot, suits}
+use Rattle.region_alloc.specs.Placement.{address_in, addresses_by_number, if_placed, in_turn, is_room, lowest, placed_after, placement_in, spot, suits}
 use Rattle.region_alloc.proofs.EachInTurn.{each_from_turns, each_in_turn, numbered_at}
 use Rattle.region_alloc.proofs.Sized.{placement_is}
 use Rattle.region_alloc.proofs.Spots.{all_found, each_after, least_passes}
@@ -108,7 +108,7 @@ made address_in by ok err many (Err r) addresses e = let both = sym (err many r)
 suits_in : (blocks : List Block) (regions : List Region) (addresses : List ℕ) → placement_in blocks regions ≡ Ok addresses → (i : ℕ) (r : Region) → slice_get regions i ≡ Some r → suits r r.fixed (get_or addresses i 0) ≡ true
 unfolding placement_in placed_after lowest is_room
 suits_in blocks regions addresses e i r at =
-    let parts = made address_in by_number (λ n out. refl) (λ n r. refl) (length regions) (placed_after blocks (in_turn regions) []) addresses e in
+    let parts = made address_in addresses_by_number (λ n out. refl) (λ n r. refl) (length regions) (placed_after blocks (in_turn regions) []) addresses e in
     suited_at spot (λ q. q.number) (λ q. q.address) regions (placed_after blocks)
     (record {
       last = λ spots out e. cc;

@@ -8,7 +8,7 @@ use Rattle.expand_kernel.specs.Regions.{kernel_number}
 use Rattle.expand_kernel.specs.declared.kernel.KernelRegion.TheVariants.{Tables}
 use Rattle.iobm_emit.specs.Ports.{is_granted_access}
 use Rattle.machine_layout.specs.Exits.{area_bytes, msr_exits, port_exits}
-use Rattle.msrbm_emit.specs.Area.{area_of, count_of}
+use Rattle.msrbm_emit.specs.Area.{area_of, msr_count}
 use Rattle.policy_lawful.specs.MsrGrants.{is_granted}
 use Rattle.muen_num.specs.declared.limits.TheConstants.{PAGE, MOST_MSRS}
 use Rattle.machine_layout.specs.PageFields.{padded}
@@ -43,5 +43,5 @@ pub record ArePages (x : Placement) (subject : ℕ) (s : Subject) (g : Grants) (
   pub ports : (port size : ℕ) → port_exits (take PAGE q.ports) (drop PAGE q.ports) port size ≡ not (is_granted_access g.ports port size)
   pub msrs_len : length q.msrs ≡ PAGE
   pub msrs : (index : ℕ) (write : Bool) → msr_exits q.msrs index write ≡ not (is_granted g.msrs index write)
-  pub few : count_of g.msrs ≤ MOST_MSRS
+  pub few : msr_count g.msrs ≤ MOST_MSRS
   pub area : q.area ≡ padded PAGE (area_bytes (area_of g.msrs))

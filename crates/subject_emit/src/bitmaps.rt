@@ -3,7 +3,7 @@ ghost use Rattle.std.specs.Prelude.{◌≡◌, ◌*◌, ◌≤◌, ℕ, not, Boo
 ghost use Rattle.std.specs.List.{list_all};
 ghost use Rattle.iobm_emit.specs.Ports.{is_granted_access};
 ghost use Rattle.machine_layout.specs.Exits.{area_bytes, msr_exits, port_exits};
-ghost use Rattle.msrbm_emit.specs.Area.{area_of, count_of};
+ghost use Rattle.msrbm_emit.specs.Area.{area_of, msr_count};
 ghost use Rattle.msrbm_emit.specs.Msrs.{is_covered};
 ghost use Rattle.policy_lawful.specs.MsrGrants.{is_granted};
 ghost use Rattle.machine_layout.specs.PageFields.{padded};
@@ -58,7 +58,7 @@ pub(crate) fn msr_bitmap(alloc: Global, msrs: &[MsrGrant]) -> Result<Seq<u8>, No
 
 /// The MSR area for these grants.
 pub(crate) fn msr_area(alloc: Global, msrs: &[MsrGrant]) -> Result<Seq<u8>, NoMemory>
-    requires { count_of msrs.now ≤ MOST_MSRS }
+    requires { msr_count msrs.now ≤ MOST_MSRS }
     ensures { IfOk result (λ area. area ≡ padded PAGE (area_bytes (area_of msrs.now))) }
 {
     let mut area = blank_page(alloc)?;

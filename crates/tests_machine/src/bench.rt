@@ -1,6 +1,6 @@
 //! A run that is made by hand.
 ghost use Rattle.std.specs.Prelude.{◌≡◌, IfOk};
-ghost use Rattle.device_bench.specs.Devices.{IsInOrder};
+ghost use Rattle.device_bench.specs.Devices.{IsRecordInOrder};
 
 use crate::agree::{agree, agree_at};
 use device_bench::{Bench, Effect, Record, TickInput, TickOrder};
@@ -30,7 +30,7 @@ fn order(alloc: Global, tick: u32, cpus: [u8; 2]) -> Result<TickOrder, Fail>
 
 /// Inputs in the ticks 0, 3, 3, 3 and 8, and orders in 3 and 9.
 fn record(alloc: Global) -> Result<Record<Effect>, Fail>
-    ensures { IfOk result IsInOrder }
+    ensures { IfOk result IsRecordInOrder }
 {
     let inputs = [port(0, 1), port(3, 2), port(3, 1), port(3, 4), port(8, 5)];
     let orders = [order(alloc, 3, [1, 0])?, order(alloc, 9, [0, 1])?];

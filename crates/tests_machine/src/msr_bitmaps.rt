@@ -33,7 +33,7 @@ fn bits_of_two_grants(rt: HostRuntime) -> Result<(), Fail> {
 }
 
 #[test]
-#[tactic(auto, unfolding(msrbm_emit::specs::Area::count_of))]
+#[tactic(auto, unfolding(msrbm_emit::specs::Area::msr_count))]
 fn area_of_two_grants(rt: HostRuntime) -> Result<(), Fail> {
     let mut area = vec![in rt.alloc(); 0xFFu8; 4096]?;
     emit_area(&[SYSENTER, EFER], &mut area);

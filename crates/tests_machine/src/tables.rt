@@ -1,6 +1,6 @@
 //! Tables that were worked by hand.
 ghost use Rattle.std.specs.Prelude.{◌≡◌, All, IfOk, IsTrue};
-ghost use Rattle.ept_emit.specs.Pages.{AreApart, IsMapped, range_of, ranges_of};
+ghost use Rattle.ept_emit.specs.Pages.{AreApart, IsMapped, guest_range_of, ranges_of};
 ghost use Rattle.ept_emit.specs.Entries.{IsEmittable, level_of};
 ghost use Rattle.machine_layout.specs.Walks.{entry_size};
 
@@ -97,7 +97,7 @@ fn entries_set(out: &[u8]) -> usize {
 }
 
 fn range_of(window: &Window) -> GuestRange
-    ensures { result ≡ range_of window.now }
+    ensures { result ≡ guest_range_of window.now }
 {
     GuestRange {
         guest: window.guest,

@@ -6,7 +6,7 @@ use Rattle.std.proofs.lemmas.Bool.Decides.{nat_tests}
 use Rattle.std.proofs.lemmas.List.Splits.{length-slice_split}
 use Rattle.std.specs.Char.{is_digit, digit_value}
 use Rattle.std.proofs.Math.Bool.{and_assoc}
-use Rattle.text_words.specs.Groups.{underscore, groups_of, is_group, with_digit, value_of, number_of_groups}
+use Rattle.text_words.specs.Groups.{underscore, groups_of, is_digit_group, with_digit, hexadecimal_value_of, number_of_groups}
 
 -- the number once these characters are read too, where the digits before them are worth n,
 -- and `begun` says whether the group that goes on here has a digit
@@ -20,7 +20,7 @@ read_on n begun (c ∷ rest) =
 -- the groups have a digit each, where the first may have begun before
 abbrev all_groups : Bool → List (List ℕ) → Bool
 all_groups begun [] = false
-all_groups begun (g ∷ gs) = (begun || nat_lt 0 (length g)) && (list_all (λ c. is_digit c 16) g && list_all is_group gs)
+all_groups begun (g ∷ gs) = (begun || nat_lt 0 (length g)) && (list_all (λ c. is_digit c 16) g && list_all is_digit_group gs)
 
 abbrev bounded : Bool → ℕ → Option ℕ
 bounded fits n = if fits && nat_lt n (2 ^ 64) then Some n else None
@@ -33,9 +33,9 @@ grows : (n : ℕ) (cs : List ℕ) → n ≤ fold with_digit n cs
 grows n [] = omega arith
 grows n (c ∷ cs) = omega (arith, grows (with_digit n c) cs)
 
-first_begins : (gs : List (List ℕ)) → 0 < length gs → list_all is_group gs ≡ all_groups false gs
+first_begins : (gs : List (List ℕ)) → 0 < length gs → list_all is_digit_group gs ≡ all_groups false gs
 first_begins [] h = absurd (omega arith)
-first_begins (g ∷ gs) h = and_assoc (nat_lt 0 (length g)) (list_all (λ c. is_digit c 16) g) (list_all is_group gs)
+first_begins (g ∷ gs) h = and_assoc (nat_lt 0 (length g)) (list_all (λ c. is_digit c 16) g) (list_all is_digit_group gs)
 
 with_first : (c : ℕ) (gs : List (List ℕ)) → concat (onto_first c gs) ≡ c ∷ concat gs
 with_first c [] = refl
@@ -47,9 +47,9 @@ more_than_none c g = grind (arith, nat_tests)
 
 begun_by : (begun : Bool) (c : ℕ) (gs : List (List ℕ)) → 0 < length gs → all_groups begun (onto_first c gs) ≡ (is_digit c 16 && all_groups true gs)
 begun_by begun c [] h = absurd (omega arith)
-begun_by true c (g ∷ gs) h = and_assoc (is_digit c 16) (list_all (λ c. is_digit c 16) g) (list_all is_group gs)
+begun_by true c (g ∷ gs) h = and_assoc (is_digit c 16) (list_all (λ c. is_digit c 16) g) (list_all is_digit_group gs)
 begun_by false c (g ∷ gs) h =
-    ap (λ b. b && (list_all (λ c. is_digit c 16) (c ∷ g) && list_all is_group gs)) (more_than_none c g) ∙ and_assoc (is_digit c 16) (list_all (λ c. is_digit c 16) g) (list_all is_group gs)
+    ap (λ b. b && (list_all (λ c. is_digit c 16) (c ∷ g) && list_all is_digit_group gs)) (more_than_none c g) ∙ and_assoc (is_digit c 16) (list_all (λ c. is_digit c 16) g) (list_all is_digit_group gs)
 
 -- a text has at least one group
 some_group : (cs : List ℕ) → 0 < length (groups_of cs)
@@ -108,4 +108,4 @@ read_on_is n begun (c ∷ rest) h =
     ]
 
 pub read_on_groups : (cs : List ℕ) → read_on 0 false cs ≡ number_of_groups (groups_of cs)
-read_on_groups cs = read_on_is 0 false cs (omega arith) ∙ ap (λ b. bounded b (value_of (concat (groups_of cs)))) (sym (first_begins (groups_of cs) (some_group cs)))
+read_on_groups cs = read_on_is 0 false cs (omega arith) ∙ ap (λ b. bounded b (hexadecimal_value_of (concat (groups_of cs)))) (sym (first_begins (groups_of cs) (some_group cs)))

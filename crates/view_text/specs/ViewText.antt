@@ -39,17 +39,17 @@ unfoldable pub turn_text : TurnLine → List ℕ
 turn_text l =
     decimal l.tick ++ codes " " ++ decimal l.cpu ++ codes " " ++ l.subject ++ codes " " ++ hex16 l.pc ++ codes " " ++ what_text l.what ++ codes "\n"
 
-abbrev pub flag : Bool → ℕ → ℕ
-flag false n = 0
-flag true n = n
+abbrev pub printed_flag : Bool → ℕ → ℕ
+printed_flag false n = 0
+printed_flag true n = n
 
 -- interrupts 1, halted 2, stopped 4, exited 8
-abbrev pub flags_of : SubjectState → ℕ
-flags_of s = flag s.interrupts 1 + flag s.halted 2 + flag s.stopped 4 + flag s.exited 8
+abbrev pub printed_flags_of : SubjectState → ℕ
+printed_flags_of s = printed_flag s.interrupts 1 + printed_flag s.halted 2 + printed_flag s.stopped 4 + printed_flag s.exited 8
 
 unfoldable pub end_line_text : List ℕ → SubjectState → List ℕ
 end_line_text subject s =
-    codes "end " ++ subject ++ codes " " ++ hex16 s.pc ++ codes " " ++ hex16 s.epc ++ codes " " ++ hex16 s.vbase ++ codes " " ++ decimal (flags_of s) ++ codes "\n"
+    codes "end " ++ subject ++ codes " " ++ hex16 s.pc ++ codes " " ++ hex16 s.epc ++ codes " " ++ hex16 s.vbase ++ codes " " ++ decimal (printed_flags_of s) ++ codes "\n"
 
 unfoldable pub registers_text : List ℕ → List ℕ → ℕ → List ℕ
 registers_text subject regs first =
@@ -58,13 +58,13 @@ registers_text subject regs first =
     ++ codes " " ++ hex16 (slice_index regs (first + 2)) ++ codes " " ++ hex16 (slice_index regs (first + 3)) ++ codes "\n"
 
 -- a row of a subject's final state: row 0, or the four registers from 4 * (row - 1)
-abbrev pub state_text : List ℕ → SubjectState → ℕ → List ℕ
-state_text subject s row =
+abbrev pub state_row_text : List ℕ → SubjectState → ℕ → List ℕ
+state_row_text subject s row =
     if row == 0 then end_line_text subject s else registers_text subject s.regs (4 * (row - 1))
 
 -- the five lines of a subject's final state
 abbrev pub rows_text : List ℕ → SubjectState → List ℕ
-rows_text subject s = flat_map (state_text subject s) (0 ∷ 1 ∷ 2 ∷ 3 ∷ 4 ∷ [])
+rows_text subject s = flat_map (state_row_text subject s) (0 ∷ 1 ∷ 2 ∷ 3 ∷ 4 ∷ [])
 
 abbrev pub kind_word : Bool → List ℕ
 kind_word true = codes "device"

@@ -2,7 +2,7 @@
 #![tactic(auto)]
 
 ghost use Rattle.std.specs.Prelude.{◌≡◌, ◌+◌, ◌≤◌, ◌++◌, length, take};
-ghost use Rattle.view_text.specs.ViewText.{turn_text, what_text, change_text, exit_end_text, flags_of, state_text, end_line_text, registers_text, region_text, kind_word};
+ghost use Rattle.view_text.specs.ViewText.{turn_text, what_text, change_text, exit_end_text, printed_flags_of, state_row_text, end_line_text, registers_text, region_text, kind_word};
 
 use guest_isa::Change;
 pub use guest_isa::SubjectState;
@@ -197,7 +197,7 @@ pub fn turn_line(l: &TurnLine, out: &mut [u8; 256]) -> usize
 
 // The flags as one number: interrupts 1, halted 2, stopped 4, exited 8.
 fn flags(s: &SubjectState) -> u8
-    ensures value { result ≡ flags_of s.now }
+    ensures value { result ≡ printed_flags_of s.now }
     ensures within { result ≤ 15 }
 {
     u8::from(s.interrupts)
@@ -250,7 +250,7 @@ fn registers_line(subject: &Name, regs: &[u64; 16], first: u8, out: &mut [u8; 25
 pub fn state_line(subject: &Name, s: &SubjectState, row: u8, out: &mut [u8; 256]) -> usize
     requires { row ≤ 4 }
     ensures within { result ≤ 160 }
-    ensures text { take result out.new ≡ state_text subject.now s.now row }
+    ensures text { take result out.new ≡ state_row_text subject.now s.now row }
 {
     if row == 0 {
         end_line(subject, s, out)

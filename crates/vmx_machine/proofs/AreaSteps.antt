@@ -7,7 +7,7 @@ use Rattle.muen_num.specs.Range.{numbers_below}
 use Rattle.machine_layout.specs.Exits.{AreaEntry, area_index, area_value}
 use Rattle.machine_layout.specs.Memory.{Page, store_of}
 use Rattle.machine_layout.specs.PageFields.{number_at}
-use Rattle.vmx_machine.specs.Machine.{page_at, entries_in, filled, save_value, entry_saved, saved, written}
+use Rattle.vmx_machine.specs.Machine.{page_bytes_at, entries_in, msrs_loaded, save_value, entry_saved, saved, written}
 use Rattle.vmx_machine.specs.MsrFile.{value_in, with_msr}
 
 index_is : (area : List ℕ) (i : ℕ) → area_index area i ≡ number_at area (16 * i) 4
@@ -21,14 +21,14 @@ value_is area i = refl
 -- ---- saving
 
 module _ (file : List ℕ) (area : ℕ) where
-  saved_by : (i index : ℕ) (o : Option ℕ) (pages : List Page) → index ≡ number_at (page_at pages area) (16 * i) 4 → o ≡ value_in file index → save_value o (4096 * area + (16 * i + 8)) pages ≡ entry_saved file area i pages
+  saved_by : (i index : ℕ) (o : Option ℕ) (pages : List Page) → index ≡ number_at (page_bytes_at pages area) (16 * i) 4 → o ≡ value_in file index → save_value o (4096 * area + (16 * i + 8)) pages ≡ entry_saved file area i pages
   saved_by i index o pages e h =
-      ap (λ v. save_value v (4096 * area + (16 * i + 8)) pages) (h ∙ ap (value_in file) (e ∙ sym (index_is (page_at pages area) i)))
+      ap (λ v. save_value v (4096 * area + (16 * i + 8)) pages) (h ∙ ap (value_in file) (e ∙ sym (index_is (page_bytes_at pages area) i)))
 
-  pub entry_passed : (i index : ℕ) (pages : List Page) → index ≡ number_at (page_at pages area) (16 * i) 4 → None ≡ value_in file index → pages ≡ entry_saved file area i pages
+  pub entry_passed : (i index : ℕ) (pages : List Page) → index ≡ number_at (page_bytes_at pages area) (16 * i) 4 → None ≡ value_in file index → pages ≡ entry_saved file area i pages
   entry_passed i index pages e h = saved_by i index None pages e h
 
-  pub entry_put : (i index value : ℕ) (pages : List Page) → index ≡ number_at (page_at pages area) (16 * i) 4 → Some value ≡ value_in file index → store_of pages (4096 * area + (16 * i + 8)) 8 value ≡ entry_saved file area i pages
+  pub entry_put : (i index value : ℕ) (pages : List Page) → index ≡ number_at (page_bytes_at pages area) (16 * i) 4 → Some value ≡ value_in file index → store_of pages (4096 * area + (16 * i + 8)) 8 value ≡ entry_saved file area i pages
   entry_put i index value pages e h = saved_by i index (Some value) pages e h
 
   saved-append : (is : List ℕ) (i : ℕ) (pages : List Page) → saved file area (is ++ i ∷ []) pages ≡ entry_saved file area i (saved file area is pages)
@@ -45,21 +45,21 @@ module _ (file : List ℕ) (area : ℕ) where
 
 -- ---- loading
 
-filled-append : (es : List AreaEntry) (e : AreaEntry) (file : List ℕ) → filled (es ++ e ∷ []) file ≡ with_msr e.index e.value (filled es file)
+filled-append : (es : List AreaEntry) (e : AreaEntry) (file : List ℕ) → msrs_loaded (es ++ e ∷ []) file ≡ with_msr e.index e.value (msrs_loaded es file)
 filled-append [] e file = refl
 filled-append (f ∷ es) e file = filled-append es e (with_msr f.index f.value file)
 
-filled_more : (area : List ℕ) (n index value : ℕ) (file : List ℕ) → index ≡ number_at area (16 * n) 4 → value ≡ number_at area (16 * n + 8) 8 → filled (entries_in (n + 1) area) file ≡ with_msr index value (filled (entries_in n area) file)
+filled_more : (area : List ℕ) (n index value : ℕ) (file : List ℕ) → index ≡ number_at area (16 * n) 4 → value ≡ number_at area (16 * n + 8) 8 → msrs_loaded (entries_in (n + 1) area) file ≡ with_msr index value (msrs_loaded (entries_in n area) file)
 filled_more area n index value file e h =
     let entry : ℕ → AreaEntry = λ i. record { index = area_index area i; value = area_value area i } in
-    ap (λ is. filled (map entry is) file) (one_more n)
-    ∙ (ap (λ es. filled es file) (map-append entry (numbers_below n) (n ∷ []))
+    ap (λ is. msrs_loaded (map entry is) file) (one_more n)
+    ∙ (ap (λ es. msrs_loaded es file) (map-append entry (numbers_below n) (n ∷ []))
     ∙ (filled-append (entries_in n area) (entry n) file
-    ∙ (ap (λ i. with_msr i (area_value area n) (filled (entries_in n area) file)) (index_is area n ∙ sym e)
-    ∙ ap (λ v. with_msr index v (filled (entries_in n area) file)) (value_is area n ∙ sym h))))
+    ∙ (ap (λ i. with_msr i (area_value area n) (msrs_loaded (entries_in n area) file)) (index_is area n ∙ sym e)
+    ∙ ap (λ v. with_msr index v (msrs_loaded (entries_in n area) file)) (value_is area n ∙ sym h))))
 
 -- one more entry is loaded
-pub filled_step : (area : List ℕ) (n k index value : ℕ) (start before after : List ℕ) → k ≡ n → index ≡ number_at area (16 * k) 4 → value ≡ number_at area (16 * k + 8) 8 → before ≡ filled (entries_in n area) start → after ≡ with_msr index value before → after ≡ filled (entries_in (n + 1) area) start
+pub filled_step : (area : List ℕ) (n k index value : ℕ) (start before after : List ℕ) → k ≡ n → index ≡ number_at area (16 * k) 4 → value ≡ number_at area (16 * k + 8) 8 → before ≡ msrs_loaded (entries_in n area) start → after ≡ with_msr index value before → after ≡ msrs_loaded (entries_in (n + 1) area) start
 filled_step area n k index value start before after e i v b h =
     h ∙ (ap (with_msr index value) b ∙ sym (filled_more area n index value start (i ∙ ap (λ m. number_at area (16 * m) 4) e) (v ∙ ap (λ m. number_at area (16 * m + 8) 8) e)))
 

@@ -12,7 +12,7 @@ use Rattle.machine_layout.specs.Memory.{Page, is_there, change, over, le_bytes, 
 use Rattle.machine_layout.specs.Walks.{bits_of, index_at, entry_size, is_present, is_leaf, is_misconfigured, reads, walk_from, walk_of, entry_of, root_of}
 use Rattle.machine_layout.specs.declared.walk.Walk.{Walk}
 use Rattle.machine_layout.specs.declared.walk.Walk.TheVariants.{At, Violation, Misconfigured}
-use Rattle.vmx_machine.specs.Within.{IsWithin, EndsWithin}
+use Rattle.vmx_machine.specs.Within.{IsWithinPage, EndsWithin}
 
 pub stored_within : (m : List Page) (page offset n v : ℕ) → offset < 4096 → store_of m (4096 * page + offset) n v ≡ change m page (λ old. over old offset (le_bytes n v))
 stored_within m page offset n v h =
@@ -91,7 +91,7 @@ bit_fits Write = omega arith
 bit_fits Fetch = omega arith
 
 -- an address is in a page, and its offset there is a multiple of what it is a multiple of
-pub page_within : (address : ℕ) (size : AccessSize) → address % bytes_of size ≡ 0 → address < 2 ^ 64 → IsWithin (address / 4096) (address % 4096) (bytes_of size)
+pub page_within : (address : ℕ) (size : AccessSize) → address % bytes_of size ≡ 0 → address < 2 ^ 64 → IsWithinPage (address / 4096) (address % 4096) (bytes_of size)
 page_within address One h l = record { below = omega arith; inside = omega arith; aligned = omega arith }
 page_within address Two h l = record { below = omega arith; inside = omega arith; aligned = omega arith }
 page_within address Four h l = record { below = omega arith; inside = omega arith; aligned = omega arith }

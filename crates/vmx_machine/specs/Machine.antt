@@ -41,8 +41,8 @@ pub record MachineState : Type 0 where
   pub cpus : List Cpu
 
 -- the bytes of a page; none where it isn't there
-abbrev pub page_at : List Page → ℕ → List ℕ
-page_at pages k = unwrap_or (page_of pages k) []
+abbrev pub page_bytes_at : List Page → ℕ → List ℕ
+page_bytes_at pages k = unwrap_or (page_of pages k) []
 
 -- ---- what a step asks of the machine: targets are pages
 
@@ -56,26 +56,26 @@ abbrev pub look_in : List Page → ℕ → AccessKind → ℕ → Reach ℕ
 look_in pages eptp kind addr = reach_by kind addr (walk_of pages eptp addr kind)
 
 abbrev pub ports_exit : List Page → Control → ℕ → ℕ → Bool
-ports_exit pages c port size = port_exits (page_at pages c.io_bitmaps) (page_at pages (c.io_bitmaps + 1)) port size
+ports_exit pages c port size = port_exits (page_bytes_at pages c.io_bitmaps) (page_bytes_at pages (c.io_bitmaps + 1)) port size
 
 abbrev pub ports_input : List Page → Control → List ℕ → ℕ → ℕ → Option ℕ
 ports_input pages c ports port size =
     if ports_exit pages c port size then None else Some (value_of_ports ports port size)
 
 abbrev pub msr_exits_in : List Page → Control → ℕ → Bool → Bool
-msr_exits_in pages c index write = msr_exits (page_at pages c.msr_bitmap) index write
+msr_exits_in pages c index write = msr_exits (page_bytes_at pages c.msr_bitmap) index write
 
-abbrev pub msr_input : List Page → Control → List ℕ → ℕ → Option ℕ
-msr_input pages c file index = if msr_exits_in pages c index false then None else value_in file index
+abbrev pub machine_msr_input : List Page → Control → List ℕ → ℕ → Option ℕ
+machine_msr_input pages c file index = if msr_exits_in pages c index false then None else value_in file index
 
 -- by the tables, bitmaps and MSRs of who is entered, the input bytes of the ports, and the tick
 abbrev pub machine_world : List Page → Control → List ℕ → List ℕ → ℕ → World ℕ
 machine_world pages c file ports tick = record {
   look = look_in pages c.eptp;
-  bytes = page_at pages;
+  bytes = page_bytes_at pages;
   input = ports_input pages c ports;
   output = λ port size. not (ports_exit pages c port size);
-  msr = msr_input pages c file;
+  msr = machine_msr_input pages c file;
   sets_msr = λ index. not (msr_exits_in pages c index true);
   tick = tick;
 }
@@ -84,7 +84,7 @@ machine_world pages c file ports tick = record {
 
 abbrev pub load_answer : List Page → Entered → SubjectState → ℕ → ℕ → AccessSize → Answer ℕ
 load_answer pages e after reg addr size =
-    loaded (page_at pages) e.state after reg (bytes_of size) (reach_of (look_in pages e.control.eptp) Read (bytes_of size) addr)
+    loaded (page_bytes_at pages) e.state after reg (bytes_of size) (reach_of (look_in pages e.control.eptp) Read (bytes_of size) addr)
 
 abbrev pub store_answer : List Page → Entered → SubjectState → ℕ → AccessSize → ℕ → Answer ℕ
 store_answer pages e after addr size value =
@@ -116,9 +116,9 @@ abbrev pub with_store : Option (Stored ℕ) → List Page → List Page
 with_store None pages = pages
 with_store (Some w) pages = change pages w.target (λ old. over old w.offset w.bytes)
 
-abbrev pub with_write : Option MsrWrite → List ℕ → List ℕ
-with_write None file = file
-with_write (Some w) file = with_msr w.index w.value file
+abbrev pub msr_file_with_write : Option MsrWrite → List ℕ → List ℕ
+msr_file_with_write None file = file
+msr_file_with_write (Some w) file = with_msr w.index w.value file
 
 -- ---- who is on a CPU
 
@@ -134,14 +134,14 @@ state_on m cpu = option_map (λ e. e.state) (entered_on m cpu)
 abbrev pub entries_in : ℕ → List ℕ → List AreaEntry
 entries_in n area = map (λ i. record { index = area_index area i; value = area_value area i }) (numbers_below n)
 
-abbrev pub filled : List AreaEntry → List ℕ → List ℕ
-filled [] file = file
-filled (e ∷ es) file = filled es (with_msr e.index e.value file)
+abbrev pub msrs_loaded : List AreaEntry → List ℕ → List ℕ
+msrs_loaded [] file = file
+msrs_loaded (e ∷ es) file = msrs_loaded es (with_msr e.index e.value file)
 
 abbrev pub put_on : List Page → Control → Cpu → Cpu
 put_on pages c u = record {
-  entered = Some (record { control = c; state = state_in (page_at pages c.state) });
-  file = filled (entries_in c.msrs (page_at pages c.msr_area)) u.file;
+  entered = Some (record { control = c; state = state_in (page_bytes_at pages c.state) });
+  file = msrs_loaded (entries_in c.msrs (page_bytes_at pages c.msr_area)) u.file;
 }
 
 abbrev pub entered : ℕ → Control → MachineState → MachineState
@@ -157,7 +157,7 @@ save_value (Some value) at pages = store_of pages at 8 value
 -- entry i of the area in this page
 abbrev pub entry_saved : List ℕ → ℕ → ℕ → List Page → List Page
 entry_saved file area i pages =
-    save_value (value_in file (area_index (page_at pages area) i)) (4096 * area + (16 * i + 8)) pages
+    save_value (value_in file (area_index (page_bytes_at pages area) i)) (4096 * area + (16 * i + 8)) pages
 
 abbrev pub saved : List ℕ → ℕ → List ℕ → List Page → List Page
 saved file area [] pages = pages
@@ -208,7 +208,7 @@ pub record CpuStepped : Type 0 where
 abbrev pub answered : Control → List ℕ → List Page → Answer ℕ → CpuStepped
 answered c file pages a = record {
   pages = with_store a.stored pages;
-  cpu = record { entered = Some (record { control = c; state = a.state }); file = with_write a.msr file };
+  cpu = record { entered = Some (record { control = c; state = a.state }); file = msr_file_with_write a.msr file };
   end = a.end;
 }
 

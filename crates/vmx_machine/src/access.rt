@@ -2,7 +2,7 @@
 ghost use Rattle.std.specs.Prelude.{◌≡◌, ◌/◌, ◌%◌, ◌^◌, ◌<◌, ◌≤◌};
 ghost use Rattle.muen_num.specs.AccessSize.{bytes_of};
 ghost use Rattle.guest_isa.specs.Step.{reach_of};
-ghost use Rattle.vmx_machine.specs.Machine.{look_in, ports_exit, ports_input, msr_exits_in, msr_input};
+ghost use Rattle.vmx_machine.specs.Machine.{look_in, ports_exit, ports_input, msr_exits_in, machine_msr_input};
 ghost use Rattle.vmx_machine.specs.Within.{LeadsWithin};
 
 use crate::bus::Bus;
@@ -120,7 +120,7 @@ impl<M: PhysMem, T: Translate> Bus<M, T> {
 
     /// The value of an MSR, unless reading it exits.
     pub(crate) fn msr_input(&self, control: &Control, file: &MsrFile, index: u32) -> Option<u64>
-        ensures { result ≡ msr_input self.now control.now file.now index }
+        ensures { result ≡ machine_msr_input self.now control.now file.now index }
     {
         if self.msr_exits(control, index, false) {
             None

@@ -6,8 +6,8 @@ ghost use Rattle.muen_num.specs.AccessSize.{bytes_of};
 ghost use Rattle.machine_layout.specs.PageFields.{number_at};
 ghost use Rattle.state_page.specs.StatePage.{page_bytes, state_in};
 ghost use Rattle.guest_isa.specs.Step.{word_at};
-ghost use Rattle.vmx_machine.specs.Machine.{page_at, entries_in, filled, entry_saved, saved, put_off, written};
-ghost use Rattle.vmx_machine.specs.Within.{IsWithin};
+ghost use Rattle.vmx_machine.specs.Machine.{page_bytes_at, entries_in, msrs_loaded, entry_saved, saved, put_off, written};
+ghost use Rattle.vmx_machine.specs.Within.{IsWithinPage};
 
 use crate::cpu::Entered;
 use crate::msr_file::MsrFile;
@@ -63,7 +63,7 @@ impl<M: PhysMem, T: Translate> Bus<M, T> {
 
     /// The bytes of a page. None where it isn't there.
     pub(crate) fn page(&self, number: u64) -> &[u8]
-        ensures { result.now ≡ page_at self.now number }
+        ensures { result.now ≡ page_bytes_at self.now number }
     {
         match self.memory.page(number) {
             None => &[],
@@ -74,9 +74,9 @@ impl<M: PhysMem, T: Translate> Bus<M, T> {
     /// The number at an offset in a page. It is 0 where the page isn't there.
     #[tactic(auto, unfolding(machine_layout::specs::PageFields::number_at))]
     pub(crate) fn load(&self, page: u64, offset: u64, size: AccessSize) -> u64
-        requires { IsWithin page offset (bytes_of size) }
-        ensures number { result ≡ number_at (page_at self.now page) offset (bytes_of size) }
-        ensures word { result ≡ word_at (bytes_of size) (page_at self.now page) offset }
+        requires { IsWithinPage page offset (bytes_of size) }
+        ensures number { result ≡ number_at (page_bytes_at self.now page) offset (bytes_of size) }
+        ensures word { result ≡ word_at (bytes_of size) (page_bytes_at self.now page) offset }
     {
         self.memory.load(PAGE * page + offset, size).unwrap_or(0)
     }
@@ -93,7 +93,7 @@ impl<M: PhysMem, T: Translate> Bus<M, T> {
     /// Stores a number at an offset in a page.
     #[tactic(auto, using(crate::proofs::StoreWithin::stored_within))]
     pub(crate) fn store_in(&mut self, page: u64, offset: u64, size: AccessSize, value: u64)
-        requires { IsWithin page offset (bytes_of size) }
+        requires { IsWithinPage page offset (bytes_of size) }
         ensures { self.new ≡ change self.old page (λ old. over old offset (le_bytes (bytes_of size) value)) }
     {
         self.store(PAGE * page + offset, size, value);
@@ -101,7 +101,7 @@ impl<M: PhysMem, T: Translate> Bus<M, T> {
 
     /// The state that is kept in a page. All is 0 where the page isn't there.
     pub(crate) fn state_in(&self, page: u32) -> SubjectState
-        ensures { result ≡ state_in (page_at self.now page) }
+        ensures { result ≡ state_in (page_bytes_at self.now page) }
     {
         match self.memory.page(u64::from(page)) {
             None => SubjectState::zero(),
@@ -143,7 +143,7 @@ impl<M: PhysMem, T: Translate> Bus<M, T> {
 
     /// Loads an area's first entries, in order, into the MSR file.
     pub(crate) fn fill(&self, area: u32, count: u8, file: &mut MsrFile)
-        ensures { file.new ≡ filled (entries_in count (page_at self.now area)) file.old }
+        ensures { file.new ≡ msrs_loaded (entries_in count (page_bytes_at self.now area)) file.old }
     {
         let page = u64::from(area);
         for entry in 0..count {

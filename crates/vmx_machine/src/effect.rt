@@ -2,7 +2,7 @@
 //! instruction already; where its wish exits, it goes back to `pc`, where it was.
 ghost use Rattle.std.specs.Prelude.{◌≡◌, ◌<◌, ℕ, not, true, false};
 ghost use Rattle.guest_isa.specs.Step.{sets, port_qualification, port_read, port_written, msr_read, msr_written};
-ghost use Rattle.vmx_machine.specs.Machine.{load_answer, store_answer, with_store, with_write, back_at};
+ghost use Rattle.vmx_machine.specs.Machine.{load_answer, store_answer, with_store, msr_file_with_write, back_at};
 
 use crate::bus::Bus;
 use crate::cpu::Entered;
@@ -194,7 +194,7 @@ pub(crate) fn msr_write(
     exits: bool,
 ) -> StepEnd
     ensures state { s.new ≡ (msr_written {X = ℕ} (not exits) (record s.old { pc = pc }) s.old index value).state }
-    ensures file { file.new ≡ with_write (msr_written {X = ℕ} (not exits) (record s.old { pc = pc }) s.old index value).msr file.old }
+    ensures file { file.new ≡ msr_file_with_write (msr_written {X = ℕ} (not exits) (record s.old { pc = pc }) s.old index value).msr file.old }
     ensures end { result ≡ (msr_written {X = ℕ} (not exits) (record s.old { pc = pc }) s.old index value).end }
 {
     if exits {

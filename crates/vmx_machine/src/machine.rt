@@ -1,7 +1,7 @@
 //! The machine.
 ghost use Rattle.std.specs.Prelude.{◌≡◌, ◌+◌, ◌^◌, ◌<◌, length, replicate, option_map, IfOk};
 ghost use Rattle.state_page.specs.StatePage.{state_in};
-ghost use Rattle.vmx_machine.specs.Machine.{page_at, fresh, started, entered, left, state_on, vector_injected, exit_finished, machine_step, device_wrote};
+ghost use Rattle.vmx_machine.specs.Machine.{page_bytes_at, fresh, started, entered, left, state_on, vector_injected, exit_finished, machine_step, device_wrote};
 
 use crate::bus::Bus;
 use crate::control::Control;
@@ -83,7 +83,7 @@ impl<M: PhysMem, T: Translate> Machine<M, T> {
 
     /// The state that a state page has, by the page's number.
     pub fn state_in(&self, page: u32) -> SubjectState
-        ensures { result ≡ state_in (page_at self.now.pages page) }
+        ensures { result ≡ state_in (page_bytes_at self.now.pages page) }
     {
         self.bus.state_in(page)
     }

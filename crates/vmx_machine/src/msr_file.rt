@@ -1,7 +1,7 @@
 //! The machine-specific registers of a CPU.
 ghost use Rattle.std.specs.Prelude.{◌≡◌, IfOk};
 ghost use Rattle.muen_num.specs.ListChange.{change_at};
-ghost use Rattle.vmx_machine.specs.MsrFile.{slot_of, value_in, with_msr, most};
+ghost use Rattle.vmx_machine.specs.MsrFile.{msr_slot_of, value_in, with_msr, most};
 ghost use Rattle.muen_num.specs.Numbers.{zeros};
 
 use muen_num::NoMemory;
@@ -32,7 +32,7 @@ impl Model for MsrFile {
 
 // The slot of an MSR. None of one outside both ranges.
 fn slot_of(index: u64) -> Option<usize>
-    ensures { result ≡ slot_of index }
+    ensures { result ≡ msr_slot_of index }
 {
     if index <= LOW_MSR_LAST {
         return Some(index as usize);

@@ -1,7 +1,7 @@
 //! One step of the subject that is on a CPU.
 ghost use Rattle.std.specs.Prelude.{◌≡◌, ◌<◌};
 ghost use Rattle.guest_isa.specs.GuestIsa.{IsValid, IsValidWish};
-ghost use Rattle.vmx_machine.specs.Machine.{executed_on, performed_at, step_answer, with_store, with_write, cpu_step};
+ghost use Rattle.vmx_machine.specs.Machine.{executed_on, performed_at, step_answer, with_store, msr_file_with_write, cpu_step};
 
 use crate::bus::Bus;
 use crate::cpu::{Cpu, Entered};
@@ -28,7 +28,7 @@ impl Entered {
     ) -> StepEnd
         requires { IsValidWish wish }
         ensures pages { bus.new ≡ with_store (performed_at bus.old file.old bench.now.ports tick pc self.old wish).stored bus.old }
-        ensures file { file.new ≡ with_write (performed_at bus.old file.old bench.now.ports tick pc self.old wish).msr file.old }
+        ensures file { file.new ≡ msr_file_with_write (performed_at bus.old file.old bench.now.ports tick pc self.old wish).msr file.old }
         ensures entered { self.new ≡ record self.old { state = (performed_at bus.old file.old bench.now.ports tick pc self.old wish).state } }
         ensures end { result ≡ (performed_at bus.old file.old bench.now.ports tick pc self.old wish).end }
     {
@@ -70,7 +70,7 @@ impl Entered {
     ) -> StepEnd
         requires { IsValid instruction }
         ensures pages { bus.new ≡ with_store (executed_on bus.old file.old bench.now.ports tick self.old instruction).stored bus.old }
-        ensures file { file.new ≡ with_write (executed_on bus.old file.old bench.now.ports tick self.old instruction).msr file.old }
+        ensures file { file.new ≡ msr_file_with_write (executed_on bus.old file.old bench.now.ports tick self.old instruction).msr file.old }
         ensures entered { self.new ≡ record self.old { state = (executed_on bus.old file.old bench.now.ports tick self.old instruction).state } }
         ensures end { result ≡ (executed_on bus.old file.old bench.now.ports tick self.old instruction).end }
     {
@@ -88,7 +88,7 @@ impl Entered {
         tick: u32,
     ) -> StepEnd
         ensures pages { bus.new ≡ with_store (step_answer bus.old file.old bench.now.ports tick self.old).stored bus.old }
-        ensures file { file.new ≡ with_write (step_answer bus.old file.old bench.now.ports tick self.old).msr file.old }
+        ensures file { file.new ≡ msr_file_with_write (step_answer bus.old file.old bench.now.ports tick self.old).msr file.old }
         ensures entered { self.new ≡ record self.old { state = (step_answer bus.old file.old bench.now.ports tick self.old).state } }
         ensures end { result ≡ (step_answer bus.old file.old bench.now.ports tick self.old).end }
     {

@@ -6,7 +6,7 @@ ghost use Rattle.std.specs.List.{find};
 ghost use Rattle.binary_form.specs.Form.{Form, Gives, only, byte};
 ghost use Rattle.binary_form.specs.Name.{name};
 ghost use Rattle.binary_form.specs.declared.fault.Field.{Field};
-ghost use Rattle.image_pack.specs.Image.{is_listed, range, device_name, window_name, is_window, after_window, window, after_irq, irq, after_device, device, nothing_left};
+ghost use Rattle.image_pack.specs.Image.{is_listed_name, range, device_name, window_name, is_window, after_window, window_form, after_irq, irq, after_device, device, nothing_left};
 
 use crate::codes::{is_target, part_name, target_of};
 use crate::items::{Item, items_of};
@@ -20,14 +20,14 @@ use muen_num::{Name, PortSpan, Seq};
 use std::alloc::{AllocError, Global};
 
 fn is_listed(names: &[Name], name: &Name) -> bool
-    ensures { result ≡ is_listed names.now name.now }
+    ensures { result ≡ is_listed_name names.now name.now }
 {
     names.iter().any(|other| other == name)
 }
 
 // A name that isn't one of these.
 fn new_name_of<'a>(names: &[Name], bytes: &'a [u8]) -> Result<(Name, &'a [u8]), FormError>
-    ensures { Gives (λ x. (x.0, x.1.now)) result ((only (λ n. not (is_listed names.now n)) Field.Name name).read bytes.now) }
+    ensures { Gives (λ x. (x.0, x.1.now)) result ((only (λ n. not (is_listed_name names.now n)) Field.Name name).read bytes.now) }
 {
     match name_of(bytes) {
         Ok((name, rest)) => {
@@ -109,7 +109,7 @@ fn window_name(spans: &[SpanPart], number: u16) -> Option<Name>
 }
 
 impl Item for WindowPart {
-    ghost use Rattle.image_pack.specs.Image.{window, after_window};
+    ghost use Rattle.image_pack.specs.Image.{window_form, after_window};
 
     type Among = Outline;
 
@@ -117,9 +117,9 @@ impl Item for WindowPart {
 
     ghost next = { after_window };
 
-    ghost form = { window };
+    ghost form = { window_form };
 
-    #[tactic(auto, unfolding(binary_form::specs::Form::only, binary_form::specs::Form::field, binary_form::specs::Form::done, crate::specs::Image::window, crate::specs::Image::is_window, crate::specs::Image::after_window))]
+    #[tactic(auto, unfolding(binary_form::specs::Form::only, binary_form::specs::Form::field, binary_form::specs::Form::done, crate::specs::Image::window_form, crate::specs::Image::is_window, crate::specs::Image::after_window))]
     fn read<'a>(
         alloc: Global,
         among: &Outline,

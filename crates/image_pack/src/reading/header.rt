@@ -4,7 +4,7 @@
 ghost use Rattle.std.specs.Prelude.{◌≡◌};
 ghost use Rattle.binary_form.specs.Form.{Form, Gives, only, byte};
 ghost use Rattle.binary_form.specs.declared.fault.Field.{Field};
-ghost use Rattle.image_pack.specs.Image.{is_between, tau0_span, tau0_at, counts, header, group, nothing_left};
+ghost use Rattle.image_pack.specs.Image.{is_between_inclusive, tau0_span, tau0_at, counts, header, group, nothing_left};
 
 use crate::codes::mark_of;
 use crate::items::Item;
@@ -20,14 +20,14 @@ use std::alloc::{AllocError, Global};
 
 /// Whether a number lies between two others, or is one of them.
 pub(crate) fn is_between(low: u64, high: u64, n: u64) -> bool
-    ensures { result ≡ is_between low high n }
+    ensures { result ≡ is_between_inclusive low high n }
 {
     low <= n && n <= high
 }
 
 // A count of one byte that lies between two numbers.
 fn count_of(bytes: &[u8], low: u64, high: u64) -> Result<(u8, &[u8]), FormError>
-    ensures { Gives (λ x. (x.0, x.1.now)) result ((only (is_between low high) Field.Count byte).read bytes.now) }
+    ensures { Gives (λ x. (x.0, x.1.now)) result ((only (is_between_inclusive low high) Field.Count byte).read bytes.now) }
 {
     let (count, rest) = byte_of(bytes)?;
     if is_between(low, high, u64::from(count)) {
@@ -48,7 +48,7 @@ fn tau0_span(spans: u16, bytes: &[u8]) -> Result<(u16, &[u8]), FormError>
     Ok((number, rest))
 }
 
-#[tactic(auto, unfolding(binary_form::specs::Form::either, binary_form::specs::Form::present, binary_form::specs::Form::absent, crate::specs::Image::tau0_at))]
+#[tactic(auto, unfolding(binary_form::specs::Form::either, binary_form::specs::Form::present, binary_form::specs::Form::absent_value, crate::specs::Image::tau0_at))]
 fn tau0_of(has_tau0: bool, spans: u16, bytes: &[u8]) -> Result<(Option<u16>, &[u8]), FormError>
     ensures { Gives (λ x. (x.0, x.1.now)) result ((tau0_at has_tau0 spans).read bytes.now) }
 {

@@ -3,7 +3,7 @@
 
 ghost use Rattle.std.specs.Prelude.{◌≡◌};
 ghost use Rattle.binary_form.specs.Form.{Form, items};
-ghost use Rattle.image_pack.specs.Image.{is_between, is_ticks, add_ticks, minor, frames, next_cpu, major, nothing_left};
+ghost use Rattle.image_pack.specs.Image.{is_between_inclusive, is_ticks, add_ticks, minor_frame_form, frames, next_cpu, major, nothing_left};
 
 use crate::items::{Item, items_of};
 use crate::outline::Outline;
@@ -42,7 +42,7 @@ fn is_ticks(before: &FramesBefore, ticks: u32) -> bool
 }
 
 impl Item for Minor {
-    ghost use Rattle.image_pack.specs.Image.{minor, add_ticks};
+    ghost use Rattle.image_pack.specs.Image.{minor_frame_form, add_ticks};
 
     type Among = Outline;
 
@@ -50,9 +50,9 @@ impl Item for Minor {
 
     ghost next = { add_ticks };
 
-    ghost form = { minor };
+    ghost form = { minor_frame_form };
 
-    #[tactic(auto, unfolding(binary_form::specs::Form::only, binary_form::specs::Form::field, binary_form::specs::Form::gap, binary_form::specs::Form::done, crate::specs::Image::minor))]
+    #[tactic(auto, unfolding(binary_form::specs::Form::only, binary_form::specs::Form::field, binary_form::specs::Form::gap, binary_form::specs::Form::done, crate::specs::Image::minor_frame_form))]
     fn read<'a>(
         alloc: Global,
         among: &Outline,

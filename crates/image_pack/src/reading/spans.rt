@@ -3,7 +3,7 @@
 
 ghost use Rattle.std.specs.Prelude.{◌≡◌, ◌+◌, ◌*◌, ◌<◌, ◌≤◌, IfOk, IsTrue, length};
 ghost use Rattle.binary_form.specs.Form.{Form, Gives, items};
-ghost use Rattle.image_pack.specs.Image.{after, pages_with, device_pages_with, is_address, is_size, is_new, suits_tau0, has_room, is_kind, title, span, no_spans_before};
+ghost use Rattle.image_pack.specs.Image.{after, pages_with, device_pages_with, is_address, is_span_size, is_new, suits_tau0, spans_have_room, is_kind, title, span, no_spans_before};
 
 use crate::codes::{is_part, kind_byte_of, part_of};
 use crate::items::{Item, items_of};
@@ -39,7 +39,7 @@ fn is_address(end: u64, address: u64) -> bool
 
 // Whether pages from there on are some, and end where memory does or before it.
 fn is_size(address: u64, pages: u32) -> bool
-    ensures value { result ≡ is_size address pages }
+    ensures value { result ≡ is_span_size address pages }
     ensures small { IsTrue result → address + PAGE * pages ≤ PHYSICAL_END }
 {
     0 < pages && address <= PHYSICAL_END && address + PAGE * u64::from(pages) <= PHYSICAL_END
@@ -87,7 +87,7 @@ fn device_pages_with(before: &SpansBefore, kind: SpanKind, pages: u32) -> u32
 }
 
 fn has_room(before: &SpansBefore, pages: u32, kind: SpanKind) -> bool
-    ensures { result ≡ has_room before.now pages kind }
+    ensures { result ≡ spans_have_room before.now pages kind }
 {
     before.left != 1
         || (PAGE * u64::from(pages_with(before, kind, pages)) <= MOST_BLOCK_BYTES
@@ -101,7 +101,7 @@ fn is_kind(header: &Header, before: &SpansBefore, pages: u32, number: u16, kind:
     suits_tau0(header.tau0, number, kind) && has_room(before, pages, kind)
 }
 
-#[tactic(auto, unfolding(binary_form::specs::Form::either, binary_form::specs::Form::present, binary_form::specs::Form::absent, crate::specs::Image::title))]
+#[tactic(auto, unfolding(binary_form::specs::Form::either, binary_form::specs::Form::present, binary_form::specs::Form::absent_value, crate::specs::Image::title))]
 fn title_of(code: u8, bytes: &[u8]) -> Result<(Option<Name>, &[u8]), FormError>
     ensures { Gives (λ x. (x.0, x.1.now)) result ((title code).read bytes.now) }
 {

@@ -1,5 +1,5 @@
 use Rattle.std.proofs.Common.{◌+◌, [], get_or, sym, ap, ◌∙◌, subst, arith}
-use Rattle.dma_emit.specs.Ready.{AreWindows}
+use Rattle.dma_emit.specs.Ready.{AreDomainWindows}
 use Rattle.dma_emit.proofs.Layouts.{before_all, page_at, page_there, pages_next, pages_some, pages_step, windows_there}
 use Rattle.dma_emit.proofs.Lists.{index_is}
 use Rattle.dma_emit.proofs.TablesOf.{of_domain}
@@ -29,7 +29,7 @@ pub tables_of-requires-clause-windows : goal.tables_of-requires-clause-windows
 tables_of-requires-clause-windows c =
     let d = c.args.domains.now in
     let is = c.items-windows.ensures ∙ index_is c.items.result.now d.windows c.args.number c.index-items-number.result [] c.index-items-number.is c.items.ensures c.requires.there in
-    subst AreWindows (sym is) (windows_there d c.args.number c.requires.ready c.requires.there)
+    subst AreDomainWindows (sym is) (windows_there d c.args.number c.requires.ready c.requires.there)
 
 pub tables_of-requires-clause-count : goal.tables_of-requires-clause-count
 tables_of-requires-clause-count c =

@@ -1,6 +1,6 @@
 use Rattle.std.proofs.Common.{◌≡◌, ◌-◌, ◌≤◌, None}
 use Rattle.ept_check.specs.Faults.{contents}
-use Rattle.ept_check.specs.Pieces.{led}
+use Rattle.ept_check.specs.Pieces.{led_by_entry}
 use Rattle.ept_check.specs.Search.{first_from}
 use Rattle.ept_check.specs.Tables.{addr_of}
 use Rattle.ept_emit.specs.Emitted.{translation}
@@ -13,7 +13,7 @@ invariant-loop-at t l =
     record {
       from : l.first ≤ l.at;
       to : l.at ≤ l.end;
-      none : first_from (contents (led (is_there (t.E.Entries.pages l.entries)) l.level l.entry l.rights) (λ q kind. translation l.windows (addr_of q) kind)) l.first (l.at - l.first) ≡ None;
+      none : first_from (contents (led_by_entry (is_there (t.E.Entries.pages l.entries)) l.level l.entry l.rights) (λ q kind. translation l.windows (addr_of q) kind)) l.first (l.at - l.first) ≡ None;
     }
 
 abbrev pub decreases-loop-at : goal.decreases-loop-at

@@ -5,12 +5,12 @@ use Rattle.ept_check.proofs.Given.{fine_at, windows_of}
 use Rattle.ept_check.proofs.Sizes.{first_here, subject_there}
 use Rattle.ept_check.proofs.Steps.{told}
 use Rattle.ept_check.specs.Entries.{pages}
-use Rattle.ept_check.specs.Faults.{contents, fault_at}
+use Rattle.ept_check.specs.Faults.{contents, table_fault_at}
 use Rattle.ept_check.specs.Known.{Known, come}
 use Rattle.ept_check.specs.Looked.{is_entered}
-use Rattle.ept_check.specs.Pieces.{led}
+use Rattle.ept_check.specs.Pieces.{led_by_entry}
 use Rattle.ept_check.specs.Search.{first_from}
-use Rattle.ept_check.specs.Sound.{AreWindows}
+use Rattle.ept_check.specs.Sound.{AreSubjectWindows}
 use Rattle.ept_check.specs.Tables.{Tables, subject_of, tables_in}
 use Rattle.ept_check.specs.declared.entering.Table.{Table}
 use Rattle.machine_layout.specs.Memory.{is_there}
@@ -67,7 +67,7 @@ enter-returns-in-Some-clause-found g t c =
     let table = c.args.table in
     let i = c.loop-i.i in
     let x = table.first + i * pages table.level in
-    let found = c.in-Some.ensures.found ∙ ap (λ m. first_from (fault_at (tables_in m c.args.tables.now c.args.subjects.now)) x (pages table.level)) c.loop-i.invariant.kept in
+    let found = c.in-Some.ensures.found ∙ ap (λ m. first_from (table_fault_at (tables_in m c.args.tables.now c.args.subjects.now)) x (pages table.level)) c.loop-i.invariant.kept in
     found_later _ table.first table.level i x c.in-Some.fault (omega (arith, c.requires.level)) c.loop-i-test.true refl c.loop-i.invariant.none (sym found)
 
 -- none has one so far
@@ -77,7 +77,7 @@ enter-loop-i-preserved g t c =
     let i = c.loop-i.i in
     let x = table.first + i * pages table.level in
     let kept = c.loop-i.invariant.kept in
-    let found = c.in_default.ensures.found ∙ ap (λ m. first_from (fault_at (tables_in m c.args.tables.now c.args.subjects.now)) x (pages table.level)) kept in
+    let found = c.in_default.ensures.found ∙ ap (λ m. first_from (table_fault_at (tables_in m c.args.tables.now c.args.subjects.now)) x (pages table.level)) kept in
     let seen = is_entered c.args.tables.now c.follow.new.looked in
     let known = subst (λ m. Known (tables_in m c.args.tables.now c.args.subjects.now) seen (x + pages table.level) table.first table.level) kept (c.in_default.ensures.known refl) in
     record {
@@ -129,7 +129,7 @@ follow-compare-requires-clause-windows g t c =
     let subject = c.index-subjects-first in
     let within = inside g t (goal.at.follow-compare-requires-clause-windows g t c).After-pages in
     let fine = fine_at there c.args.subjects.now _ subject.result c.requires.given.windows within subject.is in
-    rw c.in-Some.ensures.pages (subst (λ ws. AreWindows there ws) (sym c.items.ensures) fine)
+    rw c.in-Some.ensures.pages (subst (λ ws. AreSubjectWindows there ws) (sym c.items.ensures) fine)
 
 pub follow-compare-requires-clause-first : goal.follow-compare-requires-clause-first
 follow-compare-requires-clause-first g t c =
@@ -150,7 +150,7 @@ follow-returns-then-not-leads_on-clause-found g t c =
     ∙ windows_of c.args.subjects.now (first / 2 ^ 36) c.index-subjects-first.result (inside g t at) c.index-subjects-first.is
     ∙ sym c.items.ensures in
     c.compare.ensures
-    ∙ ap (λ m. first_from (contents (led (is_there m) table.level entry table.rights) (told ws)) first (pages table.level)) c.in-Some.ensures.pages
+    ∙ ap (λ m. first_from (contents (led_by_entry (is_there m) table.level entry table.rights) (told ws)) first (pages table.level)) c.in-Some.ensures.pages
     ∙ stops_found (follows g t at) first ws (sym c.leads_on.ensures ∙ c.if-not-leads_on.true) c.requires.known (here g t at) own
 
 pub follow-returns-then-not-leads_on-clause-known : goal.follow-returns-then-not-leads_on-clause-known
@@ -183,5 +183,5 @@ follow-returns-clause-found g t c =
     let at = (goal.at.follow-returns-clause-found g t c).After-pages in
     let first = x g t at in
     c.enter.ensures.found
-    ∙ ap (λ m. first_from (fault_at (tables_in m c.args.tables.now c.args.subjects.now)) first (pages (suc (c.args.table.level - 1)))) c.in-Some.ensures.pages
+    ∙ ap (λ m. first_from (table_fault_at (tables_in m c.args.tables.now c.args.subjects.now)) first (pages (suc (c.args.table.level - 1)))) c.in-Some.ensures.pages
     ∙ below_found (follows g t at) first (sym c.leads_on.ensures ∙ c.if-not-leads_on.false) (here g t at)

@@ -1,7 +1,7 @@
 use Rattle.std.proofs.Common.{◌≡◌, ◌+◌, ◌*◌, ◌≤◌, None, true, length}
 use Rattle.std.specs.Prelude.{vec_len}
 use Rattle.ept_check.specs.Entries.{pages}
-use Rattle.ept_check.specs.Faults.{fault_at}
+use Rattle.ept_check.specs.Faults.{table_fault_at}
 use Rattle.ept_check.specs.Known.{Known}
 use Rattle.ept_check.specs.Looked.{is_entered, left}
 use Rattle.ept_check.specs.Search.{first_from}
@@ -20,7 +20,7 @@ abbrev pub invariant-enter-loop-i : goal.invariant-enter-loop-i
 invariant-enter-loop-i t l =
     let m = t.E.Entries.pages l.fn.entries in
     record {
-      none : first_from (fault_at (tables_in m l.tables l.subjects)) l.table.first (l.i * pages l.table.level) ≡ None;
+      none : first_from (table_fault_at (tables_in m l.tables l.subjects)) l.table.first (l.i * pages l.table.level) ≡ None;
       kept : t.E.Entries.pages l.entries ≡ m;
       there : is_there m l.table.page ≡ true;
       work : t.E.Entries.reads l.entries + 512 * left l.looked + 512 ≤ t.E.Entries.reads l.fn.entries + 512 * left l.fn.looked + l.i;

@@ -2,7 +2,7 @@ use Rattle.std.proofs.Common.{◌≡◌, ◌+◌, ◌*◌, ◌^◌, Some, length
 use Rattle.std.proofs.lemmas.List.{length-map}
 use Rattle.ept_check.proofs.Given.{root_at_index}
 use Rattle.ept_check.proofs.Steps.{all_none, nothing_known, root_here, start_here, subject_found, subject_known, subject_none}
-use Rattle.ept_check.specs.Faults.{fault_at}
+use Rattle.ept_check.specs.Faults.{table_fault_at}
 use Rattle.ept_check.specs.Known.{Known}
 use Rattle.ept_check.specs.Looked.{is_entered}
 use Rattle.ept_check.specs.Search.{first_from}
@@ -15,7 +15,7 @@ loop-subject-init g c =
     let m = g.E.Entries.pages c.args.entries.now in
     let v = tables_in m c.args.tables.now c.args.subjects.now in
     record {
-      none = start_here (fault_at v);
+      none = start_here (table_fault_at v);
       kept = refl;
       work = omega arith;
       long = c.requires.long;
@@ -41,7 +41,7 @@ returns-in-Some-clause-fault g c =
     let m = g.E.Entries.pages c.args.entries.now in
     let v = tables_in m c.args.tables.now c.args.subjects.now in
     let many : length v.roots ≡ length c.args.subjects.now = length-map c.args.subjects.now (λ s. root_of s.eptp) in
-    subject_found v c.loop-subject.subject c.in-Some.fault (omega (arith, many, c.loop-subject-test.true)) c.loop-subject.invariant.none (sym (c.in-Some.ensures.found ∙ ap (λ ps. first_from (fault_at (tables_in ps c.args.tables.now c.args.subjects.now)) (2 ^ 36 * c.loop-subject.subject) (2 ^ 36)) c.loop-subject.invariant.kept))
+    subject_found v c.loop-subject.subject c.in-Some.fault (omega (arith, many, c.loop-subject-test.true)) c.loop-subject.invariant.none (sym (c.in-Some.ensures.found ∙ ap (λ ps. first_from (table_fault_at (tables_in ps c.args.tables.now c.args.subjects.now)) (2 ^ 36 * c.loop-subject.subject) (2 ^ 36)) c.loop-subject.invariant.kept))
 
 pub loop-subject-preserved : goal.loop-subject-preserved
 loop-subject-preserved g c =
@@ -51,7 +51,7 @@ loop-subject-preserved g c =
     let after = is_entered c.args.tables.now c.enter.new.looked in
     let first = 2 ^ 36 * c.loop-subject.subject in
     record {
-      none = subject_none (fault_at v) c.loop-subject.subject c.loop-subject.invariant.none (sym (c.in_default.ensures.found ∙ ap (λ ps. first_from (fault_at (tables_in ps c.args.tables.now c.args.subjects.now)) first (2 ^ 36)) same));
+      none = subject_none (table_fault_at v) c.loop-subject.subject c.loop-subject.invariant.none (sym (c.in_default.ensures.found ∙ ap (λ ps. first_from (table_fault_at (tables_in ps c.args.tables.now c.args.subjects.now)) first (2 ^ 36)) same));
       kept = c.enter.ensures.pages ∙ same;
       work = omega (arith, c.in_default.ensures.work_of_none refl, c.loop-subject.invariant.work);
       long = c.enter.ensures.long;

@@ -1,6 +1,6 @@
 use Rattle.std.proofs.Common.{◌≡◌, ◌+◌, ◌*◌, ◌^◌, ◌≤◌, None, length}
 use Rattle.std.specs.Prelude.{vec_len}
-use Rattle.ept_check.specs.Faults.{fault_at}
+use Rattle.ept_check.specs.Faults.{table_fault_at}
 use Rattle.ept_check.specs.Known.{Known}
 use Rattle.ept_check.specs.Looked.{is_entered, left}
 use Rattle.ept_check.specs.Search.{first_from}
@@ -12,7 +12,7 @@ abbrev pub invariant-loop-subject : goal.invariant-loop-subject
 invariant-loop-subject t l =
     let m = t.E.Entries.pages l.fn.entries in
     record {
-      none : first_from (fault_at (tables_in m l.tables l.subjects)) 0 (2 ^ 36 * l.subject) ≡ None;
+      none : first_from (table_fault_at (tables_in m l.tables l.subjects)) 0 (2 ^ 36 * l.subject) ≡ None;
       kept : t.E.Entries.pages l.entries ≡ m;
       work : t.E.Entries.reads l.entries + 512 * left l.looked ≤ t.E.Entries.reads l.fn.entries + 512 * left l.fn.looked;
       long : vec_len l.looked.entered ≡ length l.tables;

@@ -1,6 +1,6 @@
 use Rattle.std.proofs.Common.{rules, ◌≡◌, ◌+◌, ◌*◌, ◌%◌, ◌^◌, Some, sym, ◌∙◌, arith}
 use Rattle.machine_layout.specs.Walks.{entry_size}
-use Rattle.ept_emit.specs.Entries.{window_on, word_at}
+use Rattle.ept_emit.specs.Entries.{window_touching, word_at}
 use Rattle.ept_emit.proofs.Counts.{needs_add, needs_at, room_in}
 use Rattle.ept_emit.proofs.Found.{not_lowest}
 use Rattle.ept_emit.proofs.Numbered.{entry_in, entry_small, numbered_free, numbered_leaf, numbered_table_at, one_more, span_up, whole_table}
@@ -14,14 +14,14 @@ write_entry-returns-then-is_whole-clause-numbered t c = numbered_leaf c.args.poi
 
 pub write_entry-table_entry-requires : goal.write_entry-table_entry-requires
 write_entry-table_entry-requires t c =
-    let some : window_on c.args.windows.now (entry_size c.args.level * c.args.entry) (entry_size c.args.level) ≡ Some c.in-Some.window = sym c.window_on.ensures.value ∙ c.in-Some.is in
+    let some : window_touching c.args.windows.now (entry_size c.args.level * c.args.entry) (entry_size c.args.level) ≡ Some c.in-Some.window = sym c.window_on.ensures.value ∙ c.in-Some.is in
     let high = not_lowest c.in-Some.window c.args.level c.args.entry (sym c.is_whole.ensures ∙ c.if-is_whole.false) in
     let need = needs_at c.args.windows.now c.args.level c.args.entry c.in-Some.window high some in
     omega arith
 
 pub write_entry-write_table-requires : goal.write_entry-write_table-requires
 write_entry-write_table-requires t c =
-    let some : window_on c.args.windows.now (entry_size c.args.level * c.args.entry) (entry_size c.args.level) ≡ Some c.in-Some.window = sym c.window_on.ensures.value ∙ c.in-Some.is in
+    let some : window_touching c.args.windows.now (entry_size c.args.level * c.args.entry) (entry_size c.args.level) ≡ Some c.in-Some.window = sym c.window_on.ensures.value ∙ c.in-Some.is in
     let high = not_lowest c.in-Some.window c.args.level c.args.entry (sym c.is_whole.ensures ∙ c.if-is_whole.false) in
     let need = needs_at c.args.windows.now c.args.level c.args.entry c.in-Some.window high some in
     let up = span_up c.args.level high in
@@ -29,7 +29,7 @@ write_entry-write_table-requires t c =
 
 pub write_entry-returns-clause-few : goal.write_entry-returns-clause-few
 write_entry-returns-clause-few t c =
-    let some : window_on c.args.windows.now (entry_size c.args.level * c.args.entry) (entry_size c.args.level) ≡ Some c.in-Some.window = sym c.window_on.ensures.value ∙ c.in-Some.is in
+    let some : window_touching c.args.windows.now (entry_size c.args.level * c.args.entry) (entry_size c.args.level) ≡ Some c.in-Some.window = sym c.window_on.ensures.value ∙ c.in-Some.is in
     let high = not_lowest c.in-Some.window c.args.level c.args.entry (sym c.is_whole.ensures ∙ c.if-is_whole.false) in
     let need = needs_at c.args.windows.now c.args.level c.args.entry c.in-Some.window high some in
     omega (arith, c.write_table.ensures.few)
@@ -37,7 +37,7 @@ write_entry-returns-clause-few t c =
 pub write_entry-returns-clause-numbered : goal.write_entry-returns-clause-numbered
 write_entry-returns-clause-numbered t c =
     let word = 512 * c.args.table + c.args.entry % 512 in
-    let some : window_on c.args.windows.now (entry_size c.args.level * c.args.entry) (entry_size c.args.level) ≡ Some c.in-Some.window = sym c.window_on.ensures.value ∙ c.in-Some.is in
+    let some : window_touching c.args.windows.now (entry_size c.args.level * c.args.entry) (entry_size c.args.level) ≡ Some c.in-Some.window = sym c.window_on.ensures.value ∙ c.in-Some.is in
     let part = sym c.is_whole.ensures ∙ c.if-is_whole.false in
     let high = not_lowest c.in-Some.window c.args.level c.args.entry part in
     let at = c.write_table.ensures.rest word (omega arith) (λ h. omega arith) ∙ (c.set_word-2.ensures.here ∙ c.table_entry.ensures) in

@@ -1,8 +1,8 @@
 use Rattle.std.proofs.Common.{sym, ap, subst, ◌∙◌, ◌≡◌, true}
 use Rattle.std.specs.List.{list_all}
 use Rattle.std.proofs.lemmas.Result.{IfOk-weaker}
-use Rattle.event_emit.specs.ByIndex.{AreFew, device_parts}
-use Rattle.event_emit.specs.Named.{AreNamed, is_named}
+use Rattle.event_emit.specs.ByIndex.{DeviceRoutesFew, device_parts}
+use Rattle.event_emit.specs.Named.{AreNamed, is_named_device}
 use Rattle.image_soundness.specs.TablesOf.{AreDevices}
 use Rattle.event_emit.proofs.DevicesByIndex.{are_devices, are_few}
 use Rattle.event_emit.proofs.EntriesReach.{with_letters}
@@ -22,7 +22,7 @@ device_parts-requires-clause-ports c =
 pub device_parts-requires-clause-routes : goal.device_parts-requires-clause-routes
 device_parts-requires-clause-routes c =
     let same = c.resolved-policy.ensures.value ∙ c.lawful.ensures in
-    subst (AreFew c.routes.result.now) (sym (c.devices.ensures.value ∙ ap (λ (r : Resolution). r.devices) same))
+    subst (DeviceRoutesFew c.routes.result.now) (sym (c.devices.ensures.value ∙ ap (λ (r : Resolution). r.devices) same))
     (are_few c.args.expanded.now.lawful (with_letters c.args.expanded.now.lawful.subjects c.routes.ensures.named)
     (subst (λ (r : Resolution). IsLawful (source_of r)) c.lawful.ensures c.resolved-policy.ensures.lawful)
     c.routes.result.now c.routes.ensures.routes)
@@ -41,6 +41,6 @@ pub returns-clause-named : goal.returns-clause-named
 returns-clause-named c =
     let same = c.resolved-policy.ensures.value ∙ c.lawful.ensures in
     let devices = c.devices.ensures.value ∙ ap (λ (r : Resolution). r.devices) same in
-    IfOk-weaker c.device_parts.result (λ _. list_all is_named c.devices.result.now ≡ true) (λ _. AreNamed c.args.expanded.now.lawful)
-    (λ _ is. record { subjects = c.routes.ensures.named; devices = sym (ap (list_all is_named) devices) ∙ is })
+    IfOk-weaker c.device_parts.result (λ _. list_all is_named_device c.devices.result.now ≡ true) (λ _. AreNamed c.args.expanded.now.lawful)
+    (λ _ is. record { subjects = c.routes.ensures.named; devices = sym (ap (list_all is_named_device) devices) ∙ is })
     c.device_parts.ensures.named

@@ -1,7 +1,7 @@
 use Rattle.std.proofs.Common.{map, ◌≡◌}
 use Rattle.std.specs.List.{AllZip}
 use Rattle.std.proofs.lemmas.Result.{IfOk-weaker}
-use Rattle.event_emit.specs.ByIndex.{tables_of}
+use Rattle.event_emit.specs.ByIndex.{event_tables_of}
 use Rattle.event_emit.specs.Tables.{AreTables}
 use Rattle.event_emit.proofs.EntriesReach.{with_letters}
 use Rattle.event_emit.proofs.TablesByIndex.{are_tables, grants_reach_few}
@@ -15,6 +15,6 @@ all_tables-requires c =
 pub returns : goal.returns
 returns c =
     let r = c.args.expanded.now.lawful in
-    IfOk-weaker c.all_tables.result (λ ts. ts ≡ map tables_of c.grants.result.now) (AllZip (AreTables r) r.subjects)
+    IfOk-weaker c.all_tables.result (λ ts. ts ≡ map event_tables_of c.grants.result.now) (AllZip (AreTables r) r.subjects)
     (λ ts is. are_tables r (with_letters r.subjects c.grants.ensures.named) c.grants.ensures.expanded.lawful c.grants.result.now ts c.grants.ensures.grants is)
     c.all_tables.ensures

@@ -5,8 +5,8 @@ use Rattle.image_emit.proofs.ImageMade.{image_of_parts, parts_fit}
 use Rattle.event_emit.specs.Named.{AreNamed}
 use Rattle.image_soundness.specs.TablesOf.{AreDevices}
 use Rattle.image_emit.specs.Gathered.{IsHeld}
-use Rattle.image_emit.specs.Made.{IsEmitted, IsImageOf, choice_of}
-use Rattle.image_pack.specs.Parts.{counted}
+use Rattle.image_emit.specs.Made.{IsEmitted, IsImageOf, choice_region}
+use Rattle.image_pack.specs.Parts.{counted_image}
 use Rattle.image_soundness.specs.PlanOf.{IsPlanOf}
 use Rattle.policy_lawful.specs.Resolution.{source_of}
 use Rattle.image_emit.proofs.image.emit.Goals.{After-cpus}
@@ -38,7 +38,7 @@ pub cpus-requires : goal.cpus-requires
 cpus-requires c = let few = cpus_few c.args.placed.now c.expanded-expanded.ensures.placed in omega (arith, few)
 
 -- what was made comes to an image
-made : (c : goal.After-cpus) → IsImageOf c.args.placed.now c.args.things (counted c.cpus.result c.choice_of-tau0.result c.in_ok-spans.spans c.in_ok-subjects.subjects c.in_ok-plan.plan c.in_ok-devices.devices c.in_ok-held.held)
+made : (c : goal.After-cpus) → IsImageOf c.args.placed.now c.args.things (counted_image c.cpus.result c.choice_of-tau0.result c.in_ok-spans.spans c.in_ok-subjects.subjects c.in_ok-plan.plan c.in_ok-devices.devices c.in_ok-held.held)
 made c =
     image_of_parts c.args.placed.now c.args.things c.in_ok-spans.spans c.in_ok-held.held c.in_ok-subjects.subjects c.in_ok-plan.plan c.in_ok-devices.devices c.cpus.result c.choice_of-tau0.result
     c.expanded-expanded.ensures.placed (subst (λ p. AreNamed p.lawful) c.expanded-expanded.ensures.value c.in_ok-devices.ensures.named) c.requires.filled c.in_ok-spans.ensures.numbered c.in_ok-spans.ensures.spans
@@ -48,7 +48,7 @@ made c =
     (subst (λ n. AreDevices c.args.placed.now.expanded.lawful n c.args.placed.now.expanded.lawful.devices c.in_ok-devices.devices) c.first_device.ensures
     (subst (λ p. AreDevices p.lawful c.first_device.result p.lawful.devices c.in_ok-devices.devices) c.expanded-expanded.ensures.value c.in_ok-devices.ensures.devices))
     c.cpus.ensures
-    (c.choice_of-tau0.ensures ∙ ap choice_of c.policy_of-policy.ensures)
+    (c.choice_of-tau0.ensures ∙ ap choice_region c.policy_of-policy.ensures)
 
 pub make-requires : goal.make-requires
 make-requires c = parts_fit c.args.placed.now c.args.things _ (made c) c.in_ok-held.ensures.bytes

@@ -6,7 +6,7 @@ use Rattle.ept_check.specs.declared.types.SubjectTables.{SubjectTables}
 use Rattle.image_memory.specs.Memory.{memory_of}
 use Rattle.image_verify.proofs.Deciding.{fault_within, same_tables}
 use Rattle.image_verify.specs.Filled.{IsFilled}
-use Rattle.image_verify.specs.Verdict.{named, tables_of}
+use Rattle.image_verify.specs.Verdict.{named, image_tables_of}
 use Rattle.ept_check.specs.Memory.{Page}
 use Rattle.phys_mem.specs.Found.{frames_kept}
 use Rattle.policy_lawful.specs.Resolution.{Resolution}
@@ -35,7 +35,7 @@ returns-in-None c =
     let i = c.args.image in
     let x = c.args.expanded.now in
     let m : frames_kept c.of-entries.result.mem.now ≡ memory_of i = ap frames_kept c.of-entries.ensures.memory ∙ c.in_ok-memory.ensures in
-    let is : None ≡ table_fault (tables_of x i) = sym c.in-None.is ∙ c.in_ok-found.ensures.fault ∙ same_tables x i _ _ _ m (c.deref.ensures.value ∙ c.in_ok-pages.ensures.pages) (c.deref-2.ensures.value ∙ c.in_ok-tables.ensures.tables) in
+    let is : None ≡ table_fault (image_tables_of x i) = sym c.in-None.is ∙ c.in_ok-found.ensures.fault ∙ same_tables x i _ _ _ m (c.deref.ensures.value ∙ c.in_ok-pages.ensures.pages) (c.deref-2.ensures.value ∙ c.in_ok-tables.ensures.tables) in
     ap (option_map (named x.lawful)) is
 
 pub of_tables-requires : goal.of_tables-requires
@@ -43,7 +43,7 @@ of_tables-requires c =
     let i = c.args.image in
     let x = c.args.expanded.now in
     let m : frames_kept c.of-entries.result.mem.now ≡ memory_of i = ap frames_kept c.of-entries.ensures.memory ∙ c.in_ok-memory.ensures in
-    let is : Some c.in-Some.fault ≡ table_fault (tables_of x i) = sym c.in-Some.is ∙ c.in_ok-found.ensures.fault ∙ same_tables x i _ _ _ m (c.deref.ensures.value ∙ c.in_ok-pages.ensures.pages) (c.deref-2.ensures.value ∙ c.in_ok-tables.ensures.tables) in
+    let is : Some c.in-Some.fault ≡ table_fault (image_tables_of x i) = sym c.in-Some.is ∙ c.in_ok-found.ensures.fault ∙ same_tables x i _ _ _ m (c.deref.ensures.value ∙ c.in_ok-pages.ensures.pages) (c.deref-2.ensures.value ∙ c.in_ok-tables.ensures.tables) in
     subst (λ (r : Resolution). c.in-Some.fault.subject < length r.subjects) (sym c.policy_of.ensures) (fault_within x i c.in-Some.fault (sym is))
 
 pub returns : goal.returns
@@ -51,5 +51,5 @@ returns c =
     let i = c.args.image in
     let x = c.args.expanded.now in
     let m : frames_kept c.of-entries.result.mem.now ≡ memory_of i = ap frames_kept c.of-entries.ensures.memory ∙ c.in_ok-memory.ensures in
-    let is : Some c.in-Some.fault ≡ table_fault (tables_of x i) = sym c.in-Some.is ∙ c.in_ok-found.ensures.fault ∙ same_tables x i _ _ _ m (c.deref.ensures.value ∙ c.in_ok-pages.ensures.pages) (c.deref-2.ensures.value ∙ c.in_ok-tables.ensures.tables) in
+    let is : Some c.in-Some.fault ≡ table_fault (image_tables_of x i) = sym c.in-Some.is ∙ c.in_ok-found.ensures.fault ∙ same_tables x i _ _ _ m (c.deref.ensures.value ∙ c.in_ok-pages.ensures.pages) (c.deref-2.ensures.value ∙ c.in_ok-tables.ensures.tables) in
     ap (λ f. Some f) (c.of_tables.ensures ∙ ap (λ (r : Resolution). named r c.in-Some.fault) c.policy_of.ensures) ∙ ap (option_map (named x.lawful)) is

@@ -1,10 +1,10 @@
 use Rattle.std.proofs.Common.{◌∙◌, length, refl}
-use Rattle.msrbm_emit.specs.Area.{area_of, count_of}
+use Rattle.msrbm_emit.specs.Area.{area_of, msr_count}
 use Rattle.msrbm_emit.proofs.AreaLaws.{area_step, end_step, room_for}
 use Rattle.msrbm_emit.proofs.area.emit_area.Goals as goal
 
 pub loop-grant-init : goal.loop-grant-init
-unfolding area_of count_of
+unfolding area_of msr_count
 loop-grant-init c = record { end = refl; area = c.clear_all.ensures }
 
 pub put_entries-end-requires : goal.put_entries-end-requires

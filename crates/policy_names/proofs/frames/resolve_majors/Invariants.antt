@@ -5,7 +5,7 @@ use Rattle.muen_num.specs.Search.{first_in}
 use Rattle.policy_lawful.specs.Resolution.{major_in_range, major_named}
 use Rattle.policy_lawful.specs.Rules.{frame_references, major_name, undeclared}
 use Rattle.policy_lawful.specs.source.MajorFrame.{MajorFrame}
-use Rattle.policy_names.specs.Outline.{outline}
+use Rattle.policy_names.specs.Outline.{bare_resolution}
 use Rattle.policy_names.proofs.frames.resolve_majors.Given as goal
 
 abbrev pub invariant-loop-index : goal.invariant-loop-index
@@ -13,7 +13,7 @@ invariant-loop-index l =
     let p = l.scope.source.now in
     let offence = λ (m : ℕ × MajorFrame). first_in (undeclared (major_name m.0)) (frame_references p m.1) in
     record {
-      same : map (major_named (outline p)) l.resolved_majors ≡ take l.index l.majors;
-      there : list_all (major_in_range (outline p)) l.resolved_majors ≡ true;
+      same : map (major_named (bare_resolution p)) l.resolved_majors ≡ take l.index l.majors;
+      there : list_all (major_in_range (bare_resolution p)) l.resolved_majors ≡ true;
       rest : first_in offence (enumerate_from l.index (drop l.index l.majors)) ≡ first_in offence (enumerate_from 0 l.majors);
     }

@@ -3,7 +3,7 @@ use Rattle.std.proofs.Math.ListN.{drop_of_length-le}
 use Rattle.muen_num.specs.Search.{first_in}
 use Rattle.policy_views.proofs.SightsAtIndex.{behind_read, front_read}
 use Rattle.rules_extents.specs.Parted.{AreProvided}
-use Rattle.rules_extents.specs.Windows.{outside_in, overlap_in}
+use Rattle.rules_extents.specs.Windows.{outside_in_subject, overlap_in_subject}
 use Rattle.rules_extents.proofs.RangesByIndex.{none_outside, windows_apart}
 use Rattle.rules_extents.proofs.SubjectsInTurn.{first_in_turn, none_in_turn}
 use Rattle.rules_extents.proofs.apart.windows_apart.Goals as goal
@@ -26,7 +26,7 @@ of_subject-requires-clause-behind c =
 pub of_subject-requires-clause-inside : goal.of_subject-requires-clause-inside
 of_subject-requires-clause-inside c =
     let r = c.args.policy.now in
-    (none_in_turn r.subjects _ c.loop-index.index c.subject-item.result c.subjects-subject-items.ensures.value c.loop-index-test.true c.subject-item.is (outside_in r) c.loop-index.invariant.inside).0
+    (none_in_turn r.subjects _ c.loop-index.index c.subject-item.result c.subjects-subject-items.ensures.value c.loop-index-test.true c.subject-item.is (outside_in_subject r) c.loop-index.invariant.inside).0
 
 pub of_subject-requires-clause-provided : goal.of_subject-requires-clause-provided
 of_subject-requires-clause-provided c = subst (λ kept. AreProvided kept c.args.policy.now.components) (sym c.deref.ensures.value) c.loop-index.invariant.provided
@@ -34,7 +34,7 @@ of_subject-requires-clause-provided c = subst (λ kept. AreProvided kept c.args.
 pub returns-in-Some : goal.returns-in-Some
 returns-in-Some c =
     let r = c.args.policy.now in
-    sym (first_in_turn r.subjects _ c.loop-index.index c.subject-item.result c.subjects-subject-items.ensures.value c.loop-index-test.true c.subject-item.is (overlap_in r) (Some c.in-Some.offence)
+    sym (first_in_turn r.subjects _ c.loop-index.index c.subject-item.result c.subjects-subject-items.ensures.value c.loop-index-test.true c.subject-item.is (overlap_in_subject r) (Some c.in-Some.offence)
     (sym c.in-Some.is ∙ c.in_ok-offence.ensures))
     ∙ c.loop-index.invariant.rest ∙ windows_apart r c.subjects-subject-items.ensures.resolved
 
@@ -44,8 +44,8 @@ loop-index-preserved c =
     let s = c.subject-item.result in
     let same = c.subjects-subject-items.ensures.value in
     record {
-      rest = sym (first_in_turn r.subjects _ c.loop-index.index s same c.loop-index-test.true c.subject-item.is (overlap_in r) None (sym c.in_default.is ∙ c.in_ok-offence.ensures)) ∙ c.loop-index.invariant.rest;
-      inside = (none_in_turn r.subjects _ c.loop-index.index s same c.loop-index-test.true c.subject-item.is (outside_in r) c.loop-index.invariant.inside).1;
+      rest = sym (first_in_turn r.subjects _ c.loop-index.index s same c.loop-index-test.true c.subject-item.is (overlap_in_subject r) None (sym c.in_default.is ∙ c.in_ok-offence.ensures)) ∙ c.loop-index.invariant.rest;
+      inside = (none_in_turn r.subjects _ c.loop-index.index s same c.loop-index-test.true c.subject-item.is (outside_in_subject r) c.loop-index.invariant.inside).1;
       provided = c.loop-index.invariant.provided;
     }
 
@@ -53,4 +53,4 @@ pub returns : goal.returns
 returns c =
     let r = c.args.policy.now in
     let behind : length r.subjects ≤ c.loop-index.index = subst (λ xs. length xs ≤ c.loop-index.index) c.subjects-subject-items.ensures.value (omega (arith, c.loop-index-test.false)) in
-    ap (first_in (overlap_in r)) (sym (drop_of_length-le r.subjects behind)) ∙ c.loop-index.invariant.rest ∙ windows_apart r c.subjects-subject-items.ensures.resolved
+    ap (first_in (overlap_in_subject r)) (sym (drop_of_length-le r.subjects behind)) ∙ c.loop-index.invariant.rest ∙ windows_apart r c.subjects-subject-items.ensures.resolved

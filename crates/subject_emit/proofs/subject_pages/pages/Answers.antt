@@ -3,7 +3,7 @@ use Rattle.std.specs.List.{list_all}
 use Rattle.expand_kernel.specs.Grants.{AreGrantsOf}
 use Rattle.iobm_emit.specs.Ports.{is_granted_access}
 use Rattle.machine_layout.specs.Exits.{area_bytes}
-use Rattle.msrbm_emit.specs.Area.{area_of, count_of}
+use Rattle.msrbm_emit.specs.Area.{area_of, msr_count}
 use Rattle.msrbm_emit.specs.Msrs.{is_covered}
 use Rattle.policy_lawful.specs.MsrGrants.{is_granted}
 use Rattle.muen_num.proofs.Pairs.{both_at}
@@ -23,7 +23,7 @@ pub msr_area-requires : goal.msr_area-requires
 msr_area-requires c =
     let r = c.args.placed.now.expanded.lawful in
     let granted = both_at (AreGrantsOf r) r.subjects c.args.placed.now.expanded.grants c.args.index c.args.subject.now c.args.granted.now c.tables.ensures.placed.expansion.grants c.requires.subject c.requires.granted in
-    subst (λ msrs. count_of msrs ≤ MOST_MSRS) (sym c.items-3.ensures) (msrs_few r c.args.index c.args.subject.now c.args.granted.now c.requires.subject granted (rules_of c.tables.ensures.placed.lawful).rule_20)
+    subst (λ msrs. msr_count msrs ≤ MOST_MSRS) (sym c.items-3.ensures) (msrs_few r c.args.index c.args.subject.now c.args.granted.now c.requires.subject granted (rules_of c.tables.ensures.placed.lawful).rule_20)
 
 pub returns : goal.returns
 returns c =

@@ -1,5 +1,5 @@
 use Rattle.std.proofs.Common.{arith, Some, sym, ap, subst, ◌∙◌}
-use Rattle.region_alloc.specs.Gaps.{IsLeast, fits, holds}
+use Rattle.region_alloc.specs.Gaps.{IsLeast, fits_in_gap, holds}
 use Rattle.region_alloc.proofs.Multiples.{here, none_beyond, none_here}
 use Rattle.region_alloc.proofs.gaps.Gap.first_fit.Goals as goal
 
@@ -11,7 +11,7 @@ returns-in-None c =
 pub returns-then-holds : goal.returns-then-holds
 returns-then-holds c =
     let some = c.in-Some.ensures in
-    subst (λ a. IsLeast (fits c.args.alignment c.args.size c.args.self) (Some a)) (sym some.1)
+    subst (λ a. IsLeast (fits_in_gap c.args.alignment c.args.size c.args.self) (Some a)) (sym some.1)
     (here c.args.alignment c.args.size c.args.self c.requires (ap (λ a. holds c.args.self a c.args.size) (sym some.1) ∙ sym c.if-holds.ensures))
 
 pub returns-else-holds : goal.returns-else-holds
