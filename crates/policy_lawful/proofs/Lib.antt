@@ -32,5 +32,7 @@ pub mod Positions
 pub mod RegionsByIndex
 pub mod SeenAtIndex
 pub mod SourceElements
+pub mod ThingLists
+pub mod ThingsByIndex
 pub mod UniqueNames
 pub mod WindowsByIndex

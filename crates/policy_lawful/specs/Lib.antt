@@ -23,4 +23,5 @@ pub mod Offences
 pub mod Ranges
 pub mod Resolution
 pub mod Rules
+pub mod Things
 pub mod Views

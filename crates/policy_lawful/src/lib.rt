@@ -10,6 +10,8 @@ pub mod name_set;
 pub mod named;
 pub mod offence;
 pub mod resolved;
+pub mod thing;
+mod things;
 pub mod view;
 
 pub use counts::Counts;
@@ -22,4 +24,5 @@ pub use policy_types::{
     Caching, MsrGrant, MsrRights, PortRange, Refusal, Rights, Role, Source, source,
 };
 pub use resolved::{Elements, Resolved};
+pub use thing::{ContentIndex, Thing, ThingIndex};
 pub use view::{IndexedEnd, Seen, Shown, View};

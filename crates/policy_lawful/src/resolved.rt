@@ -1,16 +1,19 @@
 //! The elements of a policy whose references are resolved: where the document names a declared
 //! thing, its index in the list that declares it stands. All else is as in the document.
-ghost use Rattle.std.specs.Prelude.{◌≡◌, map};
+ghost use Rattle.std.specs.Prelude.{◌≡◌, map, IfOk};
 ghost use Rattle.policy_lawful.specs.Resolution.{IsResolved};
 ghost use Rattle.policy_lawful.specs.Views.{seen_by};
 
+use crate::thing::{ContentIndex, Thing};
+use crate::things::{device_things, placed_things};
 use crate::view::{IndexedEnd, Seen, View};
-use muen_num::{Name, Seq};
+use muen_num::{Name, NoMemory, Seq};
 use policy_types::source::{
-    Block, Channel, Component, Device, Domain, Event, Msrs, Processor, Provided, Region, SourceWay,
+    Block, Channel, Component, Content, Device, Domain, Event, Msrs, Processor, Provided, Region, SourceWay,
     Tau0,
 };
 use policy_types::{Rights, Role};
+use std::alloc::Global;
 use std::marker::Model;
 
 /// The elements of a policy.
@@ -36,28 +39,43 @@ pub struct Resolved {
     elements: Elements,
     // For each subject, in order.
     seen: Seq<Seen>,
+    things: Seq<Thing>,
+    // How many of the things are placed: the first ones.
+    placed: usize,
 }
 
 impl Model for Resolved {
     ghost use Rattle.std.specs.Prelude.{◌≡◌, map};
     ghost use Rattle.policy_lawful.specs.Resolution.{Resolution, IsResolved};
+    ghost use Rattle.policy_lawful.specs.Things.{AreThings};
     ghost use Rattle.policy_lawful.specs.Views.{seen_by};
 
     ghost Value = { Resolution };
 
     ghost view = { λ r. r.elements };
 
-    ghost invariant = { λ r. IsResolved r.elements × (r.seen ≡ map (seen_by r.elements) r.elements.subjects) };
+    ghost invariant = { λ r. IsResolved r.elements × (r.seen ≡ map (seen_by r.elements) r.elements.subjects) × AreThings r.elements r.placed r.things };
 }
 
 impl Resolved {
     /// The policy of these elements, of which each subject sees this, in order.
-    pub fn make(elements: Elements, seen: Seq<Seen>) -> Resolved
+    ///
+    /// Answers `NoMemory` where memory was refused.
+    pub fn make(alloc: Global, elements: Elements, seen: Seq<Seen>) -> Result<Resolved, NoMemory>
         requires resolved { IsResolved elements }
         requires seen { seen ≡ map (seen_by elements) elements.subjects }
-        ensures { result ≡ elements }
+        ensures { IfOk result (λ resolved. resolved ≡ elements) }
     {
-        Resolved { elements, seen }
+        let mut things = placed_things(alloc, &elements)?;
+        let placed = things.len();
+        let memory = device_things(alloc, &elements)?;
+        things.extend_from_slice(&memory)?;
+        Ok(Resolved {
+            elements,
+            seen,
+            things: Seq::of(things),
+            placed,
+        })
     }
 }
 
@@ -231,8 +249,11 @@ pub struct MinorFrame {
 }
 
 impl Resolved {
+    ghost use Rattle.std.specs.Prelude.{option_map};
     ghost use Rattle.policy_lawful.specs.ByIndex.{provided_at};
-    ghost use Rattle.policy_lawful.specs.Resolution.{IsResolved};
+    ghost use Rattle.policy_lawful.specs.Resolution.{IsResolved, source_of};
+    ghost use Rattle.policy_lawful.specs.Thing.{device_items, items_of, placed_items};
+    ghost use Rattle.policy_lawful.specs.Things.{AreDeclared, content_found, device_things, placed_things, things_by_number};
     ghost use Rattle.policy_lawful.specs.Views.{channel_ends_at, views_at};
 
     /// The processor.
@@ -307,6 +328,56 @@ impl Resolved {
         ensures { result.now ≡ self.now.device_domains }
     {
         self.elements.device_domains.items()
+    }
+
+    /// The things, by number: those that are placed, and then the devices' memory.
+    #[tactic(auto, using(crate::proofs::ThingsByIndex::things_by_index))]
+    pub fn things(&self) -> &[Thing]
+        ensures value { result.now ≡ things_by_number self.now }
+        ensures declared { AreDeclared self.now (items_of (source_of self.now)) result.now }
+    {
+        self.things.items()
+    }
+
+    /// The things that are placed, by number: memory, channels, what each subject's component brings
+    /// along.
+    #[tactic(auto, using(crate::proofs::ThingLists::first_things, crate::proofs::ThingLists::placed_within, crate::proofs::ThingsByIndex::placed_by_index))]
+    pub fn placed_things(&self) -> &[Thing]
+        ensures value { result.now ≡ placed_things self.now }
+        ensures declared { AreDeclared self.now (placed_items (source_of self.now)) result.now }
+    {
+        &self.things.items()[..self.placed]
+    }
+
+    /// The devices' memory, in order.
+    #[tactic(auto, using(crate::proofs::ThingLists::last_things, crate::proofs::ThingLists::placed_within, crate::proofs::ThingLists::last_declared))]
+    pub fn device_things(&self) -> &[Thing]
+        ensures value { result.now ≡ device_things self.now }
+        ensures declared { AreDeclared self.now (device_items (source_of self.now)) result.now }
+    {
+        &self.things.items()[self.placed..]
+    }
+
+    /// The content that an index tells, if it tells one.
+    pub fn content(&self, index: ContentIndex) -> Option<&Content>
+        ensures { option_map (λ content. content.now) result ≡ content_found self.now index }
+    {
+        match index {
+            ContentIndex::Zeros => None,
+            ContentIndex::Memory(index) => match self.elements.memory.items().get(index) {
+                None => None,
+                Some(region) => Some(&region.content),
+            },
+            ContentIndex::Provided(component, index) => {
+                match self.elements.components.items().get(component) {
+                    None => None,
+                    Some(component) => match component.provides.items().get(index) {
+                        None => None,
+                        Some(provided) => Some(&provided.content),
+                    },
+                }
+            }
+        }
     }
 
     /// The windows of the subject at an index: its mappings, its channels, its devices' memory, those

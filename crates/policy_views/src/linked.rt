@@ -94,7 +94,7 @@ impl Linked {
     {
         let Linked { elements, .. } = self;
         let seen = seen(alloc, &elements)?;
-        Ok(Resolved::make(elements, seen))
+        Resolved::make(alloc, elements, seen)
     }
 
     /// The processor.
