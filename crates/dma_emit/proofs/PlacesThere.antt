@@ -5,7 +5,7 @@ use Rattle.std.specs.List.{position_or_len}
 use Rattle.std.proofs.lemmas.Bool.{ltb-true}
 use Rattle.std.proofs.lemmas.List.{length-map}
 use Rattle.std.proofs.lemmas.Slice.Zip.{AllZip-long}
-use Rattle.expand_kernel.specs.declared.region.Region.{Region}
+use Rattle.expand_kernel.specs.thing.Region.{Region}
 use Rattle.policy_lawful.specs.Ranges.{in_a_block}
 use Rattle.region_alloc.proofs.OwnRegions.{regions_are}
 use Rattle.region_alloc.specs.Placed.{IsPlaced, Placement}

@@ -8,7 +8,7 @@ use Rattle.std.proofs.lemmas.List.Sums.{sum_by-append, sum_by-cons}
 use Rattle.dma_emit.proofs.Ranges.{ascending, before}
 use Rattle.expand_kernel.specs.Ordered.{in_order}
 use Rattle.expand_kernel.proofs.Ordered.{in_order_permutes}
-use Rattle.expand_kernel.specs.declared.region.Region.{Region}
+use Rattle.expand_kernel.specs.thing.Region.{Region}
 use Rattle.span_emit.specs.parts.SpanPart.{SpanPart}
 use Rattle.muen_num.proofs.Lists.{sum_by-map}
 use Rattle.muen_num.specs.declared.limits.TheConstants.{MOST_BLOCK_BYTES, PAGE}

@@ -7,7 +7,7 @@ use Rattle.expand_grants.specs.Grants.{AreGrants, AreGrantsOf}
 use Rattle.expand_grants.specs.declared.granted.Grants.{Grants}
 use Rattle.expand_kernel.specs.ByIndex.{CanMap, brought_at, channel_region, kernel_for_each, own_region, view_ranges}
 use Rattle.expand_kernel.specs.Regions.{kernel_regions, kernel_regions_of, regions_of}
-use Rattle.expand_kernel.specs.declared.region.Region.{Region}
+use Rattle.policy_lawful.specs.declared.thing.Region.{Region}
 use Rattle.expand_kernel.proofs.BroughtByIndex.{brought_by_index}
 use Rattle.expand_kernel.proofs.ByKind.{regions_are}
 use Rattle.expand_kernel.proofs.GrantedViews.{can_map_views, pages_of_views}
@@ -17,10 +17,14 @@ use Rattle.muen_num.proofs.SearchLaws.{none_both}
 use Rattle.policy_lawful.specs.Lawful.{IsLawful}
 use Rattle.policy_lawful.specs.Resolution.{IsResolved, Resolution, source_of, subject_named, subject_in_range}
 use Rattle.policy_lawful.specs.Rules.{first_overlap, is_guest, offence_5, window_extents}
+use Rattle.policy_lawful.specs.Thing.{Item, placed_items}
+use Rattle.policy_lawful.specs.Things.{AreDeclared, IsThingOf, region_of, region_of_thing}
 use Rattle.policy_lawful.specs.declared.resolved.Subject.{Subject}
+use Rattle.policy_lawful.specs.declared.thing.Thing.{Thing}
 use Rattle.policy_lawful.proofs.KeptAddresses.{addresses_kept}
 use Rattle.policy_lawful.proofs.KeptRules.{rules_of}
 use Rattle.policy_lawful.proofs.SourceElements.{parts_in_range}
+use Rattle.policy_lawful.specs.source.Source.{Source}
 use Rattle.policy_lawful.specs.source.Subject.{Subject as NamedSubject}
 
 -- each window of a subject is a range of guest addresses
@@ -69,11 +73,17 @@ regions_by_index r gs q granted =
     (λ i. map own_region r.memory ++ map channel_region r.channels ++ sym (brought_by_index r q r.subjects in_range) i ++ kernel_by_index r q r.subjects gs granted in_range i)
     ∙ sym (regions_are (source_of r))
 
--- the same, where they were joined one list after the other
-pub joined_by_index : (r : Resolution) (gs : List Grants) (memory channels provided kernel all : List Region) → IsResolved r → AreGrants r gs
-    → memory ≡ map own_region r.memory → channels ≡ map channel_region r.channels → provided ≡ flat_map (brought_at r.components) r.subjects → kernel ≡ kernel_for_each r.subjects gs
-    → all ≡ memory ++ channels ++ provided ++ kernel → all ≡ regions_of (source_of r)
-joined_by_index r gs memory channels provided kernel all q granted m c p k is =
+-- the regions of things are those of their items
+regions_same : (r : Resolution) (p : Source) (items : List Item) (things : List Thing) → AllZip (IsThingOf r p) items things → map region_of_thing things ≡ map region_of items
+regions_same r p [] [] h = refl
+regions_same r p [] (t ∷ ts) h = absurd h
+regions_same r p (x ∷ xs) [] h = absurd h
+regions_same r p (x ∷ xs) (t ∷ ts) h = λ i. h.0.region i ∷ regions_same r p xs ts h.1 i
+
+-- all regions by number are those of things that are placed, and then the kernel's
+pub joined_by_index : (r : Resolution) (gs : List Grants) (things : List Thing) (kernel all : List Region) → IsResolved r → AreGrants r gs
+    → AreDeclared r (placed_items (source_of r)) things → kernel ≡ kernel_for_each r.subjects gs → all ≡ map region_of_thing things ++ kernel → all ≡ regions_of (source_of r)
+unfolding source_of regions_of
+joined_by_index r gs things kernel all q granted declared k is =
     is
-    ∙ (λ i. m i ++ c i ++ p i ++ k i)
-    ∙ regions_by_index r gs q granted
+    ∙ (λ i. regions_same r (source_of r) (placed_items (source_of r)) things declared i ++ (k ∙ kernel_by_index r q r.subjects gs granted (parts_in_range r q.in_range).subjects) i)

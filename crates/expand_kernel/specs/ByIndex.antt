@@ -6,7 +6,7 @@ use Rattle.ept_emit.specs.Pages.{AreApart, IsMapped, ept_pages}
 use Rattle.ept_emit.specs.declared.window.GuestRange.{GuestRange}
 use Rattle.expand_grants.specs.declared.granted.Grants.{Grants}
 use Rattle.expand_kernel.specs.Regions.{kernel_regions, region_of}
-use Rattle.expand_kernel.specs.declared.region.Region.{Region}
+use Rattle.policy_lawful.specs.declared.thing.Region.{Region}
 use Rattle.policy_lawful.specs.ByIndex.{provided_at}
 use Rattle.policy_lawful.specs.Thing.{channel_item, provided_item, region_item}
 use Rattle.policy_lawful.specs.declared.resolved.Subject.{Subject}

@@ -5,7 +5,7 @@ use Rattle.expand_grants.specs.Grants.{AreGrants, AreRoutes}
 use Rattle.expand_grants.specs.declared.granted.Grants.{Grants}
 use Rattle.expand_grants.specs.declared.granted.Route.{Route}
 use Rattle.expand_kernel.specs.Regions.{regions_of}
-use Rattle.expand_kernel.specs.declared.region.Region.{Region}
+use Rattle.policy_lawful.specs.declared.thing.Region.{Region}
 use Rattle.muen_num.specs.Naming.{is_name}
 use Rattle.policy_lawful.specs.Lawful.{IsLawful}
 use Rattle.policy_lawful.specs.Resolution.{IsResolved, Resolution, source_of}

@@ -7,3 +7,4 @@ pub mod ByIndex
 pub mod Expansion
 pub mod Regions
 pub use Rattle.ept_emit.specs.declared.window
+pub use Rattle.policy_lawful.specs.declared.thing

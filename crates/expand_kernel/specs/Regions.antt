@@ -1,37 +1,20 @@
 -- The regions of physical memory of a policy, in the order of their numbers (Muen system policy: memory regions; the kernel's
 -- own regions are this project's).
-use Rattle.std.specs.Prelude.{ℕ, ◌+◌, ◌*◌, List, [], ◌∷◌, ◌++◌, map, None}
+use Rattle.std.specs.Prelude.{ℕ, ◌+◌, ◌*◌, List, [], ◌∷◌, ◌++◌, map}
 use Rattle.std.specs.List.{flat_map}
 use Rattle.ept_emit.specs.Pages.{ept_pages}
 use Rattle.ept_emit.specs.declared.window.GuestRange.{GuestRange}
 use Rattle.expand_kernel.specs.declared.kernel.KernelRegion.{KernelRegion}
 use Rattle.expand_kernel.specs.declared.kernel.KernelRegion.TheVariants.{IoBitmaps, MsrArea, MsrBitmap, State as StatePage, Tables}
-use Rattle.expand_kernel.specs.declared.region.Region.{Region}
-use Rattle.expand_kernel.specs.declared.region.RegionKind.{RegionKind}
-use Rattle.expand_kernel.specs.declared.region.RegionKind.TheVariants.{Own, Channel, Provided, Kernel}
+use Rattle.policy_lawful.specs.declared.thing.Region.{Region}
+use Rattle.policy_lawful.specs.declared.thing.RegionKind.TheVariants.{Kernel}
 use Rattle.muen_num.specs.declared.limits.TheConstants.{PAGE}
-use Rattle.muen_num.specs.declared.tag.TagPart.{TagPart}
 use Rattle.muen_num.specs.declared.tag.TagPart.TheVariants.{State, Ept, Iobm, Msrbm, Msrs}
-use Rattle.policy_lawful.specs.Thing.{Item, Thing, channel, placed_items, provided, region, thing_tag}
+pub use Rattle.policy_lawful.specs.Things.{anywhere, region_of}
+use Rattle.policy_lawful.specs.Thing.{placed_items}
 use Rattle.policy_lawful.specs.Windows.{Window, windows_of}
 use Rattle.policy_lawful.specs.source.Source.{Source}
 use Rattle.policy_lawful.specs.source.Subject.{Subject}
-
--- a region that may be at any page
-abbrev pub anywhere : RegionKind → List ℕ → TagPart → ℕ → Region
-anywhere kind owner part size =
-    record { tag = record { owner = owner; part = part }; kind = kind; size = size; alignment = PAGE; fixed = None }
-
--- ---- of what the policy declares
-
-abbrev pub region_kind : Thing → RegionKind
-region_kind (region name) = Own
-region_kind (channel name) = Channel
-region_kind (provided subject logical) = Provided
-region_kind _ = Kernel
-
-abbrev pub region_of : Item → Region
-region_of i = record { tag = thing_tag i.thing; kind = region_kind i.thing; size = i.size; alignment = i.alignment; fixed = i.address }
 
 -- ---- of the kernel
 

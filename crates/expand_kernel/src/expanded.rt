@@ -1,18 +1,18 @@
 //! Lawful policies with all that follows from them but addresses.
-ghost use Rattle.std.specs.Prelude.{◌≡◌, IfOk};
+ghost use Rattle.std.specs.Prelude.{◌≡◌, map, IfOk};
 ghost use Rattle.expand_grants.specs.Grants.{AreGrants, AreRoutes};
 ghost use Rattle.expand_kernel.specs.Expansion.{HaveNames, IsExpanded};
 ghost use Rattle.expand_kernel.specs.Regions.{regions_of};
 ghost use Rattle.policy_lawful.specs.Lawful.{IsLawful};
 ghost use Rattle.policy_lawful.specs.Resolution.{IsResolved, source_of};
+ghost use Rattle.policy_lawful.specs.Things.{region_of_thing};
 
 use crate::kernel::of_kernel;
-use crate::numbered::{of_channels, of_memory, of_subjects};
-use crate::region::Region;
 use expand_grants::{Grants, Route, grants, routes};
 use muen_num::{NoMemory, Seq};
-use policy_lawful::Lawful;
-use std::alloc::Global;
+use policy_lawful::thing::Region;
+use policy_lawful::{Lawful, Thing};
+use std::alloc::{AllocError, Global};
 use std::marker::Model;
 
 /// A lawful policy with its regions by number, what is granted to each subject, and where the
@@ -83,7 +83,27 @@ impl Expanded {
     }
 }
 
-// The regions by number.
+// The region of a thing.
+fn region_of(thing: &Thing) -> Region
+    ensures { result ≡ region_of_thing thing.now }
+{
+    Region {
+        tag: thing.tag,
+        kind: thing.kind,
+        size: thing.size,
+        alignment: thing.alignment,
+        fixed: thing.fixed,
+    }
+}
+
+// The regions of things, in order.
+fn regions_of(alloc: Global, things: &[Thing]) -> Result<Vec<Region>, AllocError>
+    ensures { IfOk result (λ v. v.items ≡ map region_of_thing things.now) }
+{
+    things.iter().map(|thing| region_of(thing)).collect(alloc)
+}
+
+// The regions by number: those of the things that are placed, and then the kernel's.
 fn regions_by_number(
     alloc: Global,
     lawful: &Lawful,
@@ -97,11 +117,7 @@ fn regions_by_number(
 {
     let policy = lawful.resolved();
     let subjects = policy.subjects();
-    let mut regions = of_memory(alloc, policy.memory())?;
-    let channels = of_channels(alloc, policy.channels())?;
-    regions.extend_from_slice(&channels)?;
-    let provided = of_subjects(alloc, policy)?;
-    regions.extend_from_slice(&provided)?;
+    let mut regions = regions_of(alloc, policy.placed_things())?;
     let kernel = of_kernel(alloc, subjects, grants)?;
     regions.extend_from_slice(&kernel)?;
     Ok(Seq::of(regions))

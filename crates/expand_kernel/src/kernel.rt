@@ -1,19 +1,21 @@
 //! The regions that the kernel has for each subject.
-ghost use Rattle.std.specs.Prelude.{◌≡◌, ◌≤◌, ◌+◌, ◌^◌, map, IfOk};
+ghost use Rattle.std.specs.Prelude.{◌≡◌, ◌≤◌, ◌+◌, ◌^◌, length, map, true, IfOk};
 ghost use Rattle.std.specs.List.{All};
 ghost use Rattle.ept_emit.specs.Pages.{ept_pages};
 ghost use Rattle.expand_kernel.specs.ByIndex.{CanMap, kernel_for_each, view_range, view_ranges};
-ghost use Rattle.expand_kernel.specs.Regions.{kernel_order, kernel_region};
+ghost use Rattle.expand_kernel.specs.Expansion.{HaveNames};
+ghost use Rattle.expand_kernel.specs.Regions.{anywhere, kernel_order, kernel_region};
+ghost use Rattle.muen_num.specs.Naming.{is_name};
 ghost use Rattle.muen_num.specs.declared.limits.TheConstants.{KERNEL_REGIONS};
+ghost use Rattle.policy_lawful.specs.declared.thing.RegionKind.TheVariants.{Kernel};
 
-use crate::numbered::anywhere;
-use crate::region::{Region, RegionKind};
 use ept_emit::{GuestRange, pages};
 use expand_grants::Grants;
 use muen_num::limits::{KERNEL_REGIONS, PAGE};
-use muen_num::{Name, NoMemory, TagPart};
+use muen_num::{Name, NoMemory, Tag, TagPart};
 use policy_lawful::View;
 use policy_lawful::resolved::Subject;
+use policy_lawful::thing::{Region, RegionKind};
 use std::alloc::{AllocError, Global};
 
 /// What the kernel has a region of memory for, of each subject.
@@ -80,25 +82,38 @@ fn table_pages(alloc: Global, views: &[View]) -> Result<u64, NoMemory>
     Ok(pages(&ranges))
 }
 
+// A region of the kernel that may be at any page.
+fn anywhere(owner: Name, part: TagPart, size: u64) -> Region
+    ensures { result ≡ anywhere Kernel owner part size }
+{
+    Region {
+        tag: Tag { owner, part },
+        kind: RegionKind::Kernel,
+        size,
+        alignment: PAGE,
+        fixed: None,
+    }
+}
+
 // A region of the kernel for the subject of this name, whose tables take so many pages.
 fn kernel_region(subject: Name, pages: u64, region: KernelRegion) -> Region
     requires { pages ≤ 2 ^ 28 }
     ensures { result ≡ kernel_region subject pages region }
 {
-    let kind = RegionKind::Kernel;
     match region {
-        KernelRegion::State => anywhere(kind, subject, TagPart::State, PAGE),
-        KernelRegion::Tables => anywhere(kind, subject, TagPart::Ept, pages * PAGE),
-        KernelRegion::IoBitmaps => anywhere(kind, subject, TagPart::Iobm, 2 * PAGE),
-        KernelRegion::MsrBitmap => anywhere(kind, subject, TagPart::Msrbm, PAGE),
-        KernelRegion::MsrArea => anywhere(kind, subject, TagPart::Msrs, PAGE),
+        KernelRegion::State => anywhere(subject, TagPart::State, PAGE),
+        KernelRegion::Tables => anywhere(subject, TagPart::Ept, pages * PAGE),
+        KernelRegion::IoBitmaps => anywhere(subject, TagPart::Iobm, 2 * PAGE),
+        KernelRegion::MsrBitmap => anywhere(subject, TagPart::Msrbm, PAGE),
+        KernelRegion::MsrArea => anywhere(subject, TagPart::Msrs, PAGE),
     }
 }
 
 // All of the subject of this name, whose tables take so many pages.
 fn kernel_regions(alloc: Global, subject: Name, pages: u64) -> Result<Vec<Region>, AllocError>
     requires { pages ≤ 2 ^ 28 }
-    ensures { IfOk result (λ v. v.items ≡ map (kernel_region subject pages) kernel_order) }
+    ensures regions { IfOk result (λ v. v.items ≡ map (kernel_region subject pages) kernel_order) }
+    ensures named { is_name subject ≡ true }
 {
     KernelRegion::ALL
         .iter()
@@ -112,8 +127,10 @@ pub(crate) fn of_kernel(
     subjects: &[Subject],
     grants: &[Grants],
 ) -> Result<Vec<Region>, NoMemory>
-    requires { All (λ g. CanMap g.views) grants.now }
-    ensures { IfOk result (λ v. v.items ≡ kernel_for_each subjects.now grants.now) }
+    requires views { All (λ g. CanMap g.views) grants.now }
+    requires as_many { length subjects.now ≡ length grants.now }
+    ensures regions { IfOk result (λ v. v.items ≡ kernel_for_each subjects.now grants.now) }
+    ensures named { IfOk result (λ _. HaveNames subjects.now) }
 {
     let mut regions = Vec::new(alloc);
     for (subject, granted) in subjects.iter().zip(grants) {

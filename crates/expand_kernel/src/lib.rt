@@ -3,10 +3,8 @@
 
 mod expanded;
 mod kernel;
-mod numbered;
-mod region;
 
 pub use expand_grants::Grants;
 pub use expanded::{Expanded, expand};
 pub use kernel::KernelRegion;
-pub use region::{Region, RegionKind};
+pub use policy_lawful::thing::{Region, RegionKind};

@@ -9,7 +9,7 @@ use Rattle.std.proofs.lemmas.List.Elements.{All-from_recursion}
 use Rattle.region_alloc.proofs.PageCounts.{count_none, count_three}
 use Rattle.region_alloc.specs.Pages.{count, ept_pages, is_taken, touches}
 use Rattle.region_alloc.specs.Regions.{kernel_regions, kernel_regions_of, region_of, regions_of, window_range}
-use Rattle.region_alloc.specs.region.Region.{Region}
+use Rattle.region_alloc.specs.thing.Region.{Region}
 use Rattle.region_alloc.specs.window.GuestRange.{GuestRange}
 use Rattle.policy_lawful.specs.Thing.{channel_item, component_by, placed_items, provided_items, region_item}
 use Rattle.policy_lawful.specs.Windows.{windows_of}

@@ -18,7 +18,6 @@ use Rattle.policy_lawful.specs.Resolution.{source_of}
 use Rattle.policy_lawful.proofs.KeptRules.{rules_of}
 use Rattle.span_emit.specs.SpansOf.{spans_of}
 use Rattle.span_emit.proofs.KeptRegions.{IsWhole, regions_whole}
-use Rattle.span_emit.proofs.RegionSpans.{no_device}
 
 -- ---- regions are whole pages
 
@@ -38,11 +37,12 @@ beside R Q f (x ∷ xs) h g = ((All-head (λ x. R x (f x)) x xs h, All-head Q (f
 module _ (m : Made) (h : IsMade m) where
   of_region : (n : ℕ) (s : SpanPart) → IsRegionAt m n s → FillsSpan s (content_at m s)
   of_region n s a =
-      let size : PAGE * (a.region.size / PAGE) ≡ a.region.size = whole_size a.region.size (all_at IsWhole m.placed.expanded.regions n a.region (whole_regions m h) a.there).pages in
+      let whole : IsWhole a.region = all_at IsWhole m.placed.expanded.regions n a.region (whole_regions m h) a.there in
+      let size : PAGE * (a.region.size / PAGE) ≡ a.region.size = whole_size a.region.size whole.pages in
       subst (λ s. FillsSpan s (content_at m s)) (sym a.is)
       (bytes_sized m h n a.region a.there
       ∙ sym size
-      ∙ ap (λ b. if b then 0 else PAGE * (a.region.size / PAGE)) (sym (no_device a.region.kind)))
+      ∙ ap (λ b. if b then 0 else PAGE * (a.region.size / PAGE)) (sym whole.no_device))
 
   of_memory : (n : ℕ) (s : SpanPart) → IsMemoryAt m n s → FillsSpan s (content_at m s)
   of_memory n s a =

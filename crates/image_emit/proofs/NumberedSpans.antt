@@ -4,7 +4,7 @@ use Rattle.std.specs.Prelude.{slice_get, slice_index}
 use Rattle.std.specs.List.{zip}
 use Rattle.std.proofs.lemmas.Bool.{cases_lt}
 use Rattle.std.proofs.lemmas.Option.{get_or_from_slice_get}
-use Rattle.expand_kernel.specs.declared.region.Region.{Region}
+use Rattle.expand_kernel.specs.thing.Region.{Region}
 use Rattle.image_emit.specs.Made.{IsMade, Made, policy_of}
 use Rattle.image_emit.proofs.AtIndexes.{mapped_there}
 use Rattle.image_emit.proofs.ByNumber.{region_spans_length}

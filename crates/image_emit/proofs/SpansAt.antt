@@ -5,7 +5,7 @@ use Rattle.std.specs.List.{enumerate_from, list_any, zip}
 use Rattle.std.proofs.lemmas.Option.{slice_get-get_or, slice_get-map, slice_get_within}
 use Rattle.std.proofs.lemmas.List.Sorted.{list_any-IsPermutation}
 use Rattle.std.proofs.lemmas.Map.Keys.{any_passes_from_place}
-use Rattle.expand_kernel.specs.declared.region.Region.{Region}
+use Rattle.expand_kernel.specs.thing.Region.{Region}
 use Rattle.image_emit.proofs.ByNumber.{as_many_addresses, region_spans_length}
 use Rattle.image_emit.specs.Made.{IsMade, Made, policy_of}
 use Rattle.image_pack.specs.declared.parts.SpanPart.{SpanPart}

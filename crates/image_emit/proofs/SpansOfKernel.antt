@@ -10,7 +10,7 @@ use Rattle.event_emit.specs.declared.event_tables.EventTables.{EventTables}
 use Rattle.expand_kernel.specs.granted.Grants.{Grants}
 use Rattle.expand_kernel.specs.ByIndex.{view_ranges}
 use Rattle.expand_kernel.specs.Regions.{anywhere, kernel_regions}
-use Rattle.expand_kernel.specs.declared.region.RegionKind.TheVariants.{Kernel}
+use Rattle.expand_kernel.specs.thing.RegionKind.TheVariants.{Kernel}
 use Rattle.image_emit.specs.Made.{IsMade, Made, content_at, image_of, kernel_bytes, policy_of, region_bytes}
 use Rattle.image_emit.proofs.ByNumber.{span_numbered}
 use Rattle.image_emit.proofs.BySubject.{IsAtIndex}

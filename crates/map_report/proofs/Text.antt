@@ -12,7 +12,7 @@ use Rattle.expand_kernel.specs.Ordered.{in_order, inserted}
 use Rattle.expand_kernel.specs.granted.Grants.{Grants}
 use Rattle.expand_kernel.proofs.Ordered.{map_in_order}
 use Rattle.expand_kernel.specs.Regions.{regions_of}
-use Rattle.expand_kernel.specs.declared.region.Region.{Region}
+use Rattle.expand_kernel.specs.thing.Region.{Region}
 use Rattle.muen_num.specs.declared.tag.TagPart.TheVariants.{Named}
 use Rattle.muen_num.proofs.Lists.{there}
 use Rattle.policy_lawful.specs.source.Block.{Block}

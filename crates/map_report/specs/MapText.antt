@@ -4,7 +4,7 @@ use Rattle.std.specs.List.{enumerate_from, flat_map}
 use Rattle.std.specs.Option.{option_map_or}
 use Rattle.expand_kernel.specs.Ordered.{in_order}
 use Rattle.expand_kernel.specs.Regions.{regions_of}
-use Rattle.expand_kernel.specs.declared.region.Region.{Region}
+use Rattle.expand_kernel.specs.thing.Region.{Region}
 use Rattle.muen_num.specs.Fixed.{hex16}
 use Rattle.muen_num.specs.Tag.{tag_text}
 use Rattle.muen_num.specs.declared.tag.Tag.{Tag}

@@ -3,7 +3,7 @@ use Rattle.std.specs.Prelude.{ℕ, Bool, true, List, [], ◌++◌, codes, length
 use Rattle.std.specs.Option.{option_map_or}
 use Rattle.std.specs.List.{enumerate_from, flat_map}
 use Rattle.expand_kernel.specs.granted.Grants.{Grants}
-use Rattle.expand_kernel.specs.declared.region.Region.{Region}
+use Rattle.expand_kernel.specs.thing.Region.{Region}
 use Rattle.map_report.specs.MapText.{region_line, region_lines, window_line}
 use Rattle.muen_num.specs.declared.tag.TagPart.{TagPart}
 use Rattle.muen_num.specs.declared.tag.TagPart.TheVariants.{Named, State as States, Whole}

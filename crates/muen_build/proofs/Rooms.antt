@@ -10,7 +10,7 @@ use Rattle.expand_kernel.specs.Grants.{AreGrants}
 use Rattle.expand_kernel.specs.ByIndex.{brought_at, channel_region, kernel_for_each, own_region, provided_region}
 use Rattle.policy_lawful.specs.ByIndex.{provided_at}
 use Rattle.expand_kernel.specs.Regions.{regions_of}
-use Rattle.expand_kernel.specs.declared.region.Region.{Region}
+use Rattle.expand_kernel.specs.thing.Region.{Region}
 use Rattle.expand_kernel.proofs.Numbering.{regions_by_index}
 use Rattle.image_emit.specs.Made.{IsFilled}
 use Rattle.muen_build.specs.Accepting.{Files}

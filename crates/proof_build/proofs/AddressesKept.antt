@@ -2,7 +2,7 @@
 use Rattle.std.proofs.Common.{◌≡◌, ℕ, Some, ap}
 use Rattle.std.specs.Prelude.{slice_get, slice_index}
 use Rattle.std.specs.Option.{option_map_or}
-use Rattle.expand_kernel.specs.declared.region.Region.{Region}
+use Rattle.expand_kernel.specs.thing.Region.{Region}
 use Rattle.image_emit.specs.Made.{IsMade, Made, image_of}
 use Rattle.image_emit.proofs.ByNumber.{span_numbered}
 use Rattle.image_emit.proofs.SpansAt.{region_at}

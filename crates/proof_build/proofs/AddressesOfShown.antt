@@ -12,8 +12,8 @@ use Rattle.expand_kernel.specs.Grants.{AreGrantsOf}
 use Rattle.expand_kernel.specs.granted.Grants.{Grants}
 use Rattle.policy_lawful.specs.ByIndex.{provided_at, memories_of}
 use Rattle.expand_kernel.specs.Regions.{anywhere}
-use Rattle.expand_kernel.specs.declared.region.Region.{Region}
-use Rattle.expand_kernel.specs.declared.region.RegionKind.TheVariants.{Kernel}
+use Rattle.expand_kernel.specs.thing.Region.{Region}
+use Rattle.expand_kernel.specs.thing.RegionKind.TheVariants.{Kernel}
 use Rattle.image_emit.specs.Made.{IsMade, Made, image_of, policy_of}
 use Rattle.image_emit.proofs.ByNumber.{region_spans_length}
 use Rattle.proof_build.proofs.PagesThere.{page_there}

@@ -10,7 +10,7 @@ use Rattle.std.proofs.lemmas.Slice.Zip.{AllZip-long}
 use Rattle.event_emit.specs.Tables.{AreTables}
 use Rattle.expand_kernel.specs.Grants.{AreGrantsOf}
 use Rattle.policy_lawful.specs.ByIndex.{provided_at, memories_of, brought_to}
-use Rattle.expand_kernel.specs.declared.region.Region.{Region}
+use Rattle.expand_kernel.specs.thing.Region.{Region}
 use Rattle.image_emit.specs.Made.{IsMade, Made, image_of, policy_of, subject_part, subject_parts}
 use Rattle.proof_build.proofs.Contents.{IsRegionOf, addresses_enough, regions_of_things, spans_of_memory, spans_of_regions, thing_spans_are, with_content}
 use Rattle.policy_lawful.proofs.FirstIndexes.{IsFirstAt, beside_first, first_left, first_mapped, first_named, first_piece, first_right, none_joined, none_mapped, none_pieces, other_before}

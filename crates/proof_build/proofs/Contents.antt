@@ -7,7 +7,7 @@ use Rattle.std.proofs.lemmas.List.Elements.{All-append, All-from_recursion, All-
 use Rattle.std.proofs.lemmas.Option.{get_or_from_slice_get, slice_get_within}
 use Rattle.expand_kernel.specs.ByIndex.{brought_at, channel_region, kernel_for, kernel_for_each, own_region, provided_region}
 use Rattle.policy_lawful.specs.ByIndex.{provided_at, memories_of}
-use Rattle.expand_kernel.specs.declared.region.Region.{Region}
+use Rattle.expand_kernel.specs.thing.Region.{Region}
 use Rattle.image_emit.specs.Made.{IsMade, Made, content_at, image_of, kernel_bytes, policy_of, region_bytes}
 use Rattle.image_soundness.specs.ThingBytes.{thing_bytes}
 use Rattle.image_emit.proofs.ByNumber.{as_many_addresses, by_number_is}
@@ -31,7 +31,6 @@ use Rattle.span_emit.specs.Spans.{device_span, region_span, region_spans, span_k
 use Rattle.span_emit.specs.SpansOf.{spans_of}
 use Rattle.policy_lawful.proofs.KeptAddresses.{IsPhysical}
 use Rattle.span_emit.proofs.KeptRegions.{IsWhole}
-use Rattle.span_emit.proofs.RegionSpans.{no_device}
 
 -- ---- which spans they are
 
@@ -140,7 +139,7 @@ module _ (files : Held) (p : Source) where
     tag = of.tag;
     kind = of.kind;
     size = size ∙ ap Some (sym (whole_size y.size whole.pages));
-    bytes = ap (λ d. cond d (replicate (PAGE * (y.size / PAGE)) 0) held) (no_device y.kind) ∙ has ∙ is;
+    bytes = ap (λ d. cond d (replicate (PAGE * (y.size / PAGE)) 0) held) whole.no_device ∙ has ∙ is;
   }
 
   region_spans_have : (look : ℕ → List ℕ) (n : ℕ) (ts : List Thing) (ys : List Region) (ps : List ℕ) (bs : List (List ℕ)) → AllZip IsRegionOf ts ys → length ys ≤ length ps

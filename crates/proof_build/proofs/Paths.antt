@@ -13,7 +13,7 @@ use Rattle.event_emit.specs.declared.event_tables.EventTables.{EventTables}
 use Rattle.expand_kernel.specs.granted.Grants.{Grants}
 use Rattle.expand_kernel.specs.ByIndex.{view_ranges}
 use Rattle.expand_kernel.specs.Regions.{anywhere}
-use Rattle.expand_kernel.specs.declared.region.RegionKind.TheVariants.{Kernel}
+use Rattle.expand_kernel.specs.thing.RegionKind.TheVariants.{Kernel}
 use Rattle.image_soundness.specs.Paths.{HasOnePathPerTable}
 use Rattle.image_emit.specs.Made.{IsMade, Made, image_of, policy_of}
 use Rattle.image_emit.proofs.ByNumber.{as_many_addresses}

@@ -1,7 +1,7 @@
 -- The spans of the image, by number, are the policy's regions where its placement has them, and then the devices' memory.
 use Rattle.std.proofs.Common.{List, ◌++◌, length, map, ap, ◌∙◌}
 use Rattle.std.proofs.lemmas.List.{map-id}
-use Rattle.expand_kernel.specs.declared.region.Region.{Region}
+use Rattle.expand_kernel.specs.thing.Region.{Region}
 use Rattle.image_emit.specs.Made.{IsMade, Made, content_at, image_of, policy_of}
 use Rattle.image_emit.proofs.ByNumber.{by_number_is}
 use Rattle.image_pack.specs.declared.parts.SpanPart.{SpanPart}

@@ -8,7 +8,7 @@ use Rattle.std.proofs.lemmas.List.{length-map}
 use Rattle.std.proofs.lemmas.List.Elements.{All-nil}
 use Rattle.expand_kernel.specs.Expansion.{Expansion, IsExpanded}
 use Rattle.expand_kernel.specs.Regions.{regions_of}
-use Rattle.expand_kernel.specs.declared.region.Region.{Region}
+use Rattle.expand_kernel.specs.thing.Region.{Region}
 use Rattle.muen_num.proofs.Lists.{found, each_numbered}
 use Rattle.muen_num.proofs.NumbersBelow.{length_numbers, mapped_at}
 use Rattle.muen_num.specs.Range.{numbers_below}

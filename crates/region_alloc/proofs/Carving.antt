@@ -8,7 +8,7 @@ use Rattle.std.proofs.lemmas.List.Folds.{list_all-append, list_any-append}
 use Rattle.std.proofs.Math.Bool.{or-false, and-true, and_assoc}
 use Rattle.muen_num.proofs.Lists.{list_any-map}
 use Rattle.policy_lawful.specs.source.Block.{Block}
-use Rattle.expand_kernel.specs.declared.region.Region.{Region}
+use Rattle.expand_kernel.specs.thing.Region.{Region}
 use Rattle.region_alloc.specs.Gaps.{gap_of, has_room, holds, remaining_of, some_gap}
 use Rattle.region_alloc.specs.Placement.{is_apart, is_room, suits}
 use Rattle.region_alloc.specs.declared.gaps.Gap.{Gap}

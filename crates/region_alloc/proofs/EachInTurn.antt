@@ -6,7 +6,7 @@ use Rattle.std.proofs.lemmas.Bool.{cases_Bool}
 use Rattle.std.proofs.lemmas.List.Elements.{All-append, All-cons, All-filter, All-head, All-nil, All-tail}
 use Rattle.expand_kernel.proofs.Ordered.{All-in_order}
 use Rattle.expand_kernel.specs.Ordered.{in_order, inserted}
-use Rattle.expand_kernel.specs.declared.region.Region.{Region}
+use Rattle.expand_kernel.specs.thing.Region.{Region}
 use Rattle.region_alloc.specs.Placement.{in_turn, has_fixed_address}
 
 -- what holds of each with its number

@@ -3,7 +3,7 @@ use Rattle.std.proofs.Common.{◌≡◌, ℕ, suc, ◌+◌, ◌<◌, ◌≤◌, 
 use Rattle.std.specs.Prelude.{Ok, Err}
 use Rattle.std.specs.List.{flat_map}
 use Rattle.std.proofs.lemmas.List.{drop_all}
-use Rattle.expand_kernel.specs.declared.region.Region.{Region}
+use Rattle.expand_kernel.specs.thing.Region.{Region}
 use Rattle.muen_num.specs.declared.limits.TheConstants.{PHYSICAL_END}
 use Rattle.policy_lawful.specs.source.Block.{Block}
 use Rattle.region_alloc.specs.Gaps.{IsLeast, gap_of, has_room, remaining_of}

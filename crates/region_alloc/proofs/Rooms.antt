@@ -3,7 +3,7 @@ use Rattle.std.proofs.Common.{◌≡◌, ℕ, inl, inr, Bool, true, false, List,
 use Rattle.std.specs.Prelude.{◌&&◌, ◌%◌, ◌==◌}
 use Rattle.std.specs.List.{list_any}
 use Rattle.std.proofs.lemmas.Bool.{and_from, and_left, and_right, cases_eq, eq-eqb, ne_eqb}
-use Rattle.expand_kernel.specs.declared.region.Region.{Region}
+use Rattle.expand_kernel.specs.thing.Region.{Region}
 use Rattle.region_alloc.specs.Gaps.{IsLeast, fits_in_gap, has_room, holds}
 use Rattle.region_alloc.specs.Placement.{suits}
 use Rattle.region_alloc.specs.declared.gaps.Gap.{Gap}

@@ -4,5 +4,5 @@ pub mod Placement
 pub use Rattle.expand_kernel.specs.Ordered
 pub use Rattle.expand_kernel.specs.Pages
 pub use Rattle.expand_kernel.specs.Regions
-pub use Rattle.expand_kernel.specs.declared.region
+pub use Rattle.expand_kernel.specs.thing
 pub use Rattle.expand_kernel.specs.window

@@ -2,7 +2,7 @@
 use Rattle.std.specs.Prelude.{◌≡◌, ◌⊎◌, ◌+◌, ◌≤◌, ℕ, ◌<◌, List, length, slice_get, slice_index, Some, Ok, true}
 use Rattle.std.specs.List.{AllZip}
 use Rattle.expand_kernel.specs.Expansion.{Expansion, IsExpansion}
-use Rattle.expand_kernel.specs.declared.region.Region.{Region}
+use Rattle.expand_kernel.specs.thing.Region.{Region}
 use Rattle.policy_lawful.specs.Lawful.{IsLawful}
 use Rattle.policy_lawful.specs.Ranges.{in_a_block}
 use Rattle.policy_lawful.specs.Resolution.{IsResolved, source_of}

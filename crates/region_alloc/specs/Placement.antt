@@ -5,7 +5,7 @@ use Rattle.std.specs.Option.{option_map_or, option_or}
 use Rattle.std.specs.List.{enumerate_from, find, list_all}
 use Rattle.expand_kernel.specs.Ordered.{in_order}
 use Rattle.expand_kernel.specs.Regions.{regions_of}
-use Rattle.expand_kernel.specs.declared.region.Region.{Region}
+use Rattle.expand_kernel.specs.thing.Region.{Region}
 use Rattle.muen_num.specs.Range.{numbers_below}
 use Rattle.muen_num.specs.declared.limits.TheConstants.{PHYSICAL_END}
 use Rattle.policy_lawful.specs.Ranges.{in_a_block, share_none}

@@ -10,7 +10,7 @@ use Rattle.std.proofs.lemmas.List.FromFn.{length-enumerate_from}
 use Rattle.std.proofs.lemmas.List.Sorted.{All-permutation, length_permutation, sum_by-IsPermutation}
 use Rattle.std.proofs.lemmas.List.Sums.{sum_by-append}
 use Rattle.std.proofs.Math.Bool.{or_comm}
-use Rattle.expand_kernel.specs.declared.region.Region.{Region}
+use Rattle.expand_kernel.specs.thing.Region.{Region}
 use Rattle.image_pack.specs.Codes.{is_device, is_part, part_code}
 use Rattle.image_pack.specs.SpanConditions.{AreSpans, Ascend, HaveDifferentNumbers, HaveRoom, device_pages_of, end_of}
 use Rattle.image_pack.specs.declared.parts.SpanPart.{SpanPart}

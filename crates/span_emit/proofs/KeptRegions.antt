@@ -6,8 +6,8 @@ use Rattle.std.proofs.lemmas.Bool.{and_parts, eqb-true, or_cases}
 use Rattle.std.proofs.lemmas.List.Elements.{All-append, All-from_recursion, All-map, All-nil}
 use Rattle.expand_kernel.specs.Pages.{ept_pages}
 use Rattle.expand_kernel.specs.Regions.{kernel_regions, kernel_regions_of, window_range, regions_of}
-use Rattle.expand_kernel.specs.declared.region.Region.{Region}
-use Rattle.image_pack.specs.Codes.{is_part, part_code}
+use Rattle.expand_kernel.specs.thing.Region.{Region}
+use Rattle.image_pack.specs.Codes.{is_device, is_part, part_code}
 use Rattle.muen_num.proofs.Lists.{all_flat, all_passing}
 use Rattle.muen_num.specs.declared.limits.TheConstants.{LARGE_PAGE, PAGE}
 use Rattle.policy_lawful.specs.Rules.{is_alignment, is_fixed, is_guest, is_laid, is_page_size, is_physical, offence_4}
@@ -26,9 +26,10 @@ use Rattle.policy_lawful.proofs.KeptAddresses.{addresses_kept, brings, used_brin
 use Rattle.expand_kernel.specs.ByIndex.{channel_region, own_region, provided_region, provided_regions}
 use Rattle.expand_kernel.proofs.ByKind.{regions_are}
 
--- a region of whole pages, that is a part which a region of its kind may be, and that may be only where a page begins
+-- a region of whole pages, no device's, that is a part which a region of its kind may be, and that may be only where a page begins
 pub record IsWhole (r : Region) : Type 0 where
   pub pages : r.size % PAGE ≡ 0
+  pub no_device : is_device (span_kind r.kind) ≡ false
   pub part : is_part (span_kind r.kind) (part_code r.tag.part) ≡ true
   pub placed : (a : ℕ) → suits r r.fixed a ≡ true → a % PAGE ≡ 0
 
@@ -53,16 +54,17 @@ whole_laid : (r : SourceRegion) → is_laid r ≡ true → IsWhole (own_region r
 whole_laid r h =
     let both = and_parts (is_page_size r.size && is_alignment r.alignment) (is_fixed r r.physical_address) h in
     let parts = and_parts (is_page_size r.size) (is_alignment r.alignment) both.0 in
-    record { pages = whole_size r.size parts.0; part = refl; placed = fixed_addresses r r.physical_address parts.1 both.1 }
+    record { pages = whole_size r.size parts.0; no_device = refl; part = refl; placed = fixed_addresses r r.physical_address parts.1 both.1 }
 
 whole_channel : (c : Channel) → is_page_size c.size ≡ true → IsWhole (channel_region c)
-whole_channel c h = record { pages = whole_size c.size h; part = refl; placed = λ a s. eqb-true (a % PAGE) 0 s }
+whole_channel c h = record { pages = whole_size c.size h; no_device = refl; part = refl; placed = λ a s. eqb-true (a % PAGE) 0 s }
 
 whole_provided : (subject : List ℕ) (x : Provided) → is_guest x.virtual_address x.size ≡ true → IsWhole (provided_region subject x)
 whole_provided subject x h =
     let both = and_parts (is_page_aligned x.virtual_address && is_page_size x.size) _ h in
     record {
       pages = whole_size x.size (and_parts (is_page_aligned x.virtual_address) (is_page_size x.size) both.0).1;
+      no_device = refl;
       part = refl;
       placed = λ a s. eqb-true (a % PAGE) 0 s;
     }
@@ -76,15 +78,15 @@ provided_whole subject (Some c) h =
 kernel_whole : (subject : List ℕ) (pages : ℕ) → All IsWhole (kernel_regions subject pages)
 kernel_whole subject pages =
     All-from_recursion IsWhole (kernel_regions subject pages) (
-      record { pages = refl; part = refl; placed = λ a s. eqb-true (a % PAGE) 0 s },
+      record { pages = refl; no_device = refl; part = refl; placed = λ a s. eqb-true (a % PAGE) 0 s },
       (
-        record { pages = omega arith; part = refl; placed = λ a s. eqb-true (a % PAGE) 0 s },
+        record { pages = omega arith; no_device = refl; part = refl; placed = λ a s. eqb-true (a % PAGE) 0 s },
         (
-          record { pages = refl; part = refl; placed = λ a s. eqb-true (a % PAGE) 0 s },
+          record { pages = refl; no_device = refl; part = refl; placed = λ a s. eqb-true (a % PAGE) 0 s },
           (
-            record { pages = refl; part = refl; placed = λ a s. eqb-true (a % PAGE) 0 s },
+            record { pages = refl; no_device = refl; part = refl; placed = λ a s. eqb-true (a % PAGE) 0 s },
             (
-              record { pages = refl; part = refl; placed = λ a s. eqb-true (a % PAGE) 0 s },
+              record { pages = refl; no_device = refl; part = refl; placed = λ a s. eqb-true (a % PAGE) 0 s },
               tt,
             ),
           ),

@@ -7,9 +7,7 @@ use Rattle.std.proofs.lemmas.List.Elements.{All-cons, All-head, All-nil, All-tai
 use Rattle.std.proofs.lemmas.List.FromFn.{length-enumerate_from}
 use Rattle.std.proofs.lemmas.List.Kept.{AllPairs-cons}
 use Rattle.std.proofs.lemmas.Slice.Zip.{length-zip}
-use Rattle.expand_kernel.specs.declared.region.Region.{Region}
-use Rattle.expand_kernel.specs.declared.region.RegionKind.{RegionKind}
-use Rattle.expand_kernel.specs.declared.region.RegionKind.TheVariants.{Own, Channel, Provided, Kernel}
+use Rattle.expand_kernel.specs.thing.Region.{Region}
 use Rattle.image_pack.specs.Codes.{is_device, is_part, part_code}
 use Rattle.image_pack.specs.SpanConditions.{end_of}
 use Rattle.image_pack.specs.declared.parts.SpanPart.{SpanPart}
@@ -17,7 +15,7 @@ use Rattle.muen_num.specs.declared.limits.TheConstants.{PAGE}
 use Rattle.policy_lawful.specs.source.Block.{Block}
 use Rattle.region_alloc.proofs.Placing.{IsSized}
 use Rattle.region_alloc.specs.Placed.{AreDisjoint, AreInside}
-use Rattle.span_emit.specs.Spans.{region_span, region_spans, span_kind}
+use Rattle.span_emit.specs.Spans.{region_span, region_spans}
 use Rattle.span_emit.proofs.KeptRegions.{IsWhole}
 use Rattle.span_emit.proofs.PairLaws.{pairs_nil}
 use Rattle.policy_lawful.specs.Ranges.{in_a_block}
@@ -35,12 +33,6 @@ pub record IsRegionSpan (blocks : List Block) (s : SpanPart) : Type 0 where
 
 -- ---- each
 
-pub no_device : (k : RegionKind) → is_device (span_kind k) ≡ false
-no_device Own = refl
-no_device Channel = refl
-no_device Provided = refl
-no_device Kernel = refl
-
 module _ (blocks : List Block) where
   region_span_is : (k address : ℕ) (r : Region) → IsWhole r → IsSized r → address % PAGE ≡ 0 → in_a_block blocks address r.size ≡ true → IsRegionSpan blocks (region_span (k, (r, address)))
   region_span_is k address r h sized aligned inside =
@@ -48,7 +40,7 @@ module _ (blocks : List Block) where
       let some = sized.0 in
       let size : PAGE * (r.size / PAGE) ≡ r.size = omega arith in
       record {
-        bytes = no_device r.kind;
+        bytes = h.no_device;
         aligned = aligned;
         some = omega arith;
         part = h.part;

@@ -1,9 +1,9 @@
 -- The spans of an image (this project's own format): regions at their addresses, and devices' memory.
 use Rattle.std.specs.Prelude.{ℕ, ◌/◌, List, map, zip}
 use Rattle.std.specs.List.{enumerate_from}
-use Rattle.expand_kernel.specs.declared.region.Region.{Region}
-use Rattle.expand_kernel.specs.declared.region.RegionKind.{RegionKind}
-use Rattle.expand_kernel.specs.declared.region.RegionKind.TheVariants.{Own as OwnRegion, Channel as ChannelRegion, Provided as ProvidedRegion, Kernel as KernelRegion}
+use Rattle.expand_kernel.specs.thing.Region.{Region}
+use Rattle.expand_kernel.specs.thing.RegionKind.{RegionKind}
+use Rattle.expand_kernel.specs.thing.RegionKind.TheVariants.{Own as OwnRegion, Channel as ChannelRegion, Provided as ProvidedRegion, Device as DeviceRegion, Kernel as KernelRegion}
 use Rattle.image_pack.specs.declared.parts.SpanKind.{SpanKind}
 use Rattle.image_pack.specs.declared.parts.SpanKind.TheVariants.{Own, Channel, Provided, Kernel, Device}
 use Rattle.image_pack.specs.declared.parts.SpanPart.{SpanPart}
@@ -17,6 +17,7 @@ abbrev pub span_kind : RegionKind → SpanKind
 span_kind OwnRegion = Own
 span_kind ChannelRegion = Channel
 span_kind ProvidedRegion = Provided
+span_kind DeviceRegion = Device
 span_kind KernelRegion = Kernel
 
 -- the region of this number at its address

@@ -22,6 +22,7 @@ fn span_kind(kind: RegionKind) -> SpanKind
         RegionKind::Own => SpanKind::Own,
         RegionKind::Channel => SpanKind::Channel,
         RegionKind::Provided => SpanKind::Provided,
+        RegionKind::Device => SpanKind::Device,
         RegionKind::Kernel => SpanKind::Kernel,
     }
 }

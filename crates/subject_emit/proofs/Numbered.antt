@@ -11,7 +11,7 @@ use Rattle.expand_kernel.specs.granted.Grants.{Grants}
 use Rattle.expand_kernel.specs.ByIndex.{brought_at, channel_region, kernel_for, kernel_for_each, own_region, provided_region, view_ranges}
 use Rattle.policy_lawful.specs.ByIndex.{provided_at}
 use Rattle.expand_kernel.specs.Regions.{kernel_regions}
-use Rattle.expand_kernel.specs.declared.region.Region.{Region}
+use Rattle.expand_kernel.specs.thing.Region.{Region}
 use Rattle.expand_kernel.proofs.Numbering.{regions_by_index}
 use Rattle.muen_num.proofs.Lists.{get_left, get_right}
 use Rattle.policy_lawful.specs.declared.resolved.Subject.{Subject}

@@ -8,8 +8,8 @@ use Rattle.expand_kernel.specs.Grants.{AreGrantsOf}
 use Rattle.expand_kernel.specs.granted.Grants.{Grants}
 use Rattle.expand_kernel.specs.ByIndex.{CanMap, view_ranges}
 use Rattle.expand_kernel.specs.Regions.{anywhere}
-use Rattle.expand_kernel.specs.declared.region.Region.{Region}
-use Rattle.expand_kernel.specs.declared.region.RegionKind.TheVariants.{Kernel}
+use Rattle.expand_kernel.specs.thing.Region.{Region}
+use Rattle.expand_kernel.specs.thing.RegionKind.TheVariants.{Kernel}
 use Rattle.expand_kernel.proofs.Numbering.{can_map_granted}
 use Rattle.muen_num.proofs.Pairs.{first_at}
 use Rattle.muen_num.specs.declared.limits.TheConstants.{PAGE}

@@ -1,5 +1,5 @@
 use Rattle.std.proofs.Common.{◌<◌, length, ℕ, inr, Some, None, ap, subst, arith}
-use Rattle.expand_kernel.specs.declared.region.Region.{Region}
+use Rattle.expand_kernel.specs.thing.Region.{Region}
 use Rattle.region_alloc.specs.Gaps.{IsLeast, has_room}
 use Rattle.region_alloc.specs.Placement.{no_room_for}
 use Rattle.region_alloc.proofs.Placing.{address_end, no_address, placed_all, placing_first, placing_next, sized_at}

@@ -1,7 +1,7 @@
 use Rattle.std.proofs.Common.{ℕ, rules}
 use Rattle.std.proofs.lemmas.List.Sorted.{answers_always}
 use Rattle.std.specs.declared.cmp.Reverse.{Reverse}
-use Rattle.expand_kernel.specs.declared.region.Region.{Region}
+use Rattle.expand_kernel.specs.thing.Region.{Region}
 use Rattle.region_alloc.proofs.Sizes.{order_is}
 use Rattle.region_alloc.proofs.turns.sort.Goals as goal
 
