@@ -1,11 +1,9 @@
 -- Rule 10: the ranges of ports of devices are ranges of ports.
-use Rattle.std.proofs.Common.{◌≡◌, ◌∙◌, Bool, true, List, [], ◌∷◌, ◌++◌, None, refl, sym}
-use Rattle.std.specs.Prelude.{◌&&◌, nat_le}
+use Rattle.std.proofs.Common.{◌≡◌, ◌∙◌, true, List, [], ◌∷◌, ◌++◌, None, refl, sym}
 use Rattle.std.specs.List.{list_all}
 use Rattle.std.proofs.lemmas.Bool.{and_from}
 use Rattle.muen_num.proofs.SearchLaws.{none_both, unless_none}
 use Rattle.muen_num.specs.Search.{first_after, first_in, unless}
-use Rattle.muen_num.specs.declared.limits.TheConstants.{LAST_PORT}
 use Rattle.policy_lawful.specs.MoreRules.{device_ports, offence_10, ports_apart, ports_offence}
 use Rattle.policy_lawful.specs.Offences.{alone, two}
 use Rattle.policy_lawful.proofs.EachPasses.{all_flat}

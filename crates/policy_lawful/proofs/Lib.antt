@@ -34,5 +34,6 @@ pub mod SeenAtIndex
 pub mod SourceElements
 pub mod ThingLists
 pub mod ThingsByIndex
+pub mod ThingsDiffer
 pub mod UniqueNames
 pub mod WindowsByIndex

@@ -1,5 +1,5 @@
 -- The things that are placed are the first ones, the devices' memory the others.
-use Rattle.std.proofs.Common.{◌≡◌, ℕ, ◌-◌, ◌≤◌, List, ◌++◌, length, take, drop, sym, ap, ap₂, ◌∙◌, subst, arith, length-append}
+use Rattle.std.proofs.Common.{◌≡◌, ℕ, ◌-◌, ◌≤◌, List, length, take, drop, sym, ap, ap₂, ◌∙◌, subst, arith, length-append}
 use Rattle.std.proofs.Math.Seq.{drop-append_seam, take-append_seam}
 use Rattle.std.proofs.lemmas.List.{take_all}
 use Rattle.policy_lawful.proofs.ThingsByIndex.{devices_by_index}

@@ -14,12 +14,10 @@ use Rattle.policy_lawful.specs.Resolution.{IsResolved, Resolution, component_in_
 use Rattle.policy_lawful.specs.Thing.{Item, channel_item, component_by, device_item, device_items, items_of, placed_items, provided_item, provided_items, region_item}
 use Rattle.policy_lawful.specs.Things.{AreDeclared, IsThingOf, brought_by, brought_things, channel_thing, content_told, device_thing, device_things, device_things_of, own_thing, placed_things, provided_thing, things_by_number}
 use Rattle.policy_lawful.specs.declared.resolved.ComponentUse.{ComponentUse}
-use Rattle.policy_lawful.specs.declared.resolved.Subject.{Subject}
 use Rattle.policy_lawful.specs.declared.thing.Thing.{Thing}
 use Rattle.policy_lawful.specs.rights.Caching.TheVariants.{Wb}
 use Rattle.policy_types.specs.declared.source.Component.{Component}
 use Rattle.policy_types.specs.declared.source.Device.{Device}
-use Rattle.policy_types.specs.declared.source.DeviceMemory.{DeviceMemory}
 use Rattle.policy_types.specs.declared.source.Provided.{Provided}
 use Rattle.policy_types.specs.declared.source.Region.{Region}
 

@@ -9,8 +9,8 @@ use crate::things::{device_things, placed_things};
 use crate::view::{IndexedEnd, Seen, View};
 use muen_num::{Name, NoMemory, Seq};
 use policy_types::source::{
-    Block, Channel, Component, Content, Device, Domain, Event, Msrs, Processor, Provided, Region, SourceWay,
-    Tau0,
+    Block, Channel, Component, Content, Device, Domain, Event, Msrs, Processor, Provided, Region,
+    SourceWay, Tau0,
 };
 use policy_types::{Rights, Role};
 use std::alloc::Global;
