@@ -1,5 +1,5 @@
 -- What a policy declares of things, by number: what they hold at the start, and how many bytes each has.
-use Rattle.std.proofs.Common.{◌≡◌, ℕ, ◌+◌, List, [], ◌++◌, length, map, Option, Some, None, refl, sym, ap, ◌∙◌}
+use Rattle.std.proofs.Common.{◌≡◌, ℕ, ◌+◌, List, [], ◌++◌, length, map, Some, refl, sym, ap, ◌∙◌}
 use Rattle.std.specs.Prelude.{option_map, replicate, slice_get}
 use Rattle.std.specs.Option.{option_map_or}
 use Rattle.std.specs.List.{flat_map}
@@ -11,10 +11,9 @@ use Rattle.policy_lawful.proofs.ThingsDiffer.{item_found}
 use Rattle.policy_lawful.specs.ByIndex.{memories_of, provided_at}
 use Rattle.policy_lawful.specs.Contents.{Held, content_bytes, initial_bytes}
 use Rattle.policy_lawful.specs.Resolution.{IsResolved, Resolution, source_of}
-use Rattle.policy_lawful.specs.Thing.{Item, Thing, declared_size, device_items, item_of, items_of, placed_items}
+use Rattle.policy_lawful.specs.Thing.{Item, declared_size, device_items, item_of, items_of, placed_items}
 use Rattle.policy_lawful.specs.Things.{AreDeclared, IsThingOf, content_told, device_things, placed_things}
 use Rattle.policy_lawful.specs.declared.thing.Thing.{Thing as NumberedThing}
-use Rattle.policy_lawful.specs.source.Content.{Content}
 
 -- the bytes are those of each list by index
 pub bytes_by_index : (files : Held) (r : Resolution) → thing_bytes files r ≡
@@ -26,20 +25,20 @@ bytes_by_index files r =
     (λ k m at. ap (λ o. content_bytes files m.size (content_told (option_map (λ m. m.content) o))) at)
     (λ subject used k x is. ap (λ o. content_bytes files x.size (content_told o)) is)
 
+-- ---- of the thing of an item
+
+module _ (r : Resolution) (i : Item) (found : item_of (source_of r) i.thing ≡ Some i) (t : NumberedThing) (h : IsThingOf r (source_of r) i t) where
+  pub size_is : declared_size (source_of r) i.thing ≡ Some t.size
+  unfolding declared_size
+  size_is = ap (option_map (λ (i : Item). i.size)) found ∙ (λ j. Some (sym h.region j).size)
+
+  pub bytes_are : (files : Held) → initial_bytes (source_of r) files i.thing ≡ bytes_held files r t
+  unfolding initial_bytes
+  bytes_are files = ap (λ o. option_map_or (λ (i : Item). content_bytes files i.size i.content) o []) found ∙ (λ j. content_bytes files (sym h.region j).size (sym h.content j))
+
+-- ---- of all that are placed, and of devices' memory
+
 module _ (r : Resolution) (q : IsResolved r) where
-  -- ---- of the thing of an item
-
-  module _ (i : Item) (found : item_of (source_of r) i.thing ≡ Some i) (t : NumberedThing) (h : IsThingOf r (source_of r) i t) where
-    pub size_is : declared_size (source_of r) i.thing ≡ Some t.size
-    unfolding declared_size
-    size_is = ap (option_map (λ (i : Item). i.size)) found ∙ (λ j. Some (sym h.region j).size)
-
-    pub bytes_are : (files : Held) → initial_bytes (source_of r) files i.thing ≡ bytes_held files r t
-    unfolding initial_bytes
-    bytes_are files = ap (λ o. option_map_or (λ (i : Item). content_bytes files i.size i.content) o []) found ∙ (λ j. content_bytes files (sym h.region j).size (sym h.content j))
-
-  -- ---- of all that are placed, and of devices' memory
-
   abbrev AreFound : List Item → Type 0
   AreFound items = (k : ℕ) (i : Item) → slice_get items k ≡ Some i → item_of (source_of r) i.thing ≡ Some i
 
@@ -55,12 +54,12 @@ module _ (r : Resolution) (q : IsResolved r) where
     sizes_of : map (declared_size (source_of r)) (map (λ i. i.thing) items) ≡ map (λ t. Some t.size) things
     sizes_of =
         map-map (declared_size (source_of r)) (λ (i : Item). i.thing) items
-        ∙ same_maps (IsThingOf r (source_of r)) (λ (i : Item). declared_size (source_of r) i.thing) (λ (t : NumberedThing). Some t.size) items things are (λ k i t at h. size_is i (found k i at) t h)
+        ∙ same_maps (IsThingOf r (source_of r)) (λ (i : Item). declared_size (source_of r) i.thing) (λ (t : NumberedThing). Some t.size) items things are (λ k i t at h. size_is r i (found k i at) t h)
 
     bytes_of : (files : Held) → map (initial_bytes (source_of r) files) (map (λ i. i.thing) items) ≡ map (bytes_held files r) things
     bytes_of files =
         map-map (initial_bytes (source_of r) files) (λ (i : Item). i.thing) items
-        ∙ same_maps (IsThingOf r (source_of r)) (λ (i : Item). initial_bytes (source_of r) files i.thing) (bytes_held files r) items things are (λ k i t at h. bytes_are i (found k i at) t h files)
+        ∙ same_maps (IsThingOf r (source_of r)) (λ (i : Item). initial_bytes (source_of r) files i.thing) (bytes_held files r) items things are (λ k i t at h. bytes_are r i (found k i at) t h files)
 
   -- how many bytes the policy declares for them
   pub region_sizes_are : map (declared_size (source_of r)) (region_things r) ≡ map (λ m. Some m.size) r.memory ++ map (λ c. Some c.size) r.channels ++ flat_map (λ s. map (λ x. Some x.size) (provided_at r.components s.component)) r.subjects

@@ -1,5 +1,5 @@
 -- The things of a resolved policy, in the order of their numbers, by what the policy has at its indexes.
-use Rattle.std.proofs.Common.{◌≡◌, ℕ, suc, ◌+◌, List, [], ◌∷◌, ◌++◌, map, Option, Some, None, refl, sym, ap, ◌∙◌, subst, arith}
+use Rattle.std.proofs.Common.{◌≡◌, ℕ, suc, ◌+◌, List, [], ◌∷◌, ◌++◌, map, Option, Some, None, refl, sym, ap, ◌∙◌, arith}
 use Rattle.std.specs.Prelude.{option_and_then, slice_get}
 use Rattle.std.specs.Option.{option_map_or}
 use Rattle.std.specs.List.{AllZip, enumerate_from, flat_map}
@@ -20,7 +20,6 @@ use Rattle.policy_lawful.specs.declared.thing.RegionKind.{RegionKind}
 use Rattle.policy_lawful.specs.declared.thing.RegionKind.TheVariants.{Own, Channel, Provided as ProvidedKind, Device as DeviceKind}
 use Rattle.policy_lawful.specs.declared.thing.Thing.{Thing as NumberedThing}
 use Rattle.policy_lawful.specs.source.Component.{Component}
-use Rattle.policy_lawful.specs.source.Device.{Device}
 use Rattle.policy_lawful.specs.source.DeviceMemory.{DeviceMemory}
 use Rattle.policy_lawful.specs.source.Provided.{Provided}
 use Rattle.policy_lawful.specs.source.Region.{Region}
