@@ -12,7 +12,7 @@ use Rattle.muen_outside.specs.Store.{Store, find_bytes}
 use Rattle.policy_lawful.specs.refusal.Refusal.{Refusal}
 use Rattle.policy_lawful.specs.refusal.Refusal.TheVariants.{NoMemory}
 use Rattle.policy_lawful.specs.source.Source.{Source}
-use Rattle.muen_build.specs.Accepting.{Accepts, FailsWith, Files, Grows, HasContents, IsAskedBy, LacksContents, LookedBeside, AskedNames, Passes, RefusesContents, RefusesDocument, StopsAfterLooks, insert_all, looks_of}
+use Rattle.muen_build.specs.Accepting.{Accepts, FailsWith, Files, Grows, HasContents, IsAskedBy, LacksContents, LookedBeside, AskedNames, Passes, RefusesContents, RefusesDocument, StopsAfterLooks, looks_of}
 use Rattle.muen_build.specs.Looks.{IsAsked, Looked, names_file}
 use Rattle.muen_build.specs.Refusals.{contents_refused, lawful_policy_of}
 use Rattle.muen_build.specs.declared.accepted.BuildError.{BuildError}

@@ -1,6 +1,6 @@
 -- What is made of each thing is made of what the policy declares of it.
 use Rattle.std.proofs.Common.{◌≡◌, ℕ, Bool, List, [], ◌∷◌, map, refl, sym, ap, ◌∙◌}
-use Rattle.std.specs.List.{AllZip, flat_map, list_any}
+use Rattle.std.specs.List.{flat_map, list_any}
 use Rattle.std.proofs.lemmas.List.Folds.{flat_map-map}
 use Rattle.muen_num.specs.Search.{first_in}
 use Rattle.muen_num.specs.declared.tag.Tag.{Tag}
@@ -14,10 +14,9 @@ use Rattle.muen_build.specs.Refusals.{content_refused, contents_refused, item_re
 use Rattle.policy_lawful.specs.Contents.{Held}
 use Rattle.policy_lawful.specs.Resolution.{Resolution, source_of}
 use Rattle.policy_lawful.specs.Thing.{Item, items_of, placed_items, thing_tag}
-use Rattle.policy_lawful.specs.Things.{AreDeclared, IsThingOf}
+use Rattle.policy_lawful.specs.Things.{AreDeclared}
 use Rattle.policy_lawful.specs.declared.thing.Thing.{Thing}
 use Rattle.policy_lawful.specs.source.Content.{Content}
-use Rattle.policy_lawful.specs.source.Source.{Source}
 
 module _ {A : Type 0} (made : Tag → ℕ → Content → A) (r : Resolution) where
   abbrev of_thing : Thing → A

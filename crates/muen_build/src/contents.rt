@@ -134,11 +134,13 @@ fn check<F: Files>(
     match policy.content(thing.content) {
         None | Some(Content::Zero | Content::Fill(_)) => Ok(()),
         Some(Content::Inline(bytes)) => Ok(fits(thing, bytes.len() as u64)?),
-        Some(Content::File {
-            name: file,
-            offset,
-            length,
-        }) => {
+        Some(
+            Content::File {
+                name: file,
+                offset,
+                length,
+            },
+        ) => {
             let count = file_length(alloc, given, *file, found, files)?;
             Ok(fits(thing, part_length(count, *offset, *length))?)
         }

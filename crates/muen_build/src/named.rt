@@ -26,7 +26,6 @@ fn any_names(policy: &Resolved, things: &[Thing], file: &str) -> bool
 }
 
 /// Whether a content of the policy is of the file of this name.
-#[tactic(auto, using(crate::proofs::OfThings::any_names))]
 pub fn names_file(policy: &Lawful, file: &str) -> bool
     ensures { result ≡ names_file (source_of policy.now) file.now }
 {

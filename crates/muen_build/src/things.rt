@@ -72,11 +72,13 @@ fn content(
         None | Some(Content::Zero) => filled(alloc, size, 0),
         Some(Content::Fill(byte)) => filled(alloc, size, *byte),
         Some(Content::Inline(bytes)) => sized(alloc, size, bytes.items()),
-        Some(Content::File {
-            name: file,
-            offset,
-            length,
-        }) => {
+        Some(
+            Content::File {
+                name: file,
+                offset,
+                length,
+            },
+        ) => {
             let bytes = file_bytes(given, found, *file);
             sized(alloc, size, part(bytes, *offset, *length))
         }
