@@ -12,19 +12,19 @@ use Rattle.muen_outside.specs.Store.{Store, find_bytes}
 use Rattle.policy_lawful.specs.refusal.Refusal.{Refusal}
 use Rattle.policy_lawful.specs.refusal.Refusal.TheVariants.{NoMemory}
 use Rattle.policy_lawful.specs.source.Source.{Source}
-use Rattle.muen_build.specs.Accepting.{Accepts, FailsWith, Files, Grows, HasContents, IsAskedBy, LacksContents, LookedBeside, AskedNames, Passes, Refuses, RefusesContents, RefusesDocument, StopsAfterLooks, insert_all, looks_of, of_all}
+use Rattle.muen_build.specs.Accepting.{Accepts, FailsWith, Files, Grows, HasContents, IsAskedBy, LacksContents, LookedBeside, AskedNames, Passes, RefusesContents, RefusesDocument, StopsAfterLooks, looks_of}
 use Rattle.muen_build.specs.Looks.{IsAsked, Looked, names_file}
-use Rattle.muen_build.specs.Refusals.{lawful_policy_of}
+use Rattle.muen_build.specs.Refusals.{contents_refused, lawful_policy_of}
 use Rattle.muen_build.specs.declared.accepted.BuildError.{BuildError}
 use Rattle.muen_build.specs.declared.accepted.BuildError.TheVariants.{Refused}
 use Rattle.muen_build.specs.Reading.{things_read}
 use Rattle.muen_build.proofs.Held.{things_held}
-use Rattle.policy_lawful.specs.Resolution.{IsResolved, Resolution, source_of}
+use Rattle.policy_lawful.specs.Resolution.{Resolution, source_of}
+use Rattle.policy_lawful.specs.Thing.{placed_items}
+use Rattle.policy_lawful.specs.Things.{AreDeclared, placed_things}
 use Rattle.region_alloc.specs.Placement.{no_room}
-use Rattle.muen_build.proofs.FilledByIndex.{contents_filled}
 use Rattle.muen_build.proofs.Looks.{grows_not, stops_so}
 use Rattle.muen_build.proofs.Refusing.{built_so, contents_first, not_lawful, room_last}
-use Rattle.muen_build.specs.Filling.{filled_of}
 
 -- ---- all looks of a call
 
@@ -73,22 +73,19 @@ unlawful_fails name document held h r answer =
 
 module _ (name document : List ℕ) (p : Source) (is : lawful_policy_of document ≡ Ok p) where
   -- its contents are refused, or a look at them failed
-  module _ (held : Option Store) (old new : History) where
-    stops_fails : (error : BuildError) → StopsAfterLooks ((name, document) ∷ []) (names_file p) held old new [] (RefusesDocument document) error → FailsWith name document held old new error
-    stops_fails error e = record {
-      looks = e.after;
-      looked = all_looked name document held old new e.after (names_file p) e.grows;
-      asked = all_asked name document held old new e.after p is e.grows;
-      says = e.says;
-    }
+  pub contents_fail : (held : Option Store) (old new : History) (error : BuildError) → StopsAfterLooks ((name, document) ∷ []) (names_file p) held old new [] (RefusesContents p) error → FailsWith name document held old new error
+  contents_fail held old new error e =
+      let stops =
+      stops_so ((name, document) ∷ []) (names_file p) (names_file p) held old new [] (RefusesContents p) (RefusesDocument document) error (λ file h. h)
+      (λ r after shows h files s. contents_first (insert files name document) document p r is (h files s)) e in
+      record {
+        looks = stops.after;
+        looked = all_looked name document held old new stops.after (names_file p) stops.grows;
+        asked = all_asked name document held old new stops.after p is stops.grows;
+        says = stops.says;
+      }
 
-    pub contents_fail : (error : BuildError) → StopsAfterLooks ((name, document) ∷ []) (names_file p) held old new [] (Refuses (of_all (filled_of p))) error → FailsWith name document held old new error
-    contents_fail error e =
-        stops_fails error
-        (stops_so ((name, document) ∷ []) (names_file p) (names_file p) held old new [] (Refuses (of_all (filled_of p))) (RefusesDocument document) error (λ file h. h)
-        (λ r after shows h files s. contents_first (insert files name document) document p r is (contents_filled (insert files name document) p ∙ h files s)) e)
-
-  module _ (found : Files) (passes : Passes ((name, document) ∷ []) (looks_of found) (of_all (filled_of p))) where
+  module _ (found : Files) (passes : Passes ((name, document) ∷ []) (looks_of found) (λ files. contents_refused files p)) where
     -- there is no room
     pub room_fails : (held : Option Store) (old new : History) (r : Refusal) → Grows ((name, document) ∷ []) (names_file p) held old new [] (looks_of found) → Explains NoMemory (no_room p) r → FailsWith name document held old new (Refused r)
     room_fails held old new r grows h = record {
@@ -97,44 +94,34 @@ module _ (name document : List ℕ) (p : Source) (is : lawful_policy_of document
       asked = all_asked name document held old new (looks_of found) p is grows;
       says = elim h [
         | inl m ↦ inl m
-        | inr e ↦ inr (λ files s. room_last (insert files name document) document p r is (contents_filled (insert files name document) p ∙ passes files s) e)
+        | inr e ↦ inr (λ files s. room_last (insert files name document) document p r is (passes files s) e)
       ];
     }
 
     -- nothing is refused
     pub accepts : no_room p ≡ None → Accepts name (looks_of found) document p
-    accepts room files s = built_so (insert files name document) document p is (contents_filled (insert files name document) p ∙ passes files s) room
+    accepts room files s = built_so (insert files name document) document p is (passes files s) room
 
 -- ---- contents alone
 
-module _ (given : Files) (r : Resolution) (resolved : IsResolved r) (held : Option Store) (old new : History) where
-  pub has_contents : (found : Files) (things : List (List ℕ)) → Grows given (names_file (source_of r)) held old new [] (looks_of found) → Passes given (looks_of found) (of_all (filled_of (source_of r)))
-      → things ≡ things_read given found r → HasContents given r held old new things
-  has_contents found things grows passes are = record {
+module _ (given : Files) (held : Option Store) (old new : History) where
+  pub has_contents : (r : Resolution) → AreDeclared r (placed_items (source_of r)) (placed_things r) → (found : Files) (things : List (List ℕ)) → Grows given (names_file (source_of r)) held old new [] (looks_of found)
+      → Passes given (looks_of found) (λ files. contents_refused files (source_of r)) → things ≡ things_read given found (source_of r) → HasContents given r held old new things
+  has_contents r declared found things grows passes are = record {
     looks = looks_of found;
     looked = all_beside given (names_file (source_of r)) held old new (looks_of found) grows;
     asked = asked_by given (names_file (source_of r)) held old new (looks_of found) grows;
-    fit = λ files s. contents_filled (insert_all files given) (source_of r) ∙ passes files s;
-    are = λ files s. are ∙ things_held given found r resolved (λ files s. contents_filled (insert_all files given) (source_of r) ∙ passes files s) files s;
+    fit = passes;
+    are = λ files s. are ∙ things_held given found r declared passes files s;
   }
 
-module _ (given : Files) (p : Source) (held : Option Store) (old new : History) where
-  pub lacks_contents : (error : BuildError) → StopsAfterLooks given (names_file p) held old new [] (Refuses (of_all (filled_of p))) error → LacksContents given p held old new error
-  lacks_contents error e =
-      let s =
-      stops_so given (names_file p) (names_file p) held old new [] (Refuses (of_all (filled_of p))) (RefusesContents p) error (λ file h. h)
-      (λ r after shows h files s. contents_filled (insert_all files given) p ∙ h files s) e in
-      record {
-        looks = s.after;
-        looked = all_beside given (names_file p) held old new s.after s.grows;
-        asked = asked_by given (names_file p) held old new s.after s.grows;
-        says = s.says;
-      }
-
-  pub no_memory : (found : Files) → Grows given (names_file p) held old new [] (looks_of found) → LacksContents given p held old new (Refused NoMemory)
-  no_memory found grows = record {
-    looks = looks_of found;
-    looked = all_beside given (names_file p) held old new (looks_of found) grows;
-    asked = asked_by given (names_file p) held old new (looks_of found) grows;
-    says = inl refl;
+  pub lacks_contents : (p : Source) (error : BuildError) → StopsAfterLooks given (names_file p) held old new [] (RefusesContents p) error → LacksContents given p held old new error
+  lacks_contents p error e = record {
+    looks = e.after;
+    looked = all_beside given (names_file p) held old new e.after e.grows;
+    asked = asked_by given (names_file p) held old new e.after e.grows;
+    says = e.says;
   }
+
+  pub no_memory : (p : Source) (found : Files) → Grows given (names_file p) held old new [] (looks_of found) → LacksContents given p held old new (Refused NoMemory)
+  no_memory p found grows = lacks_contents p (Refused NoMemory) (record { after = looks_of found; grows = grows; says = inl refl })

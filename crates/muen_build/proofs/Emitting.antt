@@ -10,6 +10,7 @@ use Rattle.proof_build.specs.Sound.{IsSound}
 use Rattle.image_pack.specs.declared.parts.Image.{Image}
 use Rattle.muen_outside.specs.Looks.{ShowAll}
 use Rattle.muen_outside.specs.Store.{Store}
+use Rattle.policy_lawful.proofs.ThingsByIndex.{placed_by_index}
 use Rattle.policy_lawful.specs.Resolution.{Resolution, source_of}
 use Rattle.region_alloc.specs.Placed.{IsPlaced, Placement}
 use Rattle.muen_build.specs.Accepting.{Accepts, Files, looks_of}
@@ -21,16 +22,16 @@ use Rattle.muen_build.proofs.Rooms.{things_filled}
 module _ (x : Placement) (placed : IsPlaced x) where
   -- of its policy, as it is reached
   module _ (expanded : Expansion) (of_placed : expanded ≡ x.expanded) (lawful r : Resolution) (of_expanded : lawful ≡ expanded.lawful) (of_lawful : r ≡ lawful)
-      (name document : List ℕ) (found : Files) (things : List (List ℕ)) (are_things : things ≡ things_read ((name, document) ∷ []) found r) where
-    things_are : things ≡ things_read ((name, document) ∷ []) found x.expanded.lawful
-    things_are = are_things ∙ ap (things_read ((name, document) ∷ []) found) (of_lawful ∙ of_expanded ∙ ap (λ p. p.lawful) of_placed)
+      (name document : List ℕ) (found : Files) (things : List (List ℕ)) (are_things : things ≡ things_read ((name, document) ∷ []) found (source_of r)) where
+    things_are : things ≡ things_read ((name, document) ∷ []) found (source_of x.expanded.lawful)
+    things_are = are_things ∙ ap (λ p. things_read ((name, document) ∷ []) found (source_of p)) (of_lawful ∙ of_expanded ∙ ap (λ p. p.lawful) of_placed)
 
     pub filled_so : IsFilled x things
-    filled_so = subst (IsFilled x) (sym things_are) (things_filled ((name, document) ∷ []) found x placed.resolved placed.expansion.regions placed.expansion.grants)
+    filled_so = subst (IsFilled x) (sym things_are) (things_filled ((name, document) ∷ []) found x placed.resolved placed.expansion.regions)
 
     pub sound_so : {E : Type 0} (result : Result Image E) → Accepts name (looks_of found) document (source_of x.expanded.lawful)
         → IfOk result (λ i. (files : Store) → things ≡ thing_bytes files x.expanded.lawful → IsSound (source_of x.expanded.lawful) files i)
         → IfOk result (λ i. (files : Store) → ShowAll files (looks_of found) → IsSound (source_of x.expanded.lawful) (insert files name document) i)
     sound_so result accepts sound =
         IfOk-weaker result _ _
-        (λ i h files s. h (insert files name document) (things_are ∙ things_held ((name, document) ∷ []) found x.expanded.lawful placed.resolved (λ m t. (accepted_so (insert m name document) document (source_of x.expanded.lawful) (accepts m t)).contents) files s)) sound
+        (λ i h files s. h (insert files name document) (things_are ∙ things_held ((name, document) ∷ []) found x.expanded.lawful (placed_by_index x.expanded.lawful placed.resolved) (λ m t. (accepted_so (insert m name document) document (source_of x.expanded.lawful) (accepts m t)).contents) files s)) sound

@@ -1,36 +1,34 @@
 -- What regions hold of the files that were read is what the policy says they hold, in all files that agree with the looks.
-use Rattle.std.proofs.Common.{◌≡◌, ℕ, ◌≤◌, true, false, cond, List, [], ◌∷◌, ◌++◌, length, map, Option, Some, None, refl, sym, ap, ap₂, subst, ◌∙◌, arith}
-use Rattle.std.specs.Prelude.{nat_le, nat_lt, replicate, unwrap_or, if◌then◌else◌}
+use Rattle.std.proofs.Common.{◌≡◌, ℕ, ◌≤◌, true, false, cond, List, [], ◌∷◌, length, map, Option, Some, None, refl, sym, ap, ap₂, subst, ◌∙◌, arith}
+use Rattle.std.specs.Prelude.{nat_le, nat_lt, unwrap_or, if◌then◌else◌}
 use Rattle.std.specs.Option.{option_map_or}
-use Rattle.std.specs.List.{flat_map}
 use Rattle.std.specs.Str.{bytes_eq}
 use Rattle.std.specs.FinMap.{get, get-remove, remove}
 use Rattle.std.specs.Cmp.Lexicographic.{nat_list_cmp_total, texts_ties}
 use Rattle.std.proofs.lemmas.List.{take_all}
 use Rattle.std.proofs.lemmas.Bool.Decides.{nat_tests}
-use Rattle.policy_lawful.specs.ByIndex.{provided_at}
 use Rattle.proof_build.specs.ThingBytes.{thing_bytes}
 use Rattle.muen_num.specs.Search.{first_in}
 use Rattle.muen_num.specs.declared.limits.TheConstants.{COMPONENT_FILE_MOST}
+use Rattle.muen_num.specs.declared.tag.Tag.{Tag}
 use Rattle.muen_num.proofs.SearchLaws.{none_append, none_both}
 use Rattle.muen_num.proofs.Lookups.{other_way, same_self}
 use Rattle.muen_outside.specs.Looks.{HaveNoLookAt, ShowAll, ShowsAnswer}
 use Rattle.muen_outside.specs.States.{Look}
 use Rattle.muen_outside.specs.Store.{Store, whole, long, reading_of, find_bytes}
-use Rattle.muen_build.specs.Accepting.{Files, WithGiven, insert_all, looks_of, of_all}
-use Rattle.muen_build.specs.Filling.{Filled, filled_brought_at, filled_at, filled_provided, filled_refused, filled_region}
+use Rattle.muen_build.specs.Accepting.{Files, WithGiven, insert_all, looks_of}
 use Rattle.muen_build.specs.Reading.{content_read, read_bytes, sized, things_read}
-use Rattle.muen_build.specs.Refusals.{content_refused, contents_refused, file_refused, too_long_for}
-use Rattle.policy_lawful.specs.Resolution.{IsResolved, Resolution, source_of}
-use Rattle.policy_lawful.specs.declared.resolved.Subject.{Subject}
+use Rattle.muen_build.specs.Refusals.{content_refused, contents_refused, file_refused, item_refused, too_long_for}
+use Rattle.policy_lawful.specs.Resolution.{Resolution, source_of}
 use Rattle.policy_lawful.specs.Contents.{content_bytes, file_part, padded}
+use Rattle.policy_lawful.specs.Thing.{Item, device_items, items_of, placed_items, thing_tag}
+use Rattle.policy_lawful.specs.Things.{AreDeclared, placed_things}
 use Rattle.policy_lawful.specs.refusal.Refusal.TheVariants.{FileFit, Missing}
-use Rattle.policy_lawful.specs.source.Channel.{Channel}
-use Rattle.policy_lawful.specs.source.Component.{Component}
 use Rattle.policy_lawful.specs.source.Content.{Content}
 use Rattle.policy_lawful.specs.source.Content.TheVariants.{Zero, Fill, Inline, File}
-use Rattle.muen_build.proofs.FilledByIndex.{contents_filled, filled_by_index}
 use Rattle.muen_build.proofs.Documents.{given_there, not_given, whole_found}
+use Rattle.muen_build.proofs.MadeByNumber.{made_by_number}
+use Rattle.muen_build.proofs.OfThings.{made_alike}
 use Rattle.muen_build.proofs.Steps.{found_reads, others_found}
 
 -- ---- without a file
@@ -48,20 +46,20 @@ still_shown files file (l ∷ ls) others s =
 -- ---- one content
 
 -- a document that isn't refused is no longer than a component file may be
-own_whole : (f : Filled) (file : List ℕ) (offset : ℕ) (most : Option ℕ) (document : List ℕ) → file_refused f.tag f.size file offset most (reading_of (Some document) COMPONENT_FILE_MOST) ≡ None → reading_of (Some document) COMPONENT_FILE_MOST ≡ whole document
-own_whole f file offset most document h =
-    (elim (nat_lt COMPONENT_FILE_MOST (length document)) as (λ b. file_refused f.tag f.size file offset most (if b then long (length document) else whole document) ≡ None → (if b then long (length document) else whole document) ≡ whole document) [
+own_whole : (tag : Tag) (size : ℕ) (file : List ℕ) (offset : ℕ) (most : Option ℕ) (document : List ℕ) → file_refused tag size file offset most (reading_of (Some document) COMPONENT_FILE_MOST) ≡ None → reading_of (Some document) COMPONENT_FILE_MOST ≡ whole document
+own_whole tag size file offset most document h =
+    (elim (nat_lt COMPONENT_FILE_MOST (length document)) as (λ b. file_refused tag size file offset most (if b then long (length document) else whole document) ≡ None → (if b then long (length document) else whole document) ≡ whole document) [
       | true ↦ λ is. absurd (cc)
       | false ↦ λ is. refl
     ]) h
 
 -- what isn't too long has room
-fitting : (f : Filled) (bytes : List ℕ) → too_long_for f.tag f.size (length bytes) ≡ None → sized f.size bytes ≡ padded f.size bytes
-fitting f bytes h =
-    (elim (nat_le (length bytes) f.size) as (λ b. nat_le (length bytes) f.size ≡ b → (if b then None else Some (FileFit f.tag f.size (length bytes))) ≡ None → sized f.size bytes ≡ padded f.size bytes) [
+fitting : (tag : Tag) (size : ℕ) (bytes : List ℕ) → too_long_for tag size (length bytes) ≡ None → sized size bytes ≡ padded size bytes
+fitting tag size bytes h =
+    (elim (nat_le (length bytes) size) as (λ b. nat_le (length bytes) size ≡ b → (if b then None else Some (FileFit tag size (length bytes))) ≡ None → sized size bytes ≡ padded size bytes) [
       | true ↦ λ fits is.
-          let few : length bytes ≤ f.size = grind (arith, nat_tests) in
-          ap (padded f.size) (take_all f.size bytes few)
+          let few : length bytes ≤ size = grind (arith, nat_tests) in
+          ap (padded size) (take_all size bytes few)
       | false ↦ λ fits is. absurd (cc)
     ]) refl h
 
@@ -71,14 +69,14 @@ module _ (given found : Files) where
   Over Such = WithGiven given (looks_of found) Such
 
   -- a file that is named was read
-  file_read : (f : Filled) (file : List ℕ) (offset : ℕ) (most : Option ℕ) → Over (λ files. content_refused files f.tag f.size (File file offset most) ≡ None)
+  file_read : (tag : Tag) (size : ℕ) (file : List ℕ) (offset : ℕ) (most : Option ℕ) → Over (λ files. content_refused files tag size (File file offset most) ≡ None)
       → Over (λ files. reading_of (get files file) COMPONENT_FILE_MOST ≡ whole (read_bytes given found file))
-  file_read f file offset most passes files s =
+  file_read tag size file offset most passes files s =
       elim (find_bytes file given) as (λ o. find_bytes file given ≡ o → reading_of (get (insert_all files given) file) COMPONENT_FILE_MOST ≡ whole (unwrap_or o (unwrap_or (find_bytes file found) []))) [
         | Some bytes ↦ λ is.
             let there = given_there files given file bytes is in
             ap (λ o. reading_of o COMPONENT_FILE_MOST) there
-            ∙ own_whole f file offset most bytes (ap (λ o. file_refused f.tag f.size file offset most (reading_of o COMPONENT_FILE_MOST)) (sym there) ∙ passes files s)
+            ∙ own_whole tag size file offset most bytes (ap (λ o. file_refused tag size file offset most (reading_of o COMPONENT_FILE_MOST)) (sym there) ∙ passes files s)
         | None ↦ λ other.
             elim (find_bytes file found) as (λ o. find_bytes file found ≡ o → reading_of (get (insert_all files given) file) COMPONENT_FILE_MOST ≡ whole (unwrap_or o [])) [
               | Some bytes ↦ λ is. found_reads given found file other bytes is files s
@@ -86,56 +84,36 @@ module _ (given found : Files) where
                   let without = still_shown files file (looks_of found) (others_found found file is) s in
                   let gone : get (insert_all (remove files file) given) file ≡ None =
                   not_given (remove files file) given file other ∙ get-remove_bytes files file file ∙ ap (λ t. cond t None (get files file)) (same_self file) in
-                  let refused : content_refused (insert_all (remove files file) given) f.tag f.size (File file offset most) ≡ Some (Missing file) = ap (λ o. file_refused f.tag f.size file offset most (reading_of o COMPONENT_FILE_MOST)) gone in
+                  let refused : content_refused (insert_all (remove files file) given) tag size (File file offset most) ≡ Some (Missing file) = ap (λ o. file_refused tag size file offset most (reading_of o COMPONENT_FILE_MOST)) gone in
                   let none = passes (remove files file) without in
                   absurd (cc)
             ] refl
       ] refl
 
-  content_same : (f : Filled) (c : Content) → Over (λ files. content_refused files f.tag f.size c ≡ None) → Over (λ files. content_read given found f.size c ≡ content_bytes files f.size c)
-  content_same f Zero passes files s = refl
-  content_same f (Fill b) passes files s = refl
-  content_same f (Inline bytes) passes files s = fitting f bytes (passes files s)
-  content_same f (File file offset most) passes files s =
+  content_same : (tag : Tag) (size : ℕ) (c : Content) → Over (λ files. content_refused files tag size c ≡ None) → Over (λ files. content_read given found size c ≡ content_bytes files size c)
+  content_same tag size Zero passes files s = refl
+  content_same tag size (Fill b) passes files s = refl
+  content_same tag size (Inline bytes) passes files s = fitting tag size bytes (passes files s)
+  content_same tag size (File file offset most) passes files s =
       let bytes = read_bytes given found file in
-      let reads = file_read f file offset most passes files s in
+      let reads = file_read tag size file offset most passes files s in
       let there : get (insert_all files given) file ≡ Some bytes = whole_found COMPONENT_FILE_MOST bytes (get (insert_all files given) file) reads in
-      let fits : too_long_for f.tag f.size (length (file_part offset most bytes)) ≡ None = ap (file_refused f.tag f.size file offset most) (sym reads) ∙ passes files s in
-      fitting f (file_part offset most bytes) fits ∙ ap (λ o. padded f.size (file_part offset most (option_map_or (λ b. b) o []))) (sym there)
+      let fits : too_long_for tag size (length (file_part offset most bytes)) ≡ None = ap (file_refused tag size file offset most) (sym reads) ∙ passes files s in
+      fitting tag size (file_part offset most bytes) fits ∙ ap (λ o. padded size (file_part offset most (option_map_or (λ b. b) o []))) (sym there)
 
   -- ---- all of them
 
-  each_same : {X : Type 0} (g : X → Filled) (xs : List X) → Over (λ files. of_all (map g xs) files ≡ None)
-      → Over (λ files. map (λ x. content_read given found (g x).size (g x).content) xs ≡ map (λ x. content_bytes files (g x).size (g x).content) xs)
-  each_same g [] passes files s = refl
-  each_same g (x ∷ xs) passes files s =
+  each_same : (is : List Item) → Over (λ files. first_in (item_refused files) is ≡ None) → Over (λ files. map (λ i. content_read given found i.size i.content) is ≡ map (λ i. content_bytes files i.size i.content) is)
+  each_same [] passes files s = refl
+  each_same (i ∷ is) passes files s =
       let both = λ (files : Store) (s : ShowAll files (looks_of found)).
-      none_both (filled_refused (insert_all files given) (g x)) (of_all (map g xs) (insert_all files given)) (passes files s) in
-      ap₂ (λ y ys. y ∷ ys) (content_same (g x) (g x).content (λ files s. (both files s).0) files s) (each_same g xs (λ files s. (both files s).1) files s)
-
-  brought_same : (cs : List Component) (ss : List Subject) → Over (λ files. of_all (flat_map (filled_brought_at cs) ss) files ≡ None)
-      → Over (λ files. flat_map (λ t. map (λ x. content_read given found x.size x.content) (provided_at cs t.component)) ss
-      ≡ flat_map (λ t. map (λ x. content_bytes files x.size x.content) (provided_at cs t.component)) ss)
-  unfolding filled_brought_at
-  brought_same cs [] passes files s = refl
-  brought_same cs (t ∷ ts) passes files s =
-      let both = λ (files : Store) (s : ShowAll files (looks_of found)).
-      none_append (filled_refused (insert_all files given)) (filled_brought_at cs t) (flat_map (filled_brought_at cs) ts) (passes files s) in
-      ap₂ (λ ys zs. ys ++ zs)
-      (each_same (filled_provided t.name) (provided_at cs t.component) (λ files s. (both files s).0) files s)
-      (brought_same cs ts (λ files s. (both files s).1) files s)
-
-  things_same : (r : Resolution) → Over (λ files. of_all (filled_at r) files ≡ None) → Over (λ files. things_read given found r ≡ thing_bytes files r)
-  things_same r passes files s =
-      let both = λ (files : Store) (s : ShowAll files (looks_of found)).
-      none_append (filled_refused (insert_all files given)) (map filled_region r.memory) (flat_map (filled_brought_at r.components) r.subjects) (passes files s) in
-      ap₂ (λ ys zs. ys ++ map (λ (c : Channel). replicate c.size 0) r.channels ++ zs)
-      (each_same filled_region r.memory (λ files s. (both files s).0) files s)
-      (brought_same r.components r.subjects (λ files s. (both files s).1) files s)
+      none_both (item_refused (insert_all files given) i) (first_in (item_refused (insert_all files given)) is) (passes files s) in
+      ap₂ (λ y ys. y ∷ ys) (content_same (thing_tag i.thing) i.size i.content (λ files s. (both files s).0) files s) (each_same is (λ files s. (both files s).1) files s)
 
   -- where no content is refused
-  pub things_held : (r : Resolution) → IsResolved r → Over (λ files. contents_refused files (source_of r) ≡ None) → Over (λ files. things_read given found r ≡ thing_bytes files r)
-  things_held r resolved passes files s =
-      things_same r
-      (λ files s.
-      ap (first_in (filled_refused (insert_all files given))) (filled_by_index r resolved) ∙ sym (contents_filled (insert_all files given) (source_of r)) ∙ passes files s) files s
+  pub things_held : (r : Resolution) → AreDeclared r (placed_items (source_of r)) (placed_things r) → Over (λ files. contents_refused files (source_of r) ≡ None) → Over (λ files. things_read given found (source_of r) ≡ thing_bytes files r)
+  unfolding contents_refused items_of
+  things_held r declared passes files s =
+      each_same (placed_items (source_of r)) (λ files s. (none_append (item_refused (insert_all files given)) (placed_items (source_of r)) (device_items (source_of r)) (passes files s)).0) files s
+      ∙ sym (made_alike (λ tag. content_bytes (insert_all files given)) r (placed_items (source_of r)) (placed_things r) declared)
+      ∙ made_by_number (content_bytes (insert_all files given)) r

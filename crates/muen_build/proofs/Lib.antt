@@ -3,10 +3,11 @@ pub mod Checking
 pub mod Documents
 pub mod Emitting
 pub mod FilesDigested
-pub mod FilledByIndex
 pub mod Held
 pub mod LimitExamples
 pub mod Looks
+pub mod MadeByNumber
+pub mod OfThings
 pub mod Placing
 pub mod Refusing
 pub mod Rooms

@@ -7,6 +7,7 @@ use Rattle.std.proofs.lemmas.List.{length-take, length-drop, map_push}
 use Rattle.std.proofs.lemmas.List.Elements.{All-cons, All-nil}
 use Rattle.std.proofs.lemmas.Slice.Eq.{bytes_eq-Decides}
 use Rattle.muen_num.specs.declared.limits.TheConstants.{COMPONENT_FILE_MOST}
+use Rattle.muen_num.specs.declared.tag.Tag.{Tag}
 use Rattle.muen_num.proofs.Lookups.{same_self}
 use Rattle.muen_outside.specs.Looks.{HaveNoLookAt, ShowAll, ShowsAnswer}
 use Rattle.muen_outside.specs.States.{History, Look, look}
@@ -22,7 +23,6 @@ use Rattle.muen_build.specs.declared.accepted.BuildError.{BuildError}
 use Rattle.muen_build.specs.declared.accepted.BuildError.TheVariants.{FileFault, Refused}
 use Rattle.muen_build.proofs.Documents.{admitted, given_there, not_given, too_many}
 use Rattle.muen_build.proofs.Looks.{others_push, show_last, single_push, stops_here, told_one}
-use Rattle.muen_build.specs.Filling.{Filled}
 
 -- ---- a file that is given
 
@@ -153,16 +153,16 @@ length_part : (bytes : List ℕ) (offset : ℕ) (most : Option ℕ) → length (
 length_part bytes offset None = length-drop offset bytes
 length_part bytes offset (Some most) = length-take most (drop offset bytes) ∙ ap (min most) (length-drop offset bytes) ∙ omega arith
 
-pub part_refused : (f : Filled) (file : List ℕ) (offset : ℕ) (most : Option ℕ) (count : ℕ) (files : Store) → Has files file count → file_refused f.tag f.size file offset most (reading_of (get files file) COMPONENT_FILE_MOST) ≡ too_long_for f.tag f.size (part_length count offset most)
-part_refused f file offset most count files k =
-    ap (file_refused f.tag f.size file offset most) k.reads ∙ ap (too_long_for f.tag f.size) (length_part k.bytes offset most ∙ ap (λ n. part_length n offset most) (sym k.many))
+pub part_refused : (tag : Tag) (size : ℕ) (file : List ℕ) (offset : ℕ) (most : Option ℕ) (count : ℕ) (files : Store) → Has files file count → file_refused tag size file offset most (reading_of (get files file) COMPONENT_FILE_MOST) ≡ too_long_for tag size (part_length count offset most)
+part_refused tag size file offset most count files k =
+    ap (file_refused tag size file offset most) k.reads ∙ ap (too_long_for tag size) (length_part k.bytes offset most ∙ ap (λ n. part_length n offset most) (sym k.many))
 
-pub file_fails : (f : Filled) (file : List ℕ) (offset : ℕ) (most : Option ℕ) (files : Store) (r : Refusal) → NotFound file files r → file_refused f.tag f.size file offset most (reading_of (get files file) COMPONENT_FILE_MOST) ≡ Some r
-file_fails f file offset most files (Missing n) h = ap (file_refused f.tag f.size file offset most) h.1 ∙ ap (λ n. Some (Missing n)) (sym h.0)
-file_fails f file offset most files (TooLong n k) h = ap (file_refused f.tag f.size file offset most) h.1 ∙ ap (λ n. Some (TooLong n k)) (sym h.0)
-file_fails f file offset most files NotJson h = absurd h
-file_fails f file offset most files (Shape a b) h = absurd h
-file_fails f file offset most files (Rule a b c) h = absurd h
-file_fails f file offset most files (FileFit a b c) h = absurd h
-file_fails f file offset most files (NoRoom a b) h = absurd h
-file_fails f file offset most files NoMemory h = absurd h
+pub file_fails : (tag : Tag) (size : ℕ) (file : List ℕ) (offset : ℕ) (most : Option ℕ) (files : Store) (r : Refusal) → NotFound file files r → file_refused tag size file offset most (reading_of (get files file) COMPONENT_FILE_MOST) ≡ Some r
+file_fails tag size file offset most files (Missing n) h = ap (file_refused tag size file offset most) h.1 ∙ ap (λ n. Some (Missing n)) (sym h.0)
+file_fails tag size file offset most files (TooLong n k) h = ap (file_refused tag size file offset most) h.1 ∙ ap (λ n. Some (TooLong n k)) (sym h.0)
+file_fails tag size file offset most files NotJson h = absurd h
+file_fails tag size file offset most files (Shape a b) h = absurd h
+file_fails tag size file offset most files (Rule a b c) h = absurd h
+file_fails tag size file offset most files (FileFit a b c) h = absurd h
+file_fails tag size file offset most files (NoRoom a b) h = absurd h
+file_fails tag size file offset most files NoMemory h = absurd h

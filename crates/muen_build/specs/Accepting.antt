@@ -1,9 +1,8 @@
 -- What accepting a policy has seen of files, and what it comes to.
 use Rattle.std.specs.Prelude.{◌≡◌, ◌⊎◌, ℕ, Bool, true, List, ◌∷◌, [], ◌++◌, ◌-◌, min, length, map, Option, Some, None, IfSome, Result, Ok, Err}
-use Rattle.std.specs.List.{All, list_any}
+use Rattle.std.specs.List.{All}
 use Rattle.std.specs.FinMap.{get, insert}
 use Rattle.proof_build.specs.ThingBytes.{thing_bytes}
-use Rattle.muen_num.specs.Search.{first_in}
 use Rattle.muen_num.specs.declared.limits.TheConstants.{COMPONENT_FILE_MOST}
 use Rattle.muen_outside.specs.Looks.{HaveNoLookAt, AreSingle, EndsInFault, IsPossibleEnd, ShowAll, Shows}
 use Rattle.muen_outside.specs.States.{History, Look, look, looked}
@@ -13,13 +12,13 @@ use Rattle.muen_outside.specs.declared.files.FileError.TheVariants.{Failed}
 use Rattle.policy_lawful.specs.refusal.Refusal.{Refusal}
 use Rattle.policy_lawful.specs.refusal.Refusal.TheVariants.{Missing, TooLong, NoMemory}
 use Rattle.policy_lawful.specs.Resolution.{Resolution, source_of}
-use Rattle.policy_lawful.specs.declared.resolved.Subject.{Subject}
-use Rattle.policy_lawful.specs.source.Component.{Component}
+use Rattle.policy_lawful.specs.Things.{content_found, content_told}
+use Rattle.policy_lawful.specs.declared.thing.Thing.{Thing}
+use Rattle.policy_lawful.specs.source.Content.{Content}
 use Rattle.policy_lawful.specs.source.Source.{Source}
 use Rattle.region_alloc.specs.Placed.{Placement}
-use Rattle.muen_build.specs.Filling.{Filled, filled_brought_at, filled_of, filled_refused}
 use Rattle.muen_build.specs.Looks.{IsAsked, Looked, file_look, is_of_file, names_file}
-use Rattle.muen_build.specs.Refusals.{accepted_policy_of, contents_refused}
+use Rattle.muen_build.specs.Refusals.{accepted_policy_of, content_refused, contents_refused}
 use Rattle.muen_build.specs.declared.accepted.BuildError.{BuildError}
 use Rattle.muen_build.specs.declared.given.Given.{Given}
 use Rattle.muen_build.specs.declared.accepted.BuildError.TheVariants.{FileFault, Refused}
@@ -195,50 +194,14 @@ Refuses why files r = why files ≡ Some r
 abbrev pub Passes : Files → List Look → Why → Type 0
 Passes given looks why = WithGiven given looks (λ files. why files ≡ None)
 
--- why one content is refused, and the first of several
-abbrev pub of_filled : Filled → Why
-of_filled f files = filled_refused files f
+-- the content of a thing
+abbrev pub content_of : Resolution → Thing → Content
+content_of r t = content_told (content_found r t.content)
 
-abbrev pub of_all : List Filled → Why
-of_all all files = first_in (filled_refused files) all
+-- it is refused
+abbrev pub thing_refused : Resolution → Thing → Why
+thing_refused r t files = content_refused files t.tag t.size (content_of r t)
 
--- the first of those that the components of these subjects bring along
-abbrev pub of_brought : List Component → List Subject → Why
-of_brought components subjects files = first_in (λ s. first_in (filled_refused files) (filled_brought_at components s)) subjects
-
--- the names of files that contents have
-abbrev pub filled_names : Filled → AskedNames
-filled_names f name = is_of_file name f.content
-
-abbrev pub all_names : List Filled → AskedNames
-all_names all name = list_any (λ f. filled_names f name) all
-
-abbrev pub brought_names : List Component → List Subject → AskedNames
-brought_names components subjects name = list_any (λ s. all_names (filled_brought_at components s) name) subjects
-
--- ---- a check of contents: the files that it reads, and why it isn't passed
-
-pub record Check : Type 0 where
-  pub names : AskedNames
-  pub why : Why
-
-abbrev pub of_content : Filled → Check
-of_content f = record { names = filled_names f; why = of_filled f }
-
-abbrev pub of_contents : List Filled → Check
-of_contents all = record { names = all_names all; why = of_all all }
-
-abbrev pub of_components : List Component → List Subject → Check
-of_components components subjects = record { names = brought_names components subjects; why = of_brought components subjects }
-
-abbrev pub of_policy : Source → Check
-of_policy p = record { names = names_file p; why = of_all (filled_of p) }
-
-abbrev pub GrowsBy : Check → List Given → Option Store → History → History → Files → Files → Type 0
-GrowsBy check given held old new before after = Grows (given_files given) check.names held old new (looks_of before) (looks_of after)
-
-abbrev pub PassesBy : Check → List Given → Files → Type 0
-PassesBy check given found = Passes (given_files given) (looks_of found) check.why
-
-abbrev pub StopsBy : Check → List Given → Option Store → History → History → Files → BuildError → Type 0
-StopsBy check given held old new before error = StopsAfterLooks (given_files given) check.names held old new (looks_of before) (Refuses check.why) error
+-- which file it is of
+abbrev pub thing_names : Resolution → Thing → AskedNames
+thing_names r t name = is_of_file name (content_of r t)

@@ -1,7 +1,6 @@
 pub mod Accepting
 pub mod Building
 pub mod FileNames
-pub mod Filling
 pub mod ImageFor
 pub mod Looks
 pub mod Reading

@@ -1,35 +1,35 @@
-//! Contents, held against the room for them.
-ghost use Rattle.std.specs.Prelude.{◌≡◌, ◌<◌, ◌≤◌, IfOk, IfErr, None, Ok, length, map};
+//! Contents, held against the room for them, and the files that they name.
+ghost use Rattle.std.specs.Prelude.{◌≡◌, ◌<◌, ◌≤◌, [], IfOk, IfErr, None, Ok, length};
 ghost use Rattle.std.specs.Str.{bytes_eq};
 ghost use Rattle.muen_num.specs.Search.{as_refusal};
 ghost use Rattle.muen_outside.specs.Store.{find_bytes, whole};
 ghost use Rattle.policy_lawful.specs.Resolution.{source_of};
-ghost use Rattle.muen_build.specs.Accepting.{Grows, GrowsBy, IsAdded, IsLengthKnown, LooksAt, NotFound, ComponentFileNotRead, PassesBy, StopsAfterLooks, StopsBy, given_files, looks_of, of_components, of_content, of_contents, of_policy, part_length};
-ghost use Rattle.muen_build.specs.Filling.{filled, filled_provided, filled_region};
-ghost use Rattle.muen_build.specs.Refusals.{too_long_for};
+ghost use Rattle.muen_build.specs.Accepting.{ComponentFileNotRead, Grows, IsAdded, IsLengthKnown, LooksAt, NotFound, Passes, Refuses, RefusesContents, StopsAfterLooks, given_files, looks_of, part_length, thing_names, thing_refused};
+ghost use Rattle.muen_build.specs.Looks.{names_file};
+ghost use Rattle.muen_build.specs.Refusals.{contents_refused, too_long_for};
 ghost use Rattle.muen_build.specs.declared.accepted.BuildError.TheVariants.{Refused};
 ghost use Rattle.policy_lawful.specs.refusal.Refusal.TheVariants.{TooLong};
 
 use crate::accepted::{BuildError, ComponentFiles};
+use crate::file_hash::hash_of_files;
 use crate::given::{Given, given_bytes};
 use muen_num::limits::COMPONENT_FILE_MOST;
-use muen_num::{Name, Seq, Tag, TagPart};
+use muen_num::{Name, Seq};
 use muen_outside::{FileError, Files, Found};
-use policy_lawful::resolved::Subject;
-use policy_lawful::source::{Content, Provided, Region};
-use policy_lawful::{Refusal, Resolved};
+use policy_lawful::source::Content;
+use policy_lawful::{Lawful, Refusal, Resolved, Thing};
 use std::alloc::Global;
 
-// That so many bytes have room in a region.
-fn fits(region: Tag, room: u64, count: u64) -> Result<(), Refusal>
-    ensures { result ≡ as_refusal (too_long_for region room count) }
+// That so many bytes have room in the region of a thing.
+fn fits(thing: &Thing, count: u64) -> Result<(), Refusal>
+    ensures { result ≡ as_refusal (too_long_for thing.now.tag thing.now.size count) }
 {
-    if count <= room {
+    if count <= thing.size {
         return Ok(());
     }
     Err(Refusal::FileFit {
-        region,
-        room,
+        region: thing.tag,
+        room: thing.size,
         length: count,
     })
 }
@@ -117,125 +117,53 @@ fn file_length<F: Files>(
     }
 }
 
-// Holds the content of a region against its room.
+// Holds the content of a thing against its room.
 fn check<F: Files>(
     alloc: Global,
     given: &[Given<'_>],
-    region: Tag,
-    room: u64,
-    content: &Content,
+    policy: &Resolved,
+    thing: &Thing,
     found: &mut ComponentFiles,
     files: &mut F,
 ) -> Result<(), BuildError>
-    ensures grows { IfOk result (λ _. GrowsBy (of_content (filled region room content.now)) given.now (F.held files.old) (F.history files.old) (F.history files.new) found.old found.new) }
-    ensures passes { IfOk result (λ _. PassesBy (of_content (filled region room content.now)) given.now found.new) }
-    ensures err { IfErr result (StopsBy (of_content (filled region room content.now)) given.now (F.held files.old) (F.history files.old) (F.history files.new) found.old) }
+    ensures grows { IfOk result (λ _. Grows (given_files given.now) (thing_names policy.now thing.now) (F.held files.old) (F.history files.old) (F.history files.new) (looks_of found.old) (looks_of found.new)) }
+    ensures passes { IfOk result (λ _. Passes (given_files given.now) (looks_of found.new) (thing_refused policy.now thing.now)) }
+    ensures err { IfErr result (StopsAfterLooks (given_files given.now) (thing_names policy.now thing.now) (F.held files.old) (F.history files.old) (F.history files.new) (looks_of found.old) (Refuses (thing_refused policy.now thing.now))) }
     ensures held { F.held files.new ≡ F.held files.old }
 {
-    match content {
-        Content::Zero | Content::Fill(_) => Ok(()),
-        Content::Inline(bytes) => Ok(fits(region, room, bytes.len() as u64)?),
-        Content::File {
-            name: file,
-            offset,
-            length,
-        } => {
+    match policy.content(thing.content) {
+        None | Some(Content::Zero | Content::Fill(_)) => Ok(()),
+        Some(Content::Inline(bytes)) => Ok(fits(thing, bytes.len() as u64)?),
+        Some(
+            Content::File {
+                name: file,
+                offset,
+                length,
+            },
+        ) => {
             let count = file_length(alloc, given, *file, found, files)?;
-            Ok(fits(region, room, part_length(count, *offset, *length))?)
+            Ok(fits(thing, part_length(count, *offset, *length))?)
         }
     }
 }
 
-// The regions of memory, in order.
-fn check_memory<F: Files>(
+/// The component files that the contents of a policy name, which have room in their regions. Contents
+/// are held against it by number.
+pub(crate) fn read_contents<F: Files>(
     alloc: Global,
     given: &[Given<'_>],
-    memory: &[Region],
-    found: &mut ComponentFiles,
+    policy: &Lawful,
     files: &mut F,
-) -> Result<(), BuildError>
-    ensures grows { IfOk result (λ _. GrowsBy (of_contents (map filled_region memory.now)) given.now (F.held files.old) (F.history files.old) (F.history files.new) found.old found.new) }
-    ensures passes { IfOk result (λ _. PassesBy (of_contents (map filled_region memory.now)) given.now found.new) }
-    ensures err { IfErr result (StopsBy (of_contents (map filled_region memory.now)) given.now (F.held files.old) (F.history files.old) (F.history files.new) found.old) }
+) -> Result<ComponentFiles, BuildError>
+    ensures grows { IfOk result (λ found. Grows (given_files given.now) (names_file (source_of policy.now)) (F.held files.old) (F.history files.old) (F.history files.new) [] (looks_of found)) }
+    ensures passes { IfOk result (λ found. Passes (given_files given.now) (looks_of found) (λ files. contents_refused files (source_of policy.now))) }
+    ensures err { IfErr result (StopsAfterLooks (given_files given.now) (names_file (source_of policy.now)) (F.held files.old) (F.history files.old) (F.history files.new) [] (RefusesContents (source_of policy.now))) }
     ensures held { F.held files.new ≡ F.held files.old }
 {
-    for region in memory {
-        let tag = Tag {
-            owner: region.name,
-            part: TagPart::Whole,
-        };
-        check(
-            alloc,
-            given,
-            tag,
-            region.size,
-            &region.content,
-            found,
-            files,
-        )?;
+    let policy = policy.resolved();
+    let mut found = ComponentFiles::new(alloc, hash_of_files(policy));
+    for thing in policy.things() {
+        check(alloc, given, policy, thing, &mut found, files)?;
     }
-    Ok(())
-}
-
-// The regions that a component brings along for a subject, in order.
-fn check_provided<F: Files>(
-    alloc: Global,
-    given: &[Given<'_>],
-    subject: Name,
-    provided: &[Provided],
-    found: &mut ComponentFiles,
-    files: &mut F,
-) -> Result<(), BuildError>
-    ensures grows { IfOk result (λ _. GrowsBy (of_contents (map (filled_provided subject) provided.now)) given.now (F.held files.old) (F.history files.old) (F.history files.new) found.old found.new) }
-    ensures passes { IfOk result (λ _. PassesBy (of_contents (map (filled_provided subject) provided.now)) given.now found.new) }
-    ensures err { IfErr result (StopsBy (of_contents (map (filled_provided subject) provided.now)) given.now (F.held files.old) (F.history files.old) (F.history files.new) found.old) }
-    ensures held { F.held files.new ≡ F.held files.old }
-{
-    for x in provided {
-        let tag = Tag {
-            owner: subject,
-            part: TagPart::Named(x.logical),
-        };
-        check(alloc, given, tag, x.size, &x.content, found, files)?;
-    }
-    Ok(())
-}
-
-// Those of all subjects, in order.
-fn check_subjects<F: Files>(
-    alloc: Global,
-    given: &[Given<'_>],
-    policy: &Resolved,
-    subjects: &[Subject],
-    found: &mut ComponentFiles,
-    files: &mut F,
-) -> Result<(), BuildError>
-    ensures grows { IfOk result (λ _. GrowsBy (of_components policy.now.components subjects.now) given.now (F.held files.old) (F.history files.old) (F.history files.new) found.old found.new) }
-    ensures passes { IfOk result (λ _. PassesBy (of_components policy.now.components subjects.now) given.now found.new) }
-    ensures err { IfErr result (StopsBy (of_components policy.now.components subjects.now) given.now (F.held files.old) (F.history files.old) (F.history files.new) found.old) }
-    ensures held { F.held files.new ≡ F.held files.old }
-{
-    for subject in subjects {
-        let provided = policy.provided_by(subject);
-        check_provided(alloc, given, subject.name, provided, found, files)?;
-    }
-    Ok(())
-}
-
-/// Holds the contents of a policy's regions against their room, by number, and reads the component
-/// files that they name: those of memory, then those that each subject's component brings along.
-pub(crate) fn check_all<F: Files>(
-    alloc: Global,
-    given: &[Given<'_>],
-    policy: &Resolved,
-    found: &mut ComponentFiles,
-    files: &mut F,
-) -> Result<(), BuildError>
-    ensures grows { IfOk result (λ _. GrowsBy (of_policy (source_of policy.now)) given.now (F.held files.old) (F.history files.old) (F.history files.new) found.old found.new) }
-    ensures passes { IfOk result (λ _. PassesBy (of_policy (source_of policy.now)) given.now found.new) }
-    ensures err { IfErr result (StopsBy (of_policy (source_of policy.now)) given.now (F.held files.old) (F.history files.old) (F.history files.new) found.old) }
-    ensures held { F.held files.new ≡ F.held files.old }
-{
-    check_memory(alloc, given, policy.memory(), found, files)?;
-    check_subjects(alloc, given, policy, policy.subjects(), found, files)
+    Ok(found)
 }

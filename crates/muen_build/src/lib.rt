@@ -3,17 +3,16 @@
 //! placed. Each component file is read once. Then its image is made.
 #![tactic(auto)]
 
-ghost use Rattle.std.specs.Prelude.{◌≡◌, ℕ, IfOk, IfErr, List, [], None, Some, Ok};
+ghost use Rattle.std.specs.Prelude.{◌≡◌, ℕ, IfOk, IfErr, List, None, Some, Ok};
 ghost use Rattle.std.specs.FinMap as map;
 ghost use Rattle.std.specs.List.{All};
 ghost use Rattle.muen_num.specs.Answers.{Answers, Explains};
 ghost use Rattle.muen_outside.specs.Store.{Store};
 ghost use Rattle.policy_lawful.specs.Resolution.{kept_source, source_of};
-ghost use Rattle.muen_build.specs.Accepting.{Accepts, FailsWith, Grows, HasContents, LacksContents, Passes, Refuses, StopsAfterLooks, given_files, looks_of, of_all, placed_source};
-ghost use Rattle.muen_build.specs.Looks.{IsAsked, Looked, names_file};
+ghost use Rattle.muen_build.specs.Accepting.{Accepts, FailsWith, HasContents, LacksContents, given_files, looks_of, placed_source};
+ghost use Rattle.muen_build.specs.Looks.{IsAsked, Looked};
 ghost use Rattle.muen_build.specs.Refusals.{laid_policy_of, lawful_policy_of};
 ghost use Rattle.region_alloc.specs.Placement.{no_room};
-ghost use Rattle.muen_build.specs.Filling.{filled_of};
 
 mod accepted;
 mod contents;
@@ -24,8 +23,7 @@ mod named;
 mod things;
 
 pub use accepted::{Accepted, BuildError, ComponentFiles};
-use contents::check_all;
-use file_hash::hash_of_files;
+use contents::read_contents;
 pub use given::Given;
 pub use image_bytes::{build, image};
 use muen_num::Seq;
@@ -69,23 +67,6 @@ pub fn lay(alloc: Global, policy: &[u8]) -> Result<Placed, Refusal>
 {
     let policy = lawful(alloc, policy)?;
     place(alloc, policy)
-}
-
-// The component files that the contents of a policy name, which fit.
-fn read_contents<F: Files>(
-    alloc: Global,
-    given: &[Given<'_>],
-    policy: &Lawful,
-    files: &mut F,
-) -> Result<ComponentFiles, BuildError>
-    ensures grows { IfOk result (λ found. Grows (given_files given.now) (names_file (source_of policy.now)) (F.held files.old) (F.history files.old) (F.history files.new) [] (looks_of found)) }
-    ensures passes { IfOk result (λ found. Passes (given_files given.now) (looks_of found) (of_all (filled_of (source_of policy.now)))) }
-    ensures err { IfErr result (StopsAfterLooks (given_files given.now) (names_file (source_of policy.now)) (F.held files.old) (F.history files.old) (F.history files.new) [] (Refuses (of_all (filled_of (source_of policy.now))))) }
-    ensures held { F.held files.new ≡ F.held files.old }
-{
-    let mut found = ComponentFiles::new(alloc, hash_of_files(policy.resolved()));
-    check_all(alloc, given, policy.resolved(), &mut found, files)?;
-    Ok(found)
 }
 
 /// What the regions of a policy that aren't the kernel's hold at the start, by number. The bytes that are

@@ -1,16 +1,17 @@
 //! What a policy's regions hold, made of the files that were read.
-ghost use Rattle.std.specs.Prelude.{◌≡◌, ◌++◌, IfOk, OnOk, map, replicate};
-ghost use Rattle.muen_build.specs.Accepting.{given_files};
-ghost use Rattle.muen_build.specs.Reading.{brought_read, content_read, read_bytes, sized, things_read};
+ghost use Rattle.std.specs.Prelude.{◌≡◌, IfOk, replicate};
+ghost use Rattle.muen_build.specs.Accepting.{content_of, given_files};
+ghost use Rattle.muen_build.specs.Reading.{content_read, read_bytes, sized, things_read};
 ghost use Rattle.policy_lawful.specs.Contents.{file_part};
-ghost use Rattle.policy_lawful.specs.Resolution.{IsResolved};
+ghost use Rattle.policy_lawful.specs.Resolution.{source_of};
+ghost use Rattle.policy_lawful.specs.Thing.{placed_items};
+ghost use Rattle.policy_lawful.specs.Things.{AreDeclared, placed_things};
 
 use crate::accepted::ComponentFiles;
 use crate::given::{Given, given_bytes};
 use muen_num::{Name, NoMemory, Seq};
-use policy_lawful::Resolved;
-use policy_lawful::resolved::Subject;
-use policy_lawful::source::{Channel, Content, Provided, Region};
+use policy_lawful::source::Content;
+use policy_lawful::{Resolved, Thing};
 use std::alloc::{AllocError, Global};
 
 // So many bytes of this value.
@@ -56,110 +57,48 @@ fn file_bytes<'a>(given: &[Given<'a>], found: &'a ComponentFiles, file: Name) ->
     }
 }
 
-// A content in a room of so many bytes.
+// The bytes of a thing.
 fn content(
     alloc: Global,
     given: &[Given<'_>],
     found: &ComponentFiles,
-    size: u64,
-    content: &Content,
+    policy: &Resolved,
+    thing: &Thing,
 ) -> Result<Seq<u8>, AllocError>
-    ensures { IfOk result (λ bytes. bytes ≡ content_read (given_files given.now) found.now size content.now) }
+    ensures { IfOk result (λ bytes. bytes ≡ content_read (given_files given.now) found.now thing.now.size (content_of policy.now thing.now)) }
 {
-    match content {
-        Content::Zero => filled(alloc, size, 0),
-        Content::Fill(byte) => filled(alloc, size, *byte),
-        Content::Inline(bytes) => sized(alloc, size, bytes.items()),
-        Content::File {
-            name: file,
-            offset,
-            length,
-        } => {
+    let size = thing.size;
+    match policy.content(thing.content) {
+        None | Some(Content::Zero) => filled(alloc, size, 0),
+        Some(Content::Fill(byte)) => filled(alloc, size, *byte),
+        Some(Content::Inline(bytes)) => sized(alloc, size, bytes.items()),
+        Some(
+            Content::File {
+                name: file,
+                offset,
+                length,
+            },
+        ) => {
             let bytes = file_bytes(given, found, *file);
             sized(alloc, size, part(bytes, *offset, *length))
         }
     }
 }
 
-// The regions of memory, in order.
-fn put_memory(
-    alloc: Global,
-    given: &[Given<'_>],
-    found: &ComponentFiles,
-    memory: &[Region],
-    things: &mut Vec<Seq<u8>>,
-) -> Result<(), AllocError>
-    ensures { OnOk result (things.new.items ≡ things.old.items ++ map (λ m. content_read (given_files given.now) found.now m.size m.content) memory.now) }
-{
-    for region in memory {
-        things.push(content(alloc, given, found, region.size, &region.content)?)?;
-    }
-    Ok(())
-}
-
-// The channels, in order.
-fn put_channels(
-    alloc: Global,
-    channels: &[Channel],
-    things: &mut Vec<Seq<u8>>,
-) -> Result<(), AllocError>
-    ensures { OnOk result (things.new.items ≡ things.old.items ++ map (λ c. replicate c.size 0) channels.now) }
-{
-    for channel in channels {
-        things.push(filled(alloc, channel.size, 0)?)?;
-    }
-    Ok(())
-}
-
-// The regions that a component brings along, in order.
-fn put_provided(
-    alloc: Global,
-    given: &[Given<'_>],
-    found: &ComponentFiles,
-    provided: &[Provided],
-    things: &mut Vec<Seq<u8>>,
-) -> Result<(), AllocError>
-    ensures { OnOk result (things.new.items ≡ things.old.items ++ map (λ x. content_read (given_files given.now) found.now x.size x.content) provided.now) }
-{
-    for x in provided {
-        things.push(content(alloc, given, found, x.size, &x.content)?)?;
-    }
-    Ok(())
-}
-
-// Those of all subjects, in order.
-fn put_subjects(
-    alloc: Global,
-    given: &[Given<'_>],
-    found: &ComponentFiles,
-    policy: &Resolved,
-    subjects: &[Subject],
-    things: &mut Vec<Seq<u8>>,
-) -> Result<(), AllocError>
-    ensures { OnOk result (things.new.items ≡ things.old.items ++ brought_read (given_files given.now) found.now policy.now.components subjects.now) }
-{
-    for subject in subjects {
-        let provided = policy.provided_by(subject);
-        put_provided(alloc, given, found, provided, things)?;
-    }
-    Ok(())
-}
-
-/// The bytes of a policy's regions that aren't the kernel's, by number: those of memory, the
-/// channels, then those that each subject's component brings along. Each has as many bytes as its
-/// size says. The other files were found.
+/// The bytes of a policy's regions that aren't the kernel's, by number. Each has as many bytes as its
+/// size says. The files that aren't given were found.
 pub(crate) fn things(
     alloc: Global,
     given: &[Given<'_>],
     found: &ComponentFiles,
     policy: &Resolved,
 ) -> Result<Seq<Seq<u8>>, NoMemory>
-    ensures things { IfOk result (λ things. things ≡ things_read (given_files given.now) found.now policy.now) }
-    ensures resolved { IfOk result (λ _. IsResolved policy.now) }
+    ensures things { IfOk result (λ things. things ≡ things_read (given_files given.now) found.now (source_of policy.now)) }
+    ensures declared { IfOk result (λ _. AreDeclared policy.now (placed_items (source_of policy.now)) (placed_things policy.now)) }
 {
     let mut things = Vec::new(alloc);
-    put_memory(alloc, given, found, policy.memory(), &mut things)?;
-    put_channels(alloc, policy.channels(), &mut things)?;
-    put_subjects(alloc, given, found, policy, policy.subjects(), &mut things)?;
+    for thing in policy.placed_things() {
+        things.push(content(alloc, given, found, policy, thing)?)?;
+    }
     Ok(Seq::of(things))
 }

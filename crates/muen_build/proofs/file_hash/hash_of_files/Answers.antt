@@ -1,17 +1,15 @@
--- The files of the regions are taken, and then those of the components.
-use Rattle.std.proofs.Common.{ℕ, List, [], ◌++◌, subst}
+-- The files of all things were taken.
+use Rattle.std.proofs.Common.{ap, arith, subst, take_all, ◌∙◌}
 use Rattle.std.specs.List.{flat_map}
 use Rattle.policy_lawful.specs.NameHashes.{AreDigested}
 use Rattle.policy_lawful.specs.Resolution.{source_of}
-use Rattle.policy_lawful.specs.source.Component.{Component}
-use Rattle.policy_lawful.specs.source.Region.{Region}
-use Rattle.muen_build.specs.FileNames.{component_files, region_file}
+use Rattle.muen_build.specs.Accepting.{content_of}
+use Rattle.muen_build.specs.FileNames.{content_file_of, named_files}
+use Rattle.muen_build.proofs.OfThings.{all_named}
 use Rattle.muen_build.proofs.file_hash.hash_of_files.Goals as goal
 
 pub returns : goal.returns
-unfolding source_of
 returns c =
-    let of_memory : List (List ℕ) = flat_map region_file c.args.policy.now.memory in
-    let first = subst (λ (rs : List Region). AreDigested c.add_memory.new.digest (flat_map region_file rs)) c.memory.ensures.value (c.add_memory.ensures [] c.new-digest.ensures) in
-    let all = subst (λ (cs : List Component). AreDigested c.add_components.new.digest (of_memory ++ flat_map component_files cs)) c.components.ensures (c.add_components.ensures of_memory first) in
-    c.hash.ensures (of_memory ++ flat_map component_files c.args.policy.now.components) all
+    let things = c.things-thing-items.result.now in
+    let all = ap (flat_map (λ t. content_file_of (content_of c.args.policy.now t))) (take_all c.loop-thing.thing-index things (omega (arith, c.loop-thing-test.false))) in
+    c.hash.ensures (named_files (source_of c.args.policy.now)) (subst (AreDigested c.loop-thing.digest) (all ∙ all_named c.args.policy.now things c.things-thing-items.ensures.declared) c.loop-thing.invariant)
