@@ -24,7 +24,7 @@ use Rattle.policy_lawful.specs.source.Provided.{Provided}
 use Rattle.policy_lawful.specs.source.Region.{Region}
 use Rattle.region_alloc.specs.Placed.{Placement}
 use Rattle.proof_build.specs.Mapped.{kernel_first}
-use Rattle.muen_build.proofs.MadeByNumber.{made_by_number}
+use Rattle.image_soundness.proofs.ThingsInOrder.{placed_told}
 
 -- ---- one content
 
@@ -56,7 +56,7 @@ module _ (given found : Files) where
       let channels = map (λ (c : Channel). c.size) r.channels in
       let brought = flat_map (λ (s : Subject). map (λ (x : Provided). x.size) (provided_at r.components s.component)) r.subjects in
       let as_many = AllZip-long (IsThingOf r (source_of r)) (placed_items (source_of r)) (placed_things r) (placed_by_index r resolved) in
-      let by_number = ap length (made_by_number (λ size content. size) r) in
+      let by_number = ap length (placed_told (λ t. t.size) r (λ m. m.size) (λ subject x. x.size) (λ k m at. refl) (λ subject used k x is. refl)) in
       let all = length-map (placed_things r) (λ t. t.size) in
       let a = length-append (memory ++ channels) brought in
       let b = length-append memory channels in
