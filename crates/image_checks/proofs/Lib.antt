@@ -1,6 +1,5 @@
 pub mod SpansOfNumbers
-pub mod Wanted
-pub mod Fitting
+pub mod ThingSpans
 pub mod Telling
 pub mod DevicesTold
 pub mod Equal

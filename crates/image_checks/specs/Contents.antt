@@ -1,59 +1,21 @@
--- What the spans of a policy's things have to be, and the first that isn't (this project's own format).
-use Rattle.std.specs.Prelude.{◌≡◌, ℕ, ◌*◌, ◌<◌, ◌==◌, ◌&&◌, Bool, true, false, List, ◌++◌, map, length, position, slice_get, Option, Some, None, option_and_then, if◌then◌else◌}
+-- When a span is that of a thing of the policy, and the first that isn't (this project's own format).
+use Rattle.std.specs.Prelude.{◌≡◌, ℕ, ◌*◌, ◌<◌, ◌==◌, List, length, position, slice_get, Option, Some, None, option_and_then, if◌then◌else◌}
 use Rattle.std.specs.Option.{option_map_or}
-use Rattle.std.specs.List.{filter_map, flat_map}
-use Rattle.std.specs.Str.{bytes_eq}
-use Rattle.image_checks.specs.declared.contents.ExpectedSpan.{ExpectedSpan}
+use Rattle.std.specs.List.{filter_map}
 use Rattle.image_pack.specs.declared.parts.Image.{Image}
 use Rattle.image_pack.specs.declared.parts.SpanKind.{SpanKind}
-use Rattle.image_pack.specs.declared.parts.SpanKind.TheVariants.{Own, Channel as ChannelSpan, Provided as ProvidedSpan, Kernel, Device as DeviceSpan}
+use Rattle.image_pack.specs.declared.parts.SpanKind.TheVariants.{Own, Channel, Provided, Kernel, Device}
 use Rattle.image_pack.specs.declared.parts.SpanPart.{SpanPart}
 use Rattle.image_soundness.specs.Memory.{Span}
 use Rattle.image_soundness.specs.Sound.{AreContents, IsSpanOf, is_kernel, thing_spans}
 use Rattle.muen_num.specs.Range.{numbers_below}
 use Rattle.muen_num.specs.declared.limits.TheConstants.{PAGE}
-use Rattle.muen_num.specs.declared.tag.TagPart.{TagPart}
-use Rattle.muen_num.specs.declared.tag.TagPart.TheVariants.{Whole, Named}
-use Rattle.policy_lawful.specs.ByIndex.{provided_at}
 use Rattle.policy_lawful.specs.Contents.{Held}
-use Rattle.policy_lawful.specs.Resolution.{Resolution}
 use Rattle.policy_lawful.specs.Thing.{Thing, thing_tag, things_of}
-use Rattle.policy_lawful.specs.declared.resolved.Subject.{Subject}
-use Rattle.policy_lawful.specs.source.Channel.{Channel}
-use Rattle.policy_lawful.specs.source.Component.{Component}
-use Rattle.policy_lawful.specs.source.Device.{Device}
-use Rattle.policy_lawful.specs.source.DeviceMemory.{DeviceMemory}
-use Rattle.policy_lawful.specs.source.Provided.{Provided}
-use Rattle.policy_lawful.specs.source.Region.{Region}
+use Rattle.policy_lawful.specs.declared.thing.RegionKind.{RegionKind}
+use Rattle.policy_lawful.specs.declared.thing.RegionKind.TheVariants.{Own as OwnRegion, Channel as ChannelRegion, Provided as ProvidedRegion, Device as DeviceRegion, Kernel as KernelRegion}
+use Rattle.policy_lawful.specs.declared.thing.Thing.{Thing as NumberedThing}
 use Rattle.policy_lawful.specs.source.Source.{Source}
-
--- ---- what spans have to be, by indexes
-
-abbrev pub own_span : Region → ExpectedSpan
-own_span m = record { owner = m.name; part = None; kind = Own; size = m.size }
-
-abbrev pub channel_span : Channel → ExpectedSpan
-channel_span c = record { owner = c.name; part = None; kind = ChannelSpan; size = c.size }
-
-abbrev pub provided_span : List ℕ → Provided → ExpectedSpan
-provided_span subject x = record { owner = subject; part = Some x.logical; kind = ProvidedSpan; size = x.size }
-
-abbrev pub brought_spans : List Component → Subject → List ExpectedSpan
-brought_spans components s = map (provided_span s.name) (provided_at components s.component)
-
-abbrev pub memory_span_of : List ℕ → DeviceMemory → ExpectedSpan
-memory_span_of device m = record { owner = device; part = Some m.name; kind = DeviceSpan; size = m.size }
-
-abbrev pub expected_device_spans : Device → List ExpectedSpan
-expected_device_spans d = map (memory_span_of d.name) d.memory
-
--- in the order of the things
-unfoldable pub expected_of : Resolution → List ExpectedSpan
-expected_of r =
-    map own_span r.memory
-    ++ map channel_span r.channels
-    ++ flat_map (brought_spans r.components) r.subjects
-    ++ flat_map expected_device_spans r.devices
 
 -- ---- which spans there are
 
@@ -69,45 +31,26 @@ thing_index spans number =
 unfoldable pub thing_indexes : List SpanPart → List ℕ
 thing_indexes spans = filter_map (thing_index spans) (numbers_below (length spans))
 
--- ---- a span that fits
+-- ---- a span that is a thing's
 
-abbrev pub same_part : Option (List ℕ) → TagPart → Bool
-same_part None Whole = true
-same_part (Some a) (Named b) = bytes_eq a b
-same_part _ _ = false
-
-abbrev pub same_kind : SpanKind → SpanKind → Bool
-same_kind Own Own = true
-same_kind ChannelSpan ChannelSpan = true
-same_kind ProvidedSpan ProvidedSpan = true
-same_kind Kernel Kernel = true
-same_kind DeviceSpan DeviceSpan = true
-same_kind _ _ = false
+abbrev pub span_kind : RegionKind → SpanKind
+span_kind OwnRegion = Own
+span_kind ChannelRegion = Channel
+span_kind ProvidedRegion = Provided
+span_kind DeviceRegion = Device
+span_kind KernelRegion = Kernel
 
 -- it has these bytes, where there are some
-abbrev pub has_expected_bytes : Option (List ℕ) → List ℕ → Bool
-has_expected_bytes None held = true
-has_expected_bytes (Some bytes) held = bytes_eq bytes held
+abbrev pub HasBytes : Option (List ℕ) → List ℕ → Type 0
+HasBytes None held = Unit {0}
+HasBytes (Some bytes) held = bytes ≡ held
 
--- it is as expected, but for its bytes
-abbrev pub is_expected : ExpectedSpan → SpanPart → Bool
-is_expected e s =
-    ((bytes_eq e.owner s.tag.owner && same_part e.part s.tag.part) && same_kind e.kind s.kind) && (e.size == PAGE * s.pages)
-
-abbrev pub fits_expected_span : ExpectedSpan → Option (List ℕ) → SpanPart → List ℕ → Bool
-fits_expected_span e bytes s held = is_expected e s && has_expected_bytes bytes held
-
--- what is expected at an index, and the span that is found there
-pub record FitsAt (expected : List ExpectedSpan) (things : List (List ℕ)) (i : Image) (k : ℕ) : Type 0 where
-  pub wanted : ExpectedSpan
-  pub index : ℕ
-  pub span : SpanPart
-  pub held : List ℕ
-  pub expects : slice_get expected k ≡ Some wanted
-  pub at : slice_get (thing_indexes i.spans) k ≡ Some index
-  pub is : slice_get i.spans index ≡ Some span
-  pub holds : slice_get i.contents index ≡ Some held
-  pub fit : fits_expected_span wanted (slice_get things k) span held ≡ true
+-- it has the name, the kind and the size of the thing, and holds these bytes, where there are some
+pub record IsThingSpan (t : NumberedThing) (bytes : Option (List ℕ)) (s : SpanPart) (held : List ℕ) : Type 0 where
+  pub tag : t.tag ≡ s.tag
+  pub kind : span_kind t.kind ≡ s.kind
+  pub size : t.size ≡ PAGE * s.pages
+  pub holds : HasBytes bytes held
 
 -- ---- the first that isn't a thing's, by the policy's and the image's meaning
 
