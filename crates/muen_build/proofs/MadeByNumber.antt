@@ -5,7 +5,7 @@ use Rattle.std.specs.Option.{option_map_or}
 use Rattle.std.specs.List.{enumerate_from, flat_map}
 use Rattle.std.proofs.lemmas.List.{map-append}
 use Rattle.muen_num.proofs.Lists.{map-flat_map, map-map}
-use Rattle.muen_build.specs.Accepting.{content_of}
+use Rattle.muen_build.specs.Accepting.{thing_content}
 use Rattle.policy_lawful.specs.ByIndex.{provided_at}
 use Rattle.policy_lawful.specs.Resolution.{Resolution}
 use Rattle.policy_lawful.specs.Things.{brought_by, brought_things, channel_thing, content_told, own_thing, placed_things, provided_thing}
@@ -24,7 +24,7 @@ provided_found (Some c) k x at = ap (option_and_then (λ (x : Provided). Some x.
 
 module _ {A : Type 0} (made : ℕ → Content → A) (r : Resolution) where
   abbrev of_thing : Thing → A
-  of_thing t = made t.size (content_of r t)
+  of_thing t = made t.size (thing_content r t)
 
   numbered : {X : Type 0} (f : X → A) (g : ℕ × X → Thing) (n : ℕ) (xs : List X) → ((k : ℕ) (x : X) → slice_get xs k ≡ Some x → of_thing (g (n + k, x)) ≡ f x) → map of_thing (map g (enumerate_from n xs)) ≡ map f xs
   numbered f g n [] h = refl
