@@ -1,20 +1,11 @@
 -- A word written among bytes.
-use Rattle.std.proofs.Common.{◌≡◌, ◌≢◌, inl, inr, ℕ, zero, suc, ◌+◌, ◌-◌, ◌*◌, ◌/◌, ◌%◌, ◌^◌, ◌<◌, ◌≤◌, List, length, take, drop, replicate, refl, ap, sym, ◌∙◌, arith}
+use Rattle.std.proofs.Common.{◌≡◌, ◌≢◌, inl, inr, ℕ, zero, suc, ◌-◌, ◌*◌, ◌/◌, ◌%◌, ◌^◌, List, length, take, drop, replicate, refl, ap, ◌∙◌, arith}
 use Rattle.std.specs.Int.{w64, to_le_bytes}
 use Rattle.std.proofs.lemmas.Bool.{cases_order}
 use Rattle.machine_layout.proofs.PageFieldLaws.{length-le_bytes}
-use Rattle.machine_layout.proofs.StoreLaws.{over_apart, over_itself}
+use Rattle.machine_layout.proofs.StoreLaws.{over_apart}
 use Rattle.machine_layout.specs.Memory.{over, le_number, le_bytes}
 use Rattle.ept_emit.specs.Entries.{word_at}
-
--- how many numbers n bytes spell
-abbrev numbers : ℕ → ℕ
-numbers zero = 1
-numbers (suc n) = 256 * numbers n
-
-read_spelt : (n v : ℕ) → v < numbers n → le_number (le_bytes n v) ≡ v
-read_spelt zero v h = omega arith
-read_spelt (suc n) v h = let ih = read_spelt n (v / 256) (omega arith) in omega (arith, ih)
 
 -- std's bytes of a word are these
 pub same_bytes : (v : ℕ) → to_le_bytes w64 v ≡ le_bytes 8 v
@@ -27,15 +18,6 @@ same_bytes v =
     let a6 : v / 256 ^ 6 % 256 ≡ v / 256 / 256 / 256 / 256 / 256 / 256 % 256 = omega arith in
     let a7 : v / 256 ^ 7 % 256 ≡ v / 256 / 256 / 256 / 256 / 256 / 256 / 256 % 256 = omega arith in
     rw (a1, a2, a3, a4, a5, a6, a7) refl
-
-word_here_of : (xs : List ℕ) (j n v : ℕ) → n ≡ 8 → v < numbers n → 8 * j + n ≤ length xs → le_number (take n (drop (8 * j) (over xs (8 * j) (le_bytes n v)))) ≡ v
-word_here_of xs j n v e small room =
-    let len = length-le_bytes n v in
-    ap (λ k. le_number (take k (drop (8 * j) (over xs (8 * j) (le_bytes n v))))) (sym len)
-    ∙ (ap le_number (over_itself xs (8 * j) (le_bytes n v) (omega (arith, len))) ∙ read_spelt n v small)
-
-pub word_here : (xs : List ℕ) (j v : ℕ) → v < 2 ^ 64 → 8 * j + 8 ≤ length xs → word_at (over xs (8 * j) (le_bytes 8 v)) j ≡ v
-word_here xs j v small room = word_here_of xs j 8 v refl small room
 
 word_other_of : (xs : List ℕ) (j n v i : ℕ) → n ≡ 8 → i ≢ j → le_number (take n (drop (8 * i) (over xs (8 * j) (le_bytes n v)))) ≡ le_number (take n (drop (8 * i) xs))
 word_other_of xs j n v i e ne =

@@ -1,7 +1,7 @@
 -- What the span of a number tells, where each span has its bytes.
-use Rattle.std.proofs.Common.{◌≡◌, ◌∙◌, ℕ, ◌*◌, Bool, true, false, cond, List, [], ◌∷◌, length, Some, None, refl, sym, ap, arith}
+use Rattle.std.proofs.Common.{◌≡◌, ◌∙◌, ℕ, ◌*◌, Bool, List, length, Some, None, sym, ap}
 use Rattle.std.specs.Prelude.{◌==◌, option_map}
-use Rattle.std.specs.List.{find, zip}
+use Rattle.std.specs.List.{find}
 use Rattle.std.specs.Bool.{Decides as Tells}
 use Rattle.std.proofs.lemmas.Bool.Decides.{Decides-eqb}
 use Rattle.std.proofs.lemmas.Option.{same_Some}
@@ -11,28 +11,18 @@ use Rattle.image_checks.specs.Agreement.{size_at}
 use Rattle.image_checks.specs.Firsts.{Decides}
 use Rattle.image_pack.specs.declared.parts.Image.{Image}
 use Rattle.image_pack.specs.declared.parts.SpanPart.{SpanPart}
+use Rattle.image_soundness.proofs.SpanNumbers.{span_alone}
 use Rattle.image_soundness.specs.Memory.{span_at}
 use Rattle.image_soundness.specs.Named.{tag_at}
 use Rattle.muen_num.proofs.Lists.{option_map-option_map}
 use Rattle.muen_num.specs.declared.tag.Tag.{Tag}
 use Rattle.muen_num.specs.declared.limits.TheConstants.{PAGE}
 
--- the first pair whose first passes has the first that passes
-first_found : {X Y : Type 0} (test : X → Bool) (xs : List X) (ys : List Y) → length ys ≡ length xs → option_map (λ (e : X × Y). e.0) (find (λ e. test e.0) (zip xs ys)) ≡ find test xs
-first_found test [] [] many = refl
-first_found test [] (y ∷ ys) many = absurd (omega (arith, many))
-first_found test (x ∷ xs) [] many = absurd (omega (arith, many))
-first_found {X} {Y} test (x ∷ xs) (y ∷ ys) many =
-    elim (test x) as (λ b. option_map (λ (e : X × Y). e.0) (cond b (Some (x, y)) (find (λ e. test e.0) (zip xs ys))) ≡ cond b (Some x) (find test xs)) [
-      | true ↦ refl
-      | false ↦ first_found test xs ys (omega (arith, many))
-    ]
-
 module _ (i : Image) (n : ℕ) (many : length i.contents ≡ length i.spans) where
   told : {Y : Type 0} (f : SpanPart → Y) → option_map (λ e. f e.0) (span_at i n) ≡ option_map f (find (λ s. s.number == n) i.spans)
   told f =
       sym (option_map-option_map f (λ (e : SpanPart × List ℕ). e.0) (span_at i n))
-      ∙ ap (option_map f) (first_found (λ (s : SpanPart). s.number == n) i.spans i.contents many)
+      ∙ ap (option_map f) (span_alone i many n)
 
   -- its printed name and its size
   tag_told : tag_at i n ≡ option_map (λ s. s.tag) (find (λ s. s.number == n) i.spans)

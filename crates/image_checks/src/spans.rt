@@ -1,20 +1,12 @@
 //! The spans of an image by their numbers: their printed names and sizes.
-ghost use Rattle.std.specs.Prelude.{◌≡◌, ◌*◌, ◌==◌, length, option_map, Some};
-ghost use Rattle.std.specs.List.{find};
+ghost use Rattle.std.specs.Prelude.{◌≡◌, ◌*◌, length, Some};
 ghost use Rattle.image_checks.specs.Firsts.{Decides};
 ghost use Rattle.image_checks.specs.Agreement.{size_at};
 ghost use Rattle.image_soundness.specs.Named.{tag_at};
 
-use image_pack::{Image, SpanPart};
+use image_pack::{Image, SpanPart, span_numbered};
 use muen_num::Tag;
 use muen_num::limits::PAGE;
-
-// The first span of a number.
-fn span_at(spans: &[SpanPart], number: u16) -> Option<&SpanPart>
-    ensures { option_map (λ s. s.now) result ≡ find (λ s. s.number == number) spans.now }
-{
-    spans.iter().find(|span| span.number == number)
-}
 
 // How many bytes a span has.
 fn size_of(span: &SpanPart) -> u64
@@ -29,7 +21,7 @@ pub(crate) fn has_tag(image: &Image, number: u16, tag: &Tag) -> bool
     requires { length image.now.contents ≡ length image.now.spans }
     ensures { Decides (tag_at image.now number ≡ Some tag.now) result }
 {
-    match span_at(image.spans.items(), number) {
+    match span_numbered(image.spans.items(), usize::from(number)) {
         None => false,
         Some(span) => span.tag == *tag,
     }
@@ -40,7 +32,7 @@ pub(crate) fn has_size(image: &Image, number: u16, size: u64) -> bool
     requires { length image.now.contents ≡ length image.now.spans }
     ensures { Decides (size_at image.now number ≡ Some size) result }
 {
-    match span_at(image.spans.items(), number) {
+    match span_numbered(image.spans.items(), usize::from(number)) {
         None => false,
         Some(span) => size_of(span) == size,
     }

@@ -1,17 +1,33 @@
 -- Spans of an image by their numbers, and those that have a part of a subject.
-use Rattle.std.proofs.Common.{◌≡◌, ℕ, ◌+◌, ◌*◌, ◌/◌, ◌<◌, ◌≤◌, true, List, Some, refl, sym, ap, subst, ◌∙◌, inl, inr, arith}
-use Rattle.std.specs.Prelude.{◌==◌, ◌&&◌, nat_le, slice_get}
-use Rattle.std.specs.List.{find}
+use Rattle.std.proofs.Common.{◌≡◌, ℕ, ◌+◌, ◌*◌, ◌/◌, ◌<◌, ◌≤◌, Bool, true, false, cond, List, [], ◌∷◌, length, Some, refl, sym, ap, subst, ◌∙◌, inl, inr, arith}
+use Rattle.std.specs.Prelude.{◌==◌, ◌&&◌, nat_le, option_map, slice_get}
+use Rattle.std.specs.List.{find, zip}
 use Rattle.std.specs.Option.{option_map_or}
 use Rattle.std.proofs.lemmas.Bool.{and_parts, cases_lt, eq-eqb, eqb-true, leb-true}
-use Rattle.image_memory.specs.Memory.{page_of_span}
+use Rattle.image_memory.specs.Memory.{page_of_span, span_at}
 use Rattle.image_pack.specs.Codes.{part_code}
 use Rattle.image_pack.specs.Image.{is_kernel_span}
 use Rattle.image_pack.specs.SpanConditions.{AreSpans}
+use Rattle.image_pack.specs.declared.parts.Image.{Image}
 use Rattle.image_pack.specs.declared.parts.SpanPart.{SpanPart}
 use Rattle.muen_num.proofs.Indexed.{any_passing, found_only, pairs_at}
 
 -- ---- spans by number
+
+-- what is found in a list is found in it beside another as long
+found_beside : {X Y : Type 0} (test : X → Bool) (xs : List X) (ys : List Y) → length ys ≡ length xs → option_map (λ (e : X × Y). e.0) (find (λ e. test e.0) (zip xs ys)) ≡ find test xs
+found_beside test [] [] many = refl
+found_beside test [] (y ∷ ys) many = absurd (omega (arith, many))
+found_beside test (x ∷ xs) [] many = absurd (omega (arith, many))
+found_beside {X} {Y} test (x ∷ xs) (y ∷ ys) many =
+    elim (test x) as (λ b. option_map (λ (e : X × Y). e.0) (cond b (Some (x, y)) (find (λ e. test e.0) (zip xs ys))) ≡ cond b (Some x) (find test xs)) [
+      | true ↦ refl
+      | false ↦ found_beside test xs ys (omega (arith, many))
+    ]
+
+-- a span is found by its number alike with its bytes and without
+pub span_alone : (i : Image) → length i.contents ≡ length i.spans → (n : ℕ) → option_map (λ e. e.0) (span_at i n) ≡ find (λ s. s.number == n) i.spans
+span_alone i many n = found_beside (λ (s : SpanPart). s.number == n) i.spans i.contents many
 
 pub number_once : (xs : List SpanPart) → AreSpans xs → (a b : ℕ) (s t : SpanPart) → slice_get xs a ≡ Some s → slice_get xs b ≡ Some t → s.number ≡ t.number → a ≡ b
 number_once xs h a b s t at to e =

@@ -19,4 +19,5 @@ pub use items::{Item, items_of, put_items};
 pub use outline::{Header, Outline};
 pub use parts::{
     DevicePart, EventPart, Image, IrqPart, SpanKind, SpanPart, SubjectPart, WindowPart,
+    span_numbered,
 };

@@ -1,4 +1,7 @@
 //! The parts of an image.
+ghost use Rattle.std.specs.Prelude.{◌≡◌, ◌==◌, option_map};
+ghost use Rattle.std.specs.List.{find};
+
 use crate::outline::Header;
 use frame_clock::Plan;
 use muen_num::{EventMode, IrqTarget, Name, PortSpan, Seq, Tag};
@@ -30,6 +33,13 @@ pub struct SpanPart {
     pub kind: SpanKind,
     /// Its printed name.
     pub tag: Tag,
+}
+
+/// The span with this number, if there is one.
+pub fn span_numbered(spans: &[SpanPart], number: usize) -> Option<&SpanPart>
+    ensures { option_map (λ s. s.now) result ≡ find (λ s. s.number == number) spans.now }
+{
+    spans.iter().find(|span| usize::from(span.number) == number)
 }
 
 /// What an event does that a call or a trap of a subject raises.

@@ -1,4 +1,5 @@
 pub use Rattle.image_memory.proofs.MemoryPages
+pub use Rattle.image_memory.proofs.SpanNumbers
 pub mod DevicesOf
 pub mod GroupsByIndex
 pub mod Led

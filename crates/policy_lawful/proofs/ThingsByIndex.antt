@@ -5,7 +5,7 @@ use Rattle.std.specs.Option.{option_map_or}
 use Rattle.std.specs.List.{AllZip, enumerate_from, flat_map}
 use Rattle.std.proofs.lemmas.Bool.{and_parts, ltb-true}
 use Rattle.muen_num.proofs.Lists.{passes_at, there}
-use Rattle.muen_num.proofs.PiecesOfLists.{zip_append}
+use Rattle.muen_num.proofs.PiecesOfLists.{zip_append, zip_map_both}
 use Rattle.policy_lawful.proofs.SourceElements.{parts_in_range}
 use Rattle.policy_lawful.proofs.UniqueNames.{unique}
 use Rattle.policy_lawful.proofs.WindowsByIndex.{component_at, found_by_name, subject_parts}
@@ -32,10 +32,6 @@ module _ {X Y Z : Type 0} (R : Y → Z → Type 0) where
         zip_numbered f g (n + 1) xs (λ k y e. let next : n + suc k ≡ n + 1 + k = omega arith in subst (λ m. R (f y) (g (m, y))) next (h (suc k) y e)),
       )
 
-  zip_mapped : (f : X → Y) (g : X → Z) → ((x : X) → R (f x) (g x)) → (xs : List X) → AllZip R (map f xs) (map g xs)
-  zip_mapped f g h [] = tt
-  zip_mapped f g h (x ∷ xs) = (h x, zip_mapped f g h xs)
-
   zip_pieces : {V : Type 0} (n : V → X) (f : X → List Y) (g : V → List Z) (vs : List V) → ((k : ℕ) (v : V) → slice_get vs k ≡ Some v → AllZip R (f (n v)) (g v)) → AllZip R (flat_map f (map n vs)) (flat_map g vs)
   zip_pieces n f g [] h = tt
   zip_pieces n f g (v ∷ vs) h = zip_append R (f (n v)) (g v) (flat_map f (map n vs)) (flat_map g vs) (h 0 v refl) (zip_pieces n f g vs (λ k w e. h (suc k) w e))
@@ -60,7 +56,7 @@ module _ (r : Resolution) (q : IsResolved r) where
       })
 
   of_channels : AllZip Is (map channel_item r.channels) (map channel_thing r.channels)
-  of_channels = zip_mapped Is channel_item channel_thing (λ c. record { region = refl; caching = refl; content = refl }) r.channels
+  of_channels = zip_map_both Is channel_item channel_thing (λ c. record { region = refl; caching = refl; content = refl }) r.channels
 
   of_component : (subject : List ℕ) (used : ℕ) (c : Component) → slice_get r.components used ≡ Some c
       → AllZip Is (map (provided_item subject) c.provides) (map (provided_thing subject used) (enumerate_from 0 c.provides))
@@ -96,7 +92,7 @@ module _ (r : Resolution) (q : IsResolved r) where
       (λ k s at. of_use s.name s.component (subject_parts r s (passes_at (subject_in_range r) r.subjects k s (parts_in_range r q.in_range).subjects at)).component)
 
   of_device : (d : Device) → AllZip Is (map (device_item d.name) d.memory) (device_things_of d)
-  of_device d = zip_mapped Is (device_item d.name) (device_thing d.name) (λ m. record { region = refl; caching = refl; content = refl }) d.memory
+  of_device d = zip_map_both Is (device_item d.name) (device_thing d.name) (λ m. record { region = refl; caching = refl; content = refl }) d.memory
 
   of_devices : (ds : List Device) → AllZip Is (flat_map (λ d. map (device_item d.name) d.memory) ds) (flat_map device_things_of ds)
   of_devices [] = tt

@@ -3,7 +3,7 @@
 -- and its pages are the greatest and have the memory types of what they show (Intel SDM volume 3, "VMX Support for Address Translation").
 use Rattle.std.specs.Prelude.{◌≡◌, ◌⊎◌, ℕ, suc, ◌+◌, ◌*◌, ◌/◌, ◌%◌, ◌<◌, ◌≤◌, ◌&&◌, nat_le, Bool, true, List, ◌++◌, length, map, replicate, slice_get, Ok, Some}
 use Rattle.std.specs.List.{All, find, list_any}
-use Rattle.std.specs.Option.{IfSome, option_map_or}
+use Rattle.std.specs.Option.{IfSome}
 use Rattle.std.specs.Str.{bytes_eq}
 use Rattle.machine_layout.specs.Reads.{Reads}
 use Rattle.ept_emit.specs.Entries.{type_of}
@@ -20,10 +20,9 @@ use Rattle.muen_num.specs.declared.limits.TheConstants.{GUEST_END, PAGE}
 use Rattle.muen_num.specs.declared.tag.Tag.{Tag}
 use Rattle.muen_num.specs.declared.tag.TagPart.{TagPart}
 use Rattle.muen_num.specs.declared.tag.TagPart.TheVariants.{State, Ept, Iobm, Msrbm, Msrs}
-use Rattle.policy_lawful.specs.Thing.{Thing, region, channel, provided, device_memory, state}
+pub use Rattle.policy_lawful.specs.Things.{thing_caching}
+use Rattle.policy_lawful.specs.Thing.{Thing}
 use Rattle.policy_lawful.specs.Windows.{Window, holds, windows_of}
-use Rattle.policy_lawful.specs.rights.Caching.{Caching}
-use Rattle.policy_lawful.specs.rights.Caching.TheVariants.{Uc, Wb}
 use Rattle.policy_lawful.specs.source.Source.{Source}
 use Rattle.policy_lawful.specs.source.Subject.{Subject}
 use Rattle.region_alloc.specs.Placement.{placement_of}
@@ -108,14 +107,6 @@ HasGreatestPages p i s q =
     → IfSome (find (λ w. holds w addr) (windows_of p s)) (λ w. IsGreatestPage w (address_of p i w.thing) addr (leaf_size (memory_of i) q.eptp addr))
 
 -- ---- memory types
-
--- the memory type of a thing: a region's as the policy says, uncached of a device's memory, write-back of all else
-abbrev pub thing_caching : Source → Thing → Caching
-thing_caching p (region name) = option_map_or (λ r. r.caching) (find (λ r. bytes_eq r.name name) p.memory) Wb
-thing_caching p (channel name) = Wb
-thing_caching p (provided subject logical) = Wb
-thing_caching p (device_memory device memory) = Uc
-thing_caching p (state subject) = Wb
 
 -- each address of a window of the subject is mapped with the memory type of what the window shows
 abbrev pub HasMemoryTypes : Source → Image → Subject → SubjectPart → Type 0

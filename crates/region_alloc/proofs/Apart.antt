@@ -1,4 +1,4 @@
--- A placement keeps each region inside one block, and no two share an address.
+-- A placement keeps each region where it may be, inside one block, and no two share an address.
 use Rattle.std.proofs.Common.{◌≡◌, ℕ, zero, suc, ◌+◌, ◌<◌, ◌≤◌, ◌⊎◌, inl, inr, true, List, [], ◌∷◌, length, get_or, map, Some, refl, sym, ap, subst, ◌∙◌, arith}
 use Rattle.std.specs.Prelude.{Result, Ok, Err, slice_get}
 use Rattle.std.specs.List.{AllZip, find, list_any}
@@ -15,12 +15,12 @@ use Rattle.muen_num.specs.Range.{numbers_below}
 use Rattle.policy_lawful.specs.Ranges.{in_a_block}
 use Rattle.policy_lawful.specs.Resolution.{Resolution, source_of}
 use Rattle.policy_lawful.specs.source.Block.{Block}
-use Rattle.region_alloc.specs.Placed.{AreDisjoint, AreInside, IsPlaced}
+use Rattle.region_alloc.specs.Placed.{AreDisjoint, AreInside, IsPlaced, Placement}
 use Rattle.region_alloc.specs.Placement.{address_in, addresses_by_number, in_turn, placed_after, placement_in, placement_of}
 use Rattle.region_alloc.specs.declared.spot.Spot.{Spot}
 use Rattle.region_alloc.proofs.EachInTurn.{each_from_turns, each_in_turn, numbered_at}
 use Rattle.region_alloc.proofs.Sized.{placement_is}
-use Rattle.region_alloc.proofs.Spots.{AreWell, all_found, each_after, is_of, two_found, well_after}
+use Rattle.region_alloc.proofs.Spots.{AreWell, HoldsOf, MayBe, all_found, each_after, is_of, two_found, well_after}
 
 -- ---- lists by number
 
@@ -40,53 +40,50 @@ all_zip R (x ∷ xs) (y ∷ ys) l h = (h 0 x y refl, all_zip R xs ys (omega arit
 
 -- ---- where each region is
 
--- there is a region of this number and size
-abbrev Holds : List Region → ℕ → ℕ → Type 0
-Holds regions number size = (r : Region) × (slice_get regions number ≡ Some r) × (size ≡ r.size)
+-- there is a region of this number and size, which may be there
+abbrev Holds : List Block → List Region → Spot → Type 0
+Holds blocks regions q = (r : Region) × (slice_get regions q.number ≡ Some r) × (q.size ≡ r.size) × MayBe blocks r q.address
 
--- its spot is the one that is found, and has its size
-record IsAt (out : List Spot) (number bytes : ℕ) : Type 0 where
+-- its spot is the one that is found, has its size, and is where it may be
+record IsAt (blocks : List Block) (out : List Spot) (number : ℕ) (r : Region) : Type 0 where
   spot : Spot
   is : find (is_of number) out ≡ Some spot
   address : address_in out number ≡ spot.address
-  size : spot.size ≡ bytes
+  size : spot.size ≡ r.size
+  there : MayBe blocks r (address_in out number)
 
 made : (many : ℕ) (placed : Result (List Spot) Region) (addresses : List ℕ) → addresses_by_number many placed ≡ Ok addresses → (out : List Spot) × (placed ≡ Ok out) × (addresses ≡ map (address_in out) (numbers_below many))
 made many (Ok out) addresses e = (out, refl, cc)
 made many (Err r) addresses e = absurd (cc)
 
 module _ (blocks : List Block) (regions : List Region) (out : List Spot) (placed : placed_after blocks (in_turn regions) [] ≡ Ok out) where
-  well : AreWell blocks (Holds regions) out
+  well : AreWell (Holds blocks regions) out
   well =
-      well_after blocks (Holds regions) (in_turn regions) [] out placed
-      (each_in_turn (λ x. Holds regions x.0 x.1.size) regions
-      (each_numbered (λ x. Holds regions x.0 x.1.size) 0 regions (λ i r e. let n : 0 + i ≡ i = omega arith in (r, ap (slice_get regions) n ∙ e, refl))))
-      (record { inside = All-nil (λ q. in_a_block blocks q.address q.size ≡ true); apart = tt; each = All-nil (λ q. Holds regions q.number q.size) })
+      well_after blocks (Holds blocks regions) (in_turn regions) [] out placed
+      (each_in_turn (HoldsOf blocks (Holds blocks regions)) regions
+      (each_numbered (HoldsOf blocks (Holds blocks regions)) 0 regions (λ i r e a there. let n : 0 + i ≡ i = omega arith in (r, ap (slice_get regions) n ∙ e, refl, there))))
+      (record { apart = tt; each = All-nil (Holds blocks regions) })
 
-  is_at : (i : ℕ) (r : Region) → slice_get regions i ≡ Some r → IsAt out i r.size
+  is_at : (i : ℕ) (r : Region) → slice_get regions i ≡ Some r → IsAt blocks out i r
   is_at i r e =
       let n : 0 + i ≡ i = omega arith in
       let some : list_any (is_of i) out ≡ true =
       subst (λ k. list_any (is_of k) out ≡ true) n
       (numbered_at (λ x. list_any (is_of x.0) out ≡ true) 0 regions
-      (each_from_turns (λ x. list_any (is_of x.0) out ≡ true) regions (each_after blocks (Holds regions) (in_turn regions) [] out placed)) i r e) in
+      (each_from_turns (λ x. list_any (is_of x.0) out ≡ true) regions (each_after blocks (Holds blocks regions) (in_turn regions) [] out placed)) i r e) in
       let f = found (is_of i) out some in
       let number : f.item.number ≡ i = eqb-true f.item.number i f.passes in
-      let h = all_found (is_of i) (λ q. Holds regions q.number q.size) out f.item f.is well.each in
+      let h = all_found (is_of i) (Holds blocks regions) out f.item f.is well.each in
       let same : Some h.0 ≡ Some r = sym h.1 ∙ ap (slice_get regions) number ∙ e in
       let is : h.0 ≡ r = cc in
+      let at : address_in out i ≡ f.item.address = ap (λ o. option_map_or (λ q. q.address) o 0) f.is in
       record {
         spot = f.item;
         is = f.is;
-        address = ap (λ o. option_map_or (λ q. q.address) o 0) f.is;
+        address = at;
         size = h.2 ∙ ap (λ r. r.size) is;
+        there = subst (λ x. MayBe blocks x (address_in out i)) is (subst (MayBe blocks h.0) (sym at) h.3);
       }
-
-  inside_at : (i : ℕ) (r : Region) → slice_get regions i ≡ Some r → in_a_block blocks (address_in out i) r.size ≡ true
-  inside_at i r e =
-      let at = is_at i r e in
-      let h = all_found (is_of i) (λ q. in_a_block blocks q.address q.size ≡ true) out at.spot at.is well.inside in
-      ap (λ a. in_a_block blocks a r.size) at.address ∙ ap (in_a_block blocks at.spot.address) (sym at.size) ∙ h
 
   apart_at : (i j : ℕ) (a b : Region) → i < j → slice_get regions i ≡ Some a → slice_get regions j ≡ Some b → (address_in out i + a.size ≤ address_in out j) ⊎ (address_in out j + b.size ≤ address_in out i)
   apart_at i j a b l d e =
@@ -114,10 +111,12 @@ module _ (blocks : List Block) (regions : List Region) (addresses : List ℕ) (e
   many : length addresses ≡ length regions
   many = ap length parts.2 ∙ numbers_length (address_in parts.0) (length regions)
 
-  pub are_inside : AreInside blocks regions addresses
-  are_inside =
-      all_zip (λ r address. in_a_block blocks address r.size ≡ true) regions addresses many
-      (λ i r d k. ap (λ a. in_a_block blocks a r.size) (value_at i d (is_there regions i r k)) ∙ inside_at blocks regions parts.0 parts.1 i r k)
+  there_at : (i d : ℕ) (r : Region) → slice_get regions i ≡ Some r → MayBe blocks r (get_or addresses i d)
+  there_at i d r k = subst (MayBe blocks r) (sym (value_at i d (is_there regions i r k))) (is_at blocks regions parts.0 parts.1 i r k).there
+
+  -- what holds of a region wherever it may be holds of each at its address
+  pub are_each : (R : Region → ℕ → Type 0) → ((r : Region) (a : ℕ) → MayBe blocks r a → R r a) → AllZip R regions addresses
+  are_each R so = all_zip R regions addresses many (λ i r d k. so r (get_or addresses i d) (there_at i d r k))
 
   pub are_disjoint : AreDisjoint regions addresses
   are_disjoint i j a b l within h k =
@@ -134,8 +133,11 @@ module _ (r : Resolution) (regions : List Region) (addresses : List ℕ) (all : 
   placement : placement_in r.memory_blocks regions ≡ Ok addresses
   placement = ap (placement_in r.memory_blocks) all ∙ sym (placement_is r) ∙ e
 
+  pub policy_each : (R : Region → ℕ → Type 0) → ((x : Region) (a : ℕ) → MayBe r.memory_blocks x a → R x a) → AllZip R regions addresses
+  policy_each = are_each r.memory_blocks regions addresses placement
+
   pub policy_inside : AreInside r.memory_blocks regions addresses
-  policy_inside = are_inside r.memory_blocks regions addresses placement
+  policy_inside = policy_each (λ x address. in_a_block r.memory_blocks address x.size ≡ true) (λ x a there. there.1)
 
   pub policy_disjoint : AreDisjoint regions addresses
   policy_disjoint = are_disjoint r.memory_blocks regions addresses placement
@@ -150,3 +152,8 @@ placed_so x addresses h e = record {
   inside = policy_inside x.lawful x.regions addresses h.expansion.regions e;
   disjoint = policy_disjoint x.lawful x.regions addresses h.expansion.regions e;
 }
+
+-- each region of a placed policy may be at its address
+pub placed_there : (x : Placement) → IsPlaced x → (i : ℕ) (r : Region) → slice_get x.expanded.regions i ≡ Some r → MayBe x.expanded.lawful.memory_blocks r (get_or x.addresses i 0)
+placed_there x placed i r at =
+    there_at x.expanded.lawful.memory_blocks x.expanded.regions x.addresses (placement x.expanded.lawful x.expanded.regions x.addresses placed.expansion.regions placed.placement) i 0 r at

@@ -1,4 +1,4 @@
--- Where regions are placed one after another: each is at a spot in a block, and no two spots share an address.
+-- Where regions are placed one after another: each is at a spot where it may be, and no two spots share an address.
 use Rattle.std.proofs.Common.{◌≡◌, ℕ, zero, suc, ◌+◌, ◌≤◌, ◌⊎◌, inl, inr, Bool, true, cond, All, List, [], ◌∷◌, ◌++◌, Option, Some, None, refl, sym, ap, subst, ◌∙◌}
 use Rattle.std.specs.Prelude.{◌&&◌, ◌||◌, ◌==◌, Result, Ok, nat_le, if◌then◌else◌}
 use Rattle.std.specs.List.{find, list_any}
@@ -98,23 +98,28 @@ least_passes p (suc n) a e =
 abbrev pub is_of : ℕ → Spot → Bool
 is_of number q = q.number == number
 
--- each spot is in a block and is that of a region in turn, and no two share an address
-pub record AreWell (blocks : List Block) (Holds : ℕ → ℕ → Type 0) (spots : List Spot) : Type 0 where
-  pub inside : All (λ q. in_a_block blocks q.address q.size ≡ true) spots
-  pub apart : AllApart spots
-  pub each : All (λ q. Holds q.number q.size) spots
+-- the region may be there, whatever else is placed
+abbrev pub MayBe : List Block → Region → ℕ → Type 0
+MayBe blocks r address = (suits r r.fixed address ≡ true) × (in_a_block blocks address r.size ≡ true)
 
-module _ (blocks : List Block) (Holds : ℕ → ℕ → Type 0) where
-  well_push : (spots : List Spot) (x : ℕ × Region) (a : ℕ) → AreWell blocks Holds spots → lowest blocks spots x.1 ≡ Some a → Holds x.0 x.1.size → AreWell blocks Holds (spots ++ spot x.0 x.1 a ∷ [])
+-- this holds of each spot, and no two share an address
+pub record AreWell (Holds : Spot → Type 0) (spots : List Spot) : Type 0 where
+  pub apart : AllApart spots
+  pub each : All Holds spots
+
+module _ (blocks : List Block) (Holds : Spot → Type 0) where
+  -- it holds wherever the region of this number may be
+  abbrev pub HoldsOf : ℕ × Region → Type 0
+  HoldsOf x = (a : ℕ) → MayBe blocks x.1 a → Holds (spot x.0 x.1 a)
+
+  well_push : (spots : List Spot) (x : ℕ × Region) (a : ℕ) → AreWell Holds spots → lowest blocks spots x.1 ≡ Some a → HoldsOf x → AreWell Holds (spots ++ spot x.0 x.1 a ∷ [])
   unfolding lowest is_room
   well_push spots x a h e k =
       let room = least_passes (is_room blocks spots x.1) PHYSICAL_END a e in
       let both = and_parts (suits x.1 x.1.fixed a && in_a_block blocks a x.1.size) (is_apart spots a x.1.size) room in
-      let in' = and_parts (suits x.1 x.1.fixed a) (in_a_block blocks a x.1.size) both.0 in
       record {
-        inside = All-push (λ q. in_a_block blocks q.address q.size ≡ true) spots (spot x.0 x.1 a) h.inside in'.1;
         apart = apart_push spots (spot x.0 x.1 a) h.apart (from_test spots (spot x.0 x.1 a) both.1);
-        each = All-push (λ q. Holds q.number q.size) spots (spot x.0 x.1 a) h.each k;
+        each = All-push Holds spots (spot x.0 x.1 a) h.each (k a (and_parts (suits x.1 x.1.fixed a) (in_a_block blocks a x.1.size) both.0));
       }
 
   -- ---- all of them
@@ -123,13 +128,13 @@ module _ (blocks : List Block) (Holds : ℕ → ℕ → Type 0) where
   placed_some r None next out e = absurd (cc)
   placed_some r (Some a) next out e = (a, refl, e)
 
-  pub well_after : (turns : List (ℕ × Region)) (spots out : List Spot) → placed_after blocks turns spots ≡ Ok out → All (λ x. Holds x.0 x.1.size) turns → AreWell blocks Holds spots → AreWell blocks Holds out
+  pub well_after : (turns : List (ℕ × Region)) (spots out : List Spot) → placed_after blocks turns spots ≡ Ok out → All HoldsOf turns → AreWell Holds spots → AreWell Holds out
   unfolding placed_after
-  well_after [] spots out e k h = let same : spots ≡ out = cc in subst (AreWell blocks Holds) same h
+  well_after [] spots out e k h = let same : spots ≡ out = cc in subst (AreWell Holds) same h
   well_after (x ∷ rest) spots out e k h =
       let found = placed_some x.1 (lowest blocks spots x.1) (λ address. placed_after blocks rest (spots ++ spot x.0 x.1 address ∷ [])) out e in
-      well_after rest (spots ++ spot x.0 x.1 found.0 ∷ []) out found.2 (All-tail (λ x. Holds x.0 x.1.size) x rest k)
-      (well_push spots x found.0 h found.1 (All-head (λ x. Holds x.0 x.1.size) x rest k))
+      well_after rest (spots ++ spot x.0 x.1 found.0 ∷ []) out found.2 (All-tail HoldsOf x rest k)
+      (well_push spots x found.0 h found.1 (All-head HoldsOf x rest k))
 
   -- what has a spot keeps it
   pub kept_after : (n : ℕ) (turns : List (ℕ × Region)) (spots out : List Spot) → placed_after blocks turns spots ≡ Ok out → list_any (is_of n) spots ≡ true → list_any (is_of n) out ≡ true

@@ -18,11 +18,11 @@ use Rattle.muen_num.proofs.Numbers.{equal_turned}
 use Rattle.muen_num.specs.declared.limits.TheConstants.{PAGE, PHYSICAL_END}
 use Rattle.policy_lawful.specs.source.Block.{Block}
 use Rattle.policy_lawful.specs.source.Device.{Device}
-use Rattle.region_alloc.proofs.Lowest.{ends_well}
+use Rattle.region_alloc.proofs.Lowest.{block_end, ends_well}
 use Rattle.span_emit.specs.ByAddress.{AreSpansByAddress, HasNames}
 use Rattle.span_emit.specs.Spans.{device_span, device_spans, region_spans}
 use Rattle.policy_lawful.specs.ByIndex.{memories_of}
-use Rattle.span_emit.proofs.DeviceSpans.{IsDeviceSpan, beside_regions, device_pages_are, device_spans_apart, device_spans_are, some_block}
+use Rattle.span_emit.proofs.DeviceSpans.{IsDeviceSpan, beside_regions, device_pages_are, device_spans_apart, device_spans_are}
 use Rattle.span_emit.proofs.Numbers.{Numbered, devices_numbered, numbered_append, numbered_between, numbered_differ, regions_numbered}
 use Rattle.span_emit.proofs.Pages.{no_device_pages, pages_within}
 use Rattle.span_emit.proofs.PairLaws.{ascend, pairs_append, pairs_permuted, pairs_weaker}
@@ -58,9 +58,7 @@ record IsBody (s : SpanPart) : Type 0 where
 
 region_body : (blocks : List Block) → All ends_well blocks → (s : SpanPart) → IsRegionSpan blocks s → IsBody s
 region_body blocks ends s h =
-    let b = some_block ends_well blocks s.address (PAGE * s.pages) ends h.inside in
-    let high = b.high in
-    let end = b.holds in
+    let end = block_end blocks s.address (PAGE * s.pages) ends h.inside in
     record { aligned = h.aligned; some = h.some; low = omega arith; part = h.part }
 
 device_body : (s : SpanPart) → IsDeviceSpan s → IsBody s

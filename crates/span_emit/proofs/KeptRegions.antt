@@ -1,5 +1,5 @@
 -- Rule 4: the regions of a lawful policy are whole pages, and may be only where pages begin.
-use Rattle.std.proofs.Common.{◌≡◌, ℕ, ◌%◌, inl, inr, true, All, List, map, Option, Some, None, refl, sym, ap, ◌∙◌, arith, subst}
+use Rattle.std.proofs.Common.{◌≡◌, ℕ, ◌%◌, inl, inr, true, false, All, List, map, Option, Some, None, refl, sym, ap, ◌∙◌, arith, subst}
 use Rattle.std.specs.Prelude.{◌&&◌, ◌==◌, nat_lt}
 use Rattle.std.specs.List.{flat_map}
 use Rattle.std.proofs.lemmas.Bool.{and_parts, eqb-true, or_cases}

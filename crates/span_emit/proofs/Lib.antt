@@ -8,6 +8,5 @@ pub mod Numbers
 pub mod Pages
 pub mod PairLaws
 pub mod Placed
-pub mod AddressesAligned
 pub mod RegionSpans
 pub mod Room

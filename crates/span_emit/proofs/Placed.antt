@@ -1,8 +1,8 @@
 -- What is known of a placed policy's blocks, devices, regions and addresses.
-use Rattle.std.proofs.Common.{◌≡◌, ℕ, ◌+◌, ◌/◌, ◌%◌, ◌<◌, ◌≤◌, ◌^◌, All, List, [], ◌∷◌, ◌++◌, length, sym, ap, ◌∙◌, subst, arith}
+use Rattle.std.proofs.Common.{◌≡◌, ℕ, ◌+◌, ◌/◌, ◌%◌, ◌<◌, ◌≤◌, ◌^◌, true, All, List, [], ◌∷◌, ◌++◌, length, sym, ap, ◌∙◌, subst, arith}
 use Rattle.std.specs.Prelude.{Ok}
-use Rattle.std.specs.List.{sum_by}
-use Rattle.std.proofs.lemmas.List.Elements.{All-cons, All-nil, All-weaker}
+use Rattle.std.specs.List.{AllZip, sum_by}
+use Rattle.std.proofs.lemmas.List.Elements.{All-cons, All-head, All-nil, All-tail, All-weaker}
 use Rattle.expand_kernel.specs.Expansion.{Expansion}
 use Rattle.expand_kernel.specs.Regions.{regions_of}
 use Rattle.expand_kernel.specs.thing.Region.{Region}
@@ -13,21 +13,20 @@ use Rattle.policy_lawful.specs.Resolution.{Resolution, source_of}
 use Rattle.policy_lawful.specs.source.Block.{Block}
 use Rattle.policy_lawful.specs.source.Device.{Device}
 use Rattle.policy_lawful.specs.source.DeviceMemory.{DeviceMemory}
-use Rattle.region_alloc.proofs.Lowest.{ends_well}
+use Rattle.region_alloc.proofs.Apart.{policy_each}
+use Rattle.region_alloc.proofs.Lowest.{block_end, ends_well}
 use Rattle.region_alloc.proofs.Placing.{IsSized}
 use Rattle.region_alloc.proofs.Sized.{blocks_end, regions_sized}
 use Rattle.region_alloc.specs.Placed.{AreDisjoint, AreInside, Placement}
-use Rattle.region_alloc.specs.Placement.{placement_of}
+use Rattle.region_alloc.specs.Placement.{placement_of, suits}
 use Rattle.span_emit.specs.Spans.{device_spans, region_spans}
 use Rattle.policy_lawful.specs.ByIndex.{memories_of}
 use Rattle.span_emit.specs.SpansOf.{spans_of}
-use Rattle.span_emit.proofs.DeviceSpans.{some_block}
 use Rattle.policy_lawful.proofs.KeptAddresses.{IsPhysical}
 use Rattle.policy_lawful.proofs.KeptRules.{rules_of}
 use Rattle.span_emit.proofs.KeptDevices.{AreApart, devices_apart, devices_physical}
 use Rattle.span_emit.proofs.KeptRegions.{IsWhole, regions_whole}
 use Rattle.span_emit.proofs.KeptSums.{sums_kept}
-use Rattle.span_emit.proofs.AddressesAligned.{addresses_aligned}
 use Rattle.span_emit.proofs.RegionSpans.{as_many, many_spans}
 
 pub record IsPlaced (blocks : List Block) (devices : List Device) (regions : List Region) (addresses : List ℕ) : Type 0 where
@@ -44,16 +43,24 @@ pub record IsPlaced (blocks : List Block) (devices : List Device) (regions : Lis
   pub windows : length (memories_of devices) ≤ MOST_DEVICE_WINDOWS
   pub device_bytes : sum_by (λ x. x.1.size) (memories_of devices) ≤ MOST_DEVICE_BYTES
 
+-- regions of whole pages are placed where a page begins
+aligned_each : (regions : List Region) (addresses : List ℕ) → AllZip (λ r a. suits r r.fixed a ≡ true) regions addresses → All IsWhole regions → All (λ a. a % PAGE ≡ 0) addresses
+aligned_each [] [] h whole = All-nil (λ a. a % PAGE ≡ 0)
+aligned_each [] (p ∷ ps) h whole = absurd h
+aligned_each (r ∷ rs) [] h whole = absurd h
+aligned_each (r ∷ rs) (p ∷ ps) h whole =
+    All-cons (λ a. a % PAGE ≡ 0) p ps ((All-head IsWhole r rs whole).placed p h.0) (aligned_each rs ps h.1 (All-tail IsWhole r rs whole))
+
 pub is_placed : (r : Resolution) (regions : List Region) (addresses : List ℕ) → IsLawful (source_of r) → regions ≡ regions_of (source_of r) → placement_of (source_of r) ≡ Ok addresses
     → AreInside r.memory_blocks regions addresses → AreDisjoint regions addresses → IsPlaced r.memory_blocks r.devices regions addresses
 unfolding source_of
 is_placed r regions addresses lawful all e inside disjoint =
-    let whole = regions_whole (source_of r) (rules_of lawful).rule_4 in
+    let whole = subst (All IsWhole) (sym all) (regions_whole (source_of r) (rules_of lawful).rule_4) in
     let sums = sums_kept (source_of r) (rules_of lawful).rule_20 in
     record {
-      whole = subst (All IsWhole) (sym all) whole;
+      whole = whole;
       sized = subst (All IsSized) (sym all) (regions_sized (source_of r) (rules_of lawful).rule_4);
-      aligned = addresses_aligned (source_of r) addresses e whole;
+      aligned = aligned_each regions addresses (policy_each r regions addresses all e (λ r a. suits r r.fixed a ≡ true) (λ r a there. there.0)) whole;
       inside = inside;
       disjoint = disjoint;
       ends = blocks_end r lawful;
@@ -86,9 +93,7 @@ small_regions : (blocks : List Block) (rs : List Region) (ps : List ℕ) → All
 small_regions blocks [] ps ends h = All-nil (λ (r : Region). r.size / PAGE < 2 ^ 32)
 small_regions blocks (r ∷ rs) [] ends h = absurd h
 small_regions blocks (r ∷ rs) (p ∷ ps) ends h =
-    let b = some_block ends_well blocks p r.size ends h.0 in
-    let high = b.high in
-    let end = b.holds in
+    let end = block_end blocks p r.size ends h.0 in
     All-cons (λ (r : Region). r.size / PAGE < 2 ^ 32) r rs (omega arith) (small_regions blocks rs ps ends h.1)
 
 module _ (blocks : List Block) (devices : List Device) (regions : List Region) (addresses : List ℕ) (h : IsPlaced blocks devices regions addresses) where

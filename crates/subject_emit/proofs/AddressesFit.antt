@@ -3,7 +3,6 @@ use Rattle.std.proofs.Common.{◌≡◌, ℕ, ◌+◌, ◌*◌, ◌%◌, ◌≤�
 use Rattle.std.specs.Prelude.{◌&&◌, ◌==◌, nat_le, option_map, option_and_then, slice_get}
 use Rattle.std.specs.Option.{option_map_or}
 use Rattle.std.proofs.lemmas.Bool.{and_parts, eqb-true, leb-true, or_cases}
-use Rattle.std.proofs.lemmas.Option.{get_or_from_slice_get}
 use Rattle.ept_emit.specs.Pages.{ept_pages}
 use Rattle.expand_kernel.specs.Grants.{AreGrantsOf}
 use Rattle.expand_kernel.specs.granted.Grants.{Grants}
@@ -16,7 +15,6 @@ use Rattle.muen_num.proofs.Options.{from_some}
 use Rattle.muen_num.proofs.Pairs.{other_at}
 use Rattle.muen_num.specs.declared.limits.TheConstants.{LARGE_PAGE, PAGE, PHYSICAL_END}
 use Rattle.muen_num.specs.declared.tag.TagPart.TheVariants.{State as StatePart, Ept}
-use Rattle.policy_lawful.specs.Ranges.{in_a_block}
 use Rattle.policy_lawful.specs.Rules.{is_alignment, is_fixed, is_laid, is_page_size, is_physical}
 use Rattle.muen_num.specs.Numbers.{is_page_aligned}
 use Rattle.policy_lawful.specs.declared.resolved.Subject.{Subject}
@@ -27,7 +25,7 @@ use Rattle.policy_lawful.specs.declared.view.Shown.{Shown}
 use Rattle.policy_lawful.specs.declared.view.Shown.TheVariants.{Memory, Channel, Provided, Device, State}
 use Rattle.region_alloc.specs.Placed.{IsPlaced, Placement}
 use Rattle.region_alloc.specs.Placement.{suits}
-use Rattle.region_alloc.proofs.Apart.{policy_inside}
+use Rattle.region_alloc.proofs.Apart.{placed_there}
 use Rattle.region_alloc.proofs.Lowest.{block_end}
 use Rattle.region_alloc.proofs.OwnRegions.{region_at}
 use Rattle.region_alloc.proofs.Sized.{blocks_end}
@@ -36,7 +34,6 @@ use Rattle.subject_emit.specs.Pages.{tables_at}
 use Rattle.subject_emit.specs.Shows.{shown_size}
 use Rattle.policy_lawful.proofs.KeptViews.{laid_at, physical_at}
 use Rattle.subject_emit.proofs.Numbered.{channel_at, kernel_at_index, provided_at_index}
-use Rattle.subject_emit.proofs.Suited.{suits_there}
 
 -- so many bytes from a whole page on that end where physical addresses do, or before
 pub record AreAt (address size : ℕ) : Type 0 where
@@ -72,17 +69,13 @@ whole_own m a (Some own) h k e =
 module _ (x : Placement) (placed : IsPlaced x) where
   ends : (i : ℕ) (r : Region) → slice_get x.expanded.regions i ≡ Some r → get_or x.addresses i 0 + r.size ≤ 2 ^ 40
   ends i r at =
-      let blocks = x.expanded.lawful.memory_blocks in
-      let address = other_at (λ (r : Region) address. in_a_block blocks address r.size ≡ true) x.expanded.regions x.addresses i r (policy_inside x.expanded.lawful x.expanded.regions x.addresses placed.expansion.regions placed.placement) at in
-      let end = block_end blocks address.0 r.size (blocks_end x.expanded.lawful placed.lawful) address.2 in
-      let is = get_or_from_slice_get x.addresses i address.0 0 address.1 in
-      omega (arith, end, is)
+      block_end x.expanded.lawful.memory_blocks (get_or x.addresses i 0) r.size (blocks_end x.expanded.lawful placed.lawful) (placed_there x placed i r at).1
 
   -- a region that may be at any page
   pub any_page : (i : ℕ) (r : Region) → slice_get x.expanded.regions i ≡ Some r → r.fixed ≡ None → r.alignment ≡ 4096 → AreAt (get_or x.addresses i 0) r.size
   any_page i r at free aligned =
       let address = get_or x.addresses i 0 in
-      let h : suits r None address ≡ true = sym (ap (λ o. suits r o address) free) ∙ suits_there x placed i r at in
+      let h : suits r None address ≡ true = sym (ap (λ o. suits r o address) free) ∙ (placed_there x placed i r at).0 in
       record {
         whole = subst (λ n. address % n ≡ 0) aligned (eqb-true (address % r.alignment) 0 h);
         end = ends i r at;
@@ -92,7 +85,7 @@ module _ (x : Placement) (placed : IsPlaced x) where
   own_page i m at laid =
       let both = and_parts (is_page_size m.size && is_alignment m.alignment) (is_fixed m m.physical_address) laid in
       record {
-        whole = whole_own m (get_or x.addresses i 0) m.physical_address (and_parts (is_page_size m.size) (is_alignment m.alignment) both.0).1 both.1 (suits_there x placed i (own_region m) at);
+        whole = whole_own m (get_or x.addresses i 0) m.physical_address (and_parts (is_page_size m.size) (is_alignment m.alignment) both.0).1 both.1 (placed_there x placed i (own_region m) at).0;
         end = ends i (own_region m) at;
       }
 

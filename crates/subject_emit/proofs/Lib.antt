@@ -8,5 +8,4 @@ pub mod AddressesFit
 pub mod Rooms
 pub mod SamePages
 pub mod ShownViews
-pub mod Suited
 pub mod TablesReady

@@ -1,8 +1,7 @@
 //! Reads devices.
 #![tactic(auto, unfolding(binary_form::specs::Form::only, binary_form::specs::Form::field, binary_form::specs::Form::gap, binary_form::specs::Form::done))]
 
-ghost use Rattle.std.specs.Prelude.{◌≡◌, ◌==◌, ◌++◌, ◌∷◌, [], nat_le, not, Some, option_map};
-ghost use Rattle.std.specs.List.{find};
+ghost use Rattle.std.specs.Prelude.{◌≡◌, ◌++◌, ◌∷◌, [], nat_le, not, Some};
 ghost use Rattle.binary_form.specs.Form.{Form, Gives, only, byte};
 ghost use Rattle.binary_form.specs.Name.{name};
 ghost use Rattle.binary_form.specs.declared.fault.Field.{Field};
@@ -11,7 +10,7 @@ ghost use Rattle.image_pack.specs.Image.{is_listed_name, range, device_name, win
 use crate::codes::{is_target, part_name, target_of};
 use crate::items::{Item, items_of};
 use crate::outline::{Header, Outline};
-use crate::parts::{DevicePart, IrqPart, SpanPart, WindowPart};
+use crate::parts::{DevicePart, IrqPart, SpanPart, WindowPart, span_numbered};
 use crate::writing::{put_device, put_irq, put_range, put_window};
 use binary_form::reading::{bad, byte_of, gap_of, name_of, u16_of};
 use binary_form::{Field, FormError};
@@ -93,19 +92,12 @@ fn device_name(span: &SpanPart) -> Option<Name>
     }
 }
 
-// The span with this number.
-fn span_numbered(spans: &[SpanPart], number: u16) -> Option<&SpanPart>
-    ensures { option_map (λ s. s.now) result ≡ find (λ s. s.number == number) spans.now }
-{
-    spans.iter().find(|span| span.number == number)
-}
-
 // The name of a device's memory, by the number of its span.
 #[tactic(auto, unfolding(crate::specs::Image::window_name))]
 fn window_name(spans: &[SpanPart], number: u16) -> Option<Name>
     ensures { result ≡ window_name spans.now number }
 {
-    device_name(span_numbered(spans, number)?)
+    device_name(span_numbered(spans, usize::from(number))?)
 }
 
 impl Item for WindowPart {
