@@ -27,7 +27,6 @@ use Rattle.policy_lawful.specs.refusal.Refusal.TheVariants.{FileFit, Missing}
 use Rattle.policy_lawful.specs.source.Content.{Content}
 use Rattle.policy_lawful.specs.source.Content.TheVariants.{Zero, Fill, Inline, File}
 use Rattle.muen_build.proofs.Documents.{given_there, not_given, whole_found}
-use Rattle.muen_build.proofs.MadeByNumber.{made_by_number}
 use Rattle.muen_build.proofs.OfThings.{made_alike}
 use Rattle.muen_build.proofs.Steps.{found_reads, others_found}
 
@@ -116,4 +115,3 @@ module _ (given found : Files) where
   things_held r declared passes files s =
       each_same (placed_items (source_of r)) (λ files s. (none_append (item_refused (insert_all files given)) (placed_items (source_of r)) (device_items (source_of r)) (passes files s)).0) files s
       ∙ sym (made_alike (λ tag. content_bytes (insert_all files given)) r (placed_items (source_of r)) (placed_things r) declared)
-      ∙ made_by_number (content_bytes (insert_all files given)) r

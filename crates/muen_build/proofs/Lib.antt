@@ -6,7 +6,6 @@ pub mod FilesDigested
 pub mod Held
 pub mod LimitExamples
 pub mod Looks
-pub mod MadeByNumber
 pub mod OfThings
 pub mod Placing
 pub mod Refusing
