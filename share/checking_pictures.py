@@ -21,7 +21,7 @@ from checking import EXAMPLES, LOOK, NO_DOT, PROGRAM, TOP, Case, Wrong, call, ea
 from checking_examples import RUNNING
 from checking_rules import POLICY
 from looking.draw_flows import dot_text
-from looking.draw_trace import KINDS, SLOT
+from looking.draw_trace import KINDS, LETTERS, SLOT
 from looking.scene import scene_of
 from looking.svg import width
 from looking.words import counted
@@ -201,8 +201,12 @@ def trace_between(built, told, begin, end, words):
     at, colours = tick_places(seen), legend(seen)
     for element, title in cells:
         is_cell(seen, element, lines[title], at, colours)
+    # where one letter has room, all have
+    letters = Counter(LETTERS[kind] for kind in map(kind_of, lines.values()) if kind in LETTERS)
+    want(Counter(text.words for text in seen.texts if text.size == 9 and text.words in LETTERS.values()) in (letters, Counter()), True, "the letters")
+    want(bool(re.search("[(][A-Z][)]", seen.text)) or end - begin > 150 or not letters, True, "letters are in the key")
     caused = Counter((match[2], match[1]) for match in map(CAUSED.match, lines) if match)
-    arrows = [(element, re.fullmatch(r"(arrow|handover) of tick (\d+) to tick (\d+)", title)) for element, title in seen.titled("path")]
+    arrows = [(element, re.fullmatch(r"(arrow|handover|monitor) of tick (\d+) to tick (\d+)", title)) for element, title in seen.titled("path")]
     drawn = Counter((match[2], match[3]) for _, match in arrows)
     want(caused - drawn, Counter(), "events without an arrow")
     want(Counter((match[2], match[3]) for _, match in arrows if match[1] == "arrow") - caused, Counter(), "arrows without an event")
@@ -220,7 +224,7 @@ def tick_places(seen):
 def legend(seen):
     """Of each kind its colour: that of the mark in front of its name."""
     marks = [(side(element, "x", "y"), element.get("fill")) for element in seen.root.iter(f"{SVG}rect") if element.get("stroke") == "#888"]
-    return {text.words: colour for text in seen.texts for (x, y), colour in marks
+    return {re.sub(r" \([A-Z]\)$", "", text.words): colour for text in seen.texts for (x, y), colour in marks
             if 0 < text.left - x < 20 and text.top - 4 < y < text.bottom}
 
 
@@ -436,7 +440,7 @@ def same_scene(case, built):
 
 # ---- flows
 
-ARROW = re.compile(r'  "(.*?)" -> "(.*?)" \[label="(.*?)"(?:, tooltip=".*?")?, color="(#\w+)"(.*?)(, dir=both)?\]')
+ARROW = re.compile(r'  "(.*?)" -> "(.*?)" \[label="(.*?)"(?:, tooltip=".*?")?, color="(#\w+)"(.*?)(, class=\w+)(, dir=both)?\]')
 # how each kind looks: its colour, and what else tells it
 LOOKS = {("#1f1f1f", ""): "channel", ("#6a3d9a", ""): "event", ("#8a4b20", "dashed"): "handover", ("#c25a00", ""): "region",
          ("#1f1f1f", "dotted"): "monitor", ("#c8102e", "dashed"): "tau0", ("#808080", ""): "device"}
@@ -444,12 +448,13 @@ LOOKS = {("#1f1f1f", ""): "channel", ("#6a3d9a", ""): "event", ("#8a4b20", "dash
 
 def arrows_of(text):
     """Each arrow of a text for dot, with both ways apart: from whom, to whom, its kind, its lines."""
-    for source, target, label, colour, rest, both in map(re.Match.groups, filter(None, map(ARROW.fullmatch, text.splitlines()))):
+    for source, target, label, colour, rest, _, both in map(re.Match.groups, filter(None, map(ARROW.fullmatch, text.splitlines()))):
         style = re.search("style=(\\w+)", rest)
         kind = LOOKS[colour, style[1] if style else ""]
-        yield source, target, kind, label.split("\\n")
+        lines = re.sub(r"(:| may change| sees)\\n", r"\1 ", label).split("\\n")
+        yield source, target, kind, lines
         if both:
-            yield target, source, kind, label.split("\\n")
+            yield target, source, kind, lines
 
 
 def flows(case, built):
@@ -505,14 +510,22 @@ def reaching(name, arrows):
 
 
 def gateway_flows(case):
-    """The text for dot where dot isn't there, and the arrows of docs/flows.md."""
+    """That dot isn't there, its text, and the arrows of docs/flows.md; without a subject, and of CPUs."""
     done = call([sys.executable, LOOK, "draw", "flows", "gateway.json"], env={"PATH": ""})
-    case.want((done.returncode, done.stderr), (0, b"look: graphviz's dot isn't there, so this is the text for it\n"), "without dot")
+    line = b"look: graphviz's dot, which lays out flows, isn't there; look draw flows --text prints what it takes\n"
+    case.want((done.returncode, done.stdout, done.stderr), (1, b"", line), "without dot")
+    text = looked("draw", "flows", EXAMPLES / "gateway.json", "--text")
     net = ["ports 300 to 30f", "rx, vector 43"]
     channels = [("plain", "job", 40, "asap"), ("keys", "key", 41, "asap"), ("slots", "beat", 42, "async")]
-    case.want(list(arrows_of(done.stdout.decode())), [
+    case.want(list(arrows_of(text)), [
         *((name, "cipher", "channel", [f"{channel}: call 1, {mode}, vector {vector}"]) for name, channel, vector, mode in channels),
         ("cipher", "black", "channel", ["sealed: call 1, asap, vector 40"]), ("black", "device net", "device", net), ("device net", "black", "device", net)], "the arrows")
+    few = looked("draw", "flows", EXAMPLES / "gateway.json", "--text", "--without", "cipher", "--without", "net")
+    case.want((list(arrows_of(few)), "cipher" in few, '"black"' in few), ([], False, True), "without cipher and net")
+    folded = looked("draw", "flows", EXAMPLES / "gateway.json", "--text", "--fold")
+    case.want(list(arrows_of(folded)), [("CPU 0", "CPU 1", "channel", ["job"]), ("CPU 1", "CPU 0", "channel", ["sealed"]),
+                                        ("CPU 0", "device net", "device", net), ("device net", "CPU 0", "device", net)], "of CPUs")
+    case.want(said("draw", "flows", EXAMPLES / "gateway.json", "--without", "nobody"), (1, "look: no subject and no device is nobody\n"), "without nobody")
 
 
 # ---- all kinds in one system
@@ -534,7 +547,7 @@ def running(rules):
 def of_rules(case, built):
     """The same checks of the policy of docs/rules.md, and what it has that no example has: call 2 of a hands the CPU to b, whose first
     turn is in tick 2. Call 1 of c comes in tick 3, and reaches b behind its STI of tick 4."""
-    for check in (trace, plan, matrix, flows, same_scene):
+    for check in (trace, plan, matrix, flows, memory, same_scene):
         with case.subTest(check.__name__):
             check(case, built)
     seen = Seen(looked("draw", "trace", built.image, built.text))
@@ -561,12 +574,43 @@ def long_names(case):
         """All pictures of it."""
         names = [subject["name"] for subject in built.document["subjects"]]
         for picture, *words in (("trace", built.image, built.text), ("plan", built.policy), ("matrix", *built.sound),
-                                ("matrix", built.policy), ("flows", built.policy)):
+                                ("matrix", built.policy), ("memory", *built.sound), ("flows", built.policy)):
             with case.subTest(f"{picture} of {words[0].name}"):
                 if picture == "flows" and not shutil.which("dot"):
                     case.skipTest(NO_DOT)
                 Seen(looked("draw", picture, *words)).names(names)
     of_document(longer(running(RULES)), drawn)
+
+
+# ---- memory
+
+def memory(case, built):
+    """Each window of `map` is a row, and so is each region, but for the kernel's, of which those that adjoin are one."""
+    windows = Counter(f"{place}, {size}, {shown}, {rights}" for place, size, rights, shown in
+                      ((int(place, 16), int(size, 16), rights, shown) for _, place, size, rights, shown in built.mapped("window")))
+    windows += Counter(f"{number(entry['virtualAddress'])}, {region_size(built.document, entry['region'])}, {entry['region']}, {entry['rights']}"
+                       for domain in built.document.get("deviceDomains", []) for entry in domain.get("memory", []))
+    seen = Seen(looked("draw", "memory", *built.sound))
+    rows = [ROW.fullmatch(title).groups() for _, title in seen.titled("rect")]
+    found = Counter(f"{int(begin, 16)}, {int(end, 16) + 1 - int(begin, 16)}, {name}, {fact}" for begin, end, name, fact in rows)
+    case.want(windows - found, Counter(), "windows without a row")
+    physical = [(int(begin, 16), int(end, 16) + 1, name, fact) for begin, end, name, fact in rows[:len(rows) - sum(windows.values())]]
+    for place, size, name in ((int(place, 16), int(size, 16), name) for place, size, name in built.mapped("region")):
+        row = next((row for row in physical if row[0] <= place and place + size <= row[1]), None)
+        case.want(row is not None and (row[2] == name or name in row[3]), True, f"the row of {name}")
+    case.want(physical, sorted(physical), "the order of rows")
+    gaps = {f"{one[1]:x} to {other[0] - 1:x}" for one, other in zip(physical, physical[1:]) if one[1] < other[0]}
+    case.want(gaps - {title.split(",")[0] for title in seen.titles if title.endswith(": gap")}, set(), "the gaps")
+    policy = Seen(looked("draw", "memory", built.policy))
+    case.want(len(policy.titled("rect")), sum(windows.values()), "the rows of a policy")
+
+
+ROW = re.compile(r"([0-9a-f]+) to ([0-9a-f]+), [^:]*?: (.*?)(?:, (.*))?")
+
+
+def region_size(document, name):
+    """How many bytes a region of a policy has."""
+    return number(named([*document["memory"], *document.get("channels", [])], name)["size"])
 
 
 # ---- faults, and what is stored
@@ -579,7 +623,7 @@ def faults(case):
     policy, record, unlawful = (EXAMPLES / name for name in ("gateway.json", "gateway.record", "refused/shared_writable.json"))
     answered([], "the following arguments are required: PICTURE; look draw --help says more")
     answered(["plan"], "the following arguments are required: SYSTEM; look draw plan --help says more")
-    answered(["map", policy], "argument PICTURE: invalid choice: 'map' (choose from 'trace', 'plan', 'matrix', 'flows'); look draw --help says more")
+    answered(["map", policy], "argument PICTURE: invalid choice: 'map' (choose from 'trace', 'plan', 'matrix', 'flows', 'memory'); look draw --help says more")
     answered(["plan", "nothing"], "nothing: No such file or directory")
     answered(["matrix", "."], ".: Is a directory")
     answered(["flows", record], f"{record}:1:1: not JSON: here stands no value")
@@ -609,7 +653,7 @@ def faults(case):
 FURTHER = {"gateway": ("plan", "matrix", "flows"), "two_subjects": ("plan",), "major_frames": ("plan",), "second_member": ("plan",),
            "private_memory": ("matrix",), "shared_memory": ("flows",), "frame_choice": ("plan",), "device_domains": ("matrix",),
            "packet_ring": ("flows",), "monitor": ("matrix",), "network_in": ("matrix",), "msrs_of_two": ("matrix",),
-           "handover": ("plan",), "two_way_gateway": ("plan", "matrix", "flows")}
+           "handover": ("plan",), "two_way_gateway": ("plan", "matrix", "flows", "memory")}
 
 
 def pictures_of(name):
@@ -625,7 +669,7 @@ def file_of(name, picture):
 
 def now(built, picture):
     """Such a picture as it is drawn now. An image tells places, and a policy names."""
-    words = {"trace": (built.image, built.text), "matrix": built.sound}.get(picture, (built.policy,))
+    words = {"trace": (built.image, built.text), "matrix": built.sound, "memory": built.sound}.get(picture, (built.policy,))
     return looked("draw", picture, *words)
 
 
@@ -648,7 +692,7 @@ def stored(case, name, picture):
 # ---- the tests
 
 RULES = json.loads(POLICY)
-CHECKS = (("trace", trace), ("plan", plan), ("matrix", matrix), ("flows", flows))
+CHECKS = (("trace", trace), ("plan", plan), ("matrix", matrix), ("flows", flows), ("memory", memory))
 STORED = [(name, picture) for name in RUNNING for picture in pictures_of(name)]
 
 

@@ -1,15 +1,14 @@
 """look draw: pictures of a run and of a system, as SVG."""
 import argparse
-import pathlib
 
-from looking import draw_flows, draw_matrix, draw_plan, draw_trace
-from looking.wrong import Wrong
+from looking import draw_flows, draw_matrix, draw_memory, draw_plan, draw_trace
+from looking.files import write_text
 
-HELP = "draws a run's turns, the plan, who sees what, or the direct flows, as SVG"
+HELP = "draws a run's turns, the plan, who sees what, the direct flows, or memory, as SVG"
 LONG_HELP = """Draws a picture, and prints it as SVG, which any browser shows; where the pointer rests it
 tells more, as the whole of a name that is shortened. The same input gives the same picture.
 `look draw PICTURE --help` says more of each."""
-PICTURES = {"trace": draw_trace, "plan": draw_plan, "matrix": draw_matrix, "flows": draw_flows}
+PICTURES = {"trace": draw_trace, "plan": draw_plan, "matrix": draw_matrix, "flows": draw_flows, "memory": draw_memory}
 
 
 def add_arguments(parser):
@@ -27,9 +26,6 @@ def run(arguments):
     text = PICTURES[arguments.picture].draw(arguments)
     if arguments.output is None:
         print(text, end="")
-        return 0
-    try:
-        pathlib.Path(arguments.output).write_text(text, encoding="ascii")
-    except OSError as error:
-        raise Wrong(f"{arguments.output}: {error.strerror}") from None
+    else:
+        write_text(arguments.output, text)
     return 0

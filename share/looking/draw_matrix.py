@@ -1,5 +1,5 @@
 """look draw matrix: which subject sees which memory, with rights and addresses; ports, MSRs and interrupts."""
-from dataclasses import dataclass
+from dataclasses import dataclass, field
 from itertools import accumulate
 
 from looking.image import spread
@@ -15,7 +15,7 @@ MSRs and interrupts. Addresses, ports and MSRs are hexadecimal."""
 COLOURS = {"r": "#d6e6f5", "w": "#f9c9a0", "rw": "#f9d5ab", "rx": "#d3ecd0", "rwx": "#f4b6b6"}
 MEANINGS = {"r": "read", "w": "write", "rw": "read, write", "rx": "read, execute", "rwx": "all three"}
 GRANTED = "#e6dff0"
-LINE, PAD = 17, 10
+LINE, PAD, MOST_HEAD = 17, 10, 200
 
 
 @dataclass
@@ -24,6 +24,8 @@ class Row:
     name: str
     cells: dict[int, list[tuple[str, str, str]]]
     facts: tuple[str, str]
+    # of each column who sees it, where the row is memory
+    seers: dict[int, str] = field(default_factory=dict)
 
     @property
     def shared(self):
@@ -43,20 +45,27 @@ def add_arguments(parser):
 
 def draw(arguments):
     """The picture."""
-    scene, picture = scene_of(arguments), Picture()
+    return drawn(scene_of(arguments))
+
+
+def drawn(scene):
+    """The picture of a scene."""
+    picture = Picture()
     columns = [(f"CPU {subject.cpu}", subject.name, subject) for subject in scene.by_cpu]
     columns += [("DMA", body.title, body) for body in scene.bodies if body.sights]
     sections = list(sections_of(scene, [column for _, _, column in columns]))
     rows = [row for _, of_section in sections for row in of_section]
     name_room = min(widest((row.name for row in rows), bold=True), 230)
     left = 12 + name_room + PAD
-    rooms = [max(56, min(widest(((names[1]),), bold=True), 110),
+    rooms = [max(56, min(widest((names[1],), bold=True), MOST_HEAD),
                  widest((text for row in rows for text, *_ in row.cells.get(at, ())), 10)) + PAD
              for at, names in enumerate(columns)]
     used = sorted({colour for row in rows for cells in row.cells.values() for _, colour, _ in cells} & set(COLOURS.values()))
-    marks = [(colour, MEANINGS[rights]) for rights, colour in COLOURS.items() if colour in used]
-    picture.text(12, 20, "bold: several see it", bold=True)
-    y = picture.legend(160, 20, 700, marks) + 12
+    marks = [(colour, f"{rights}: {MEANINGS[rights]}") for rights, colour in COLOURS.items() if colour in used]
+    title = f"who sees what of {scene.source}"
+    picture.text(12, 19, title, room=800, bold=True, size=12)
+    picture.text(12, 40, "bold: several see it", bold=True)
+    y = picture.legend(160, 40, 700, marks) + 12
     y = draw_heads(picture, columns, left, rooms, y)
     ends = [left + sum(rooms) + PAD]
     ends.append(ends[0] + widest((row.facts[0] for row in rows), 10) + 14)
@@ -67,7 +76,7 @@ def draw(arguments):
             for row in of_section:
                 draw_row(picture, row, (left, name_room, rooms, ends), y)
                 y += row.high
-    return picture.svg(f"who sees what of {scene.source}")
+    return picture.svg(title)
 
 
 def draw_heads(picture, columns, left, rooms, y):
@@ -93,7 +102,8 @@ def draw_row(picture, row, places, y):
     for at, cells in row.cells.items():
         x, high = edges[at], row.high / len(cells)
         for line, (text, colour, title) in enumerate(cells):
-            picture.rect(x, y + line * high, rooms[at], high, title=title, fill=colour, stroke="#999", stroke_width=".6")
+            marks = {"data_thing": row.name, "data_subject": row.seers[at]} if at in row.seers else {}
+            picture.rect(x, y + line * high, rooms[at], high, title=title, fill=colour, stroke="#999", stroke_width=".6", **marks)
             picture.text(x + rooms[at] / 2, y + line * high + high / 2 + 4, text, size=10, text_anchor="middle")
     for end, fact in zip(ends, row.facts):
         picture.text(end, base, fact, size=10, fill="#333")
@@ -117,19 +127,19 @@ def every(columns, kind):
 
 def thing_row(thing, columns):
     """A row of memory: who sees it, its place and size."""
-    cells, seen = {}, {"writes": [], "reads": []}
+    cells, seers, seen = {}, {}, {"writes": [], "reads": []}
     for at, column in enumerate(columns):
         sights = [sight for sight in column.sights if sight.thing == thing]
         name = getattr(column, "name", None) or column.title
         if sights:
-            cells[at] = [sight_cell(name, sight) for sight in sights]
+            cells[at], seers[at] = [sight_cell(name, sight) for sight in sights], name
             seen["writes" if any("w" in sight.rights for sight in sights) else "reads"].append(name)
     size = size_text(thing.size)
     place = size if thing.place is None else f"{thing.place:x}, {size}"
     if len(cells) < 2:
-        return Row(thing.name, cells, (place, "" if cells else "seen by nobody"))
+        return Row(thing.name, cells, (place, "" if cells else "seen by nobody"), seers)
     writers = len(seen["writes"])
-    return Row(thing.name, cells, (place, f"shared by {len(cells)}, {writers or 'nobody'} write{'s' if writers < 2 else ''}"))
+    return Row(thing.name, cells, (place, f"shared by {len(cells)}, {writers or 'nobody'} write{'s' if writers < 2 else ''}"), seers)
 
 
 def sight_cell(name, sight):

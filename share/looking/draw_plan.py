@@ -12,7 +12,7 @@ which it hasn't the CPU. Where a subject chooses the major frames, each of them 
 each: shares are those in each frame, and a group that lacks a frame may wait without end."""
 COLOURS = ["#a6cee3", "#fdbf6f", "#b2df8a", "#fb9a99", "#cab2d6", "#ffff99",
            "#8dd3c7", "#e5c494", "#d9d9d9", "#fccde5", "#ccebc5", "#f4f4ec"]
-LEFT, WIDE, LEAST, BAR = 62, 900, 220, 32
+LEFT, WIDE, LEAST, BAR = 62, 740, 220, 32
 
 
 def add_arguments(parser):
@@ -22,7 +22,12 @@ def add_arguments(parser):
 
 def draw(arguments):
     """The picture."""
-    scene, picture = scene_of(arguments), Picture()
+    return drawn(scene_of(arguments))
+
+
+def drawn(scene):
+    """The picture of a scene."""
+    picture = Picture()
     y = heading(picture, scene)
     longest = max(frame.ticks for frame in scene.frames)
     for number, frame in enumerate(scene.frames):
@@ -34,7 +39,7 @@ def draw(arguments):
 def heading(picture, scene):
     """How the major frames follow one another."""
     count, ticks = len(scene.frames), counted(sum(frame.ticks for frame in scene.frames), "tick")
-    picture.text(LEFT, 20, f"{counted(count, 'major frame')}, {ticks}", bold=True, size=13)
+    picture.text(LEFT, 20, f"{scene.source}: {counted(count, 'major frame')}, {ticks}", room=WIDE, bold=True, size=13)
     if scene.choice:
         who, region = " or ".join(scene.choosers) or "nobody", scene.choice
         picture.text(LEFT, 38, f"{shortened(who, 300)} chooses which comes next, by the first byte of {shortened(region, 300)}",

@@ -7,7 +7,7 @@ from itertools import accumulate
 
 from looking.draw_plan import draw_ticks
 from looking.files import read_text
-from looking.image_file import SWITCH
+from looking.image_file import STATE, SWITCH
 from looking.svg import Picture, shortened, widest, width
 from looking.system import System
 from looking.trace import Teller
@@ -16,16 +16,25 @@ from looking.wrong import Wrong
 
 HELP = "the turns of a run by CPU and subject, with arrows from calls to deliveries"
 LONG_HELP = """Draws a lane for each subject, those of a CPU together, and in it a cell for each turn, whose
-title is what `look trace` says of it. Behind it is grey in the ticks that its group has. An
-arrow leads from the call or trap that raised an event first to the event's delivery, a
-dashed one from a handover to the first turn of the subject that gets the CPU. Above stand
-the value of an output, hexadecimal, and the name of a device's interrupt. What the text
-doesn't tell is left out. More than 400 ticks are summed up: how many turns of each kind
-there are in so many ticks."""
-# the kinds of lines, each with its colour; each is of another lightness, so that they print in black and white
+title is what `look trace` says of it; a letter tells its kind where there is room. Behind
+it is grey in the ticks that its group has. An arrow leads from the call or trap that raised
+an event first to the event's delivery, a dashed one from a handover to the first turn of the
+subject that gets the CPU, and a dotted one from a monitor's last store into a state to the
+next turn of the subject whose state it is. Above stand the value of an output, hexadecimal,
+and the name of a device's interrupt. What the text doesn't tell is left out. More than 400
+ticks are summed up: how many turns of each kind there are in so many ticks."""
+# the kinds of lines, each with its colour; each is of another lightness, so that they print in black and white; halts and
+# outputs are hatched, and all but the two that are most have a letter
 KINDS = {"instruction": "#6699d0", "jump, flag, NOP": "#c6dcf1", "store": "#f7b45c", "call": "#2c7a3f", "halt": "#a9a9a9",
          "event": "#6536a0", "output": "#dc4136", "trapped fault": "#5a3322", "fault, stops": "#000000"}
-SLOT, ARROW, HANDOVER = "#ececec", "#2c7a3f", "#5a3322"
+LETTERS = {"store": "S", "call": "C", "halt": "H", "event": "E", "output": "O", "trapped fault": "T", "fault, stops": "X"}
+LIGHT = {"store", "halt"}
+HATCHES = {"halt": "M0 2H6", "output": "M-1 7L7 -1"}
+SLOT = "#ececec"
+# the kinds of arrows: the colour, the dashes, and what the key says of them
+ARROWS = {"arrow": ("#2c7a3f", "", "from the call or trap that raised an event to its delivery"),
+          "handover": ("#5a3322", "4 2", "dashed: to the first turn after a handover"),
+          "monitor": ("#8a2b6b", "1.5 2", "dotted: from a monitor's last store into a state to the subject's next turn")}
 SHOWN, MOST_EACH, MOST = 150, 400, 10_000
 COLUMNS, LEAST_COLUMNS = 300, 40
 HIGH, HIGH_SUMS, GAP, WIDE = 19, 44, 13, 1200
@@ -43,10 +52,10 @@ class Cell:
 
 @dataclass
 class Arrow:
-    """From a turn to a later one, each by its tick and its subject."""
+    """From a turn to a later one, each by its tick and its subject; its kind is one of ARROWS."""
     start: tuple[int, int]
     end: tuple[int, int]
-    handover: bool
+    kind: str = "arrow"
 
 
 def add_arguments(parser):
@@ -69,7 +78,7 @@ def draw(arguments):
     if not 0 <= first < end <= first + MOST:
         raise Wrong(f"from {first} until {end}: want 1 to {MOST} ticks")
     run = Run(teller, lines_of(text, arguments.trace), first, end)
-    return drawn(run, first, end, f"ticks {first} to {end - 1} of a run of {pathlib.Path(arguments.image).name}")
+    return drawn(run, first, end, f"{pathlib.Path(arguments.image).name}, {pathlib.Path(arguments.trace).name}: ticks {first} to {end - 1}")
 
 
 class Run:
@@ -78,7 +87,8 @@ class Run:
     def __init__(self, teller, lines, first, end):
         self.teller, self.system, self.replay, self.first = teller, teller.system, teller.replay, first
         self.plan = Plan(self.system, self.replay.complete)
-        self.cells, self.arrows, self.handed = [], [], {}
+        # of a subject the turn that handed it the CPU, and the monitor's last store into its state
+        self.cells, self.arrows, self.handed, self.stored = [], [], {}, {}
         for _, turn in lines:
             if turn is None or turn.tick >= end:
                 break
@@ -89,18 +99,33 @@ class Run:
         """A turn: its cell, and the arrows that end in it."""
         self.plan.go_to(turn.tick)
         self.plan.agree(self.system.image.subjects[who].group)
-        ends = {self.handed.pop(who): True} if who in self.handed else {}
+        ends = {kept.pop(who): kind for kind, kept in (("handover", self.handed), ("monitor", self.stored)) if who in kept}
         raised = self.replay.waiting.get((who, turn.facts["vector"])) if turn.kind == "inject" else None
         if raised:
-            ends.setdefault((raised.first, raised.who), False)
+            ends.setdefault((raised.first, raised.who), "arrow")
         self.replay.meet(who, turn)
-        event = self.replay.raised_by(who, turn, self.replay.instruction(who, turn)) if turn.kind == "exit" else None
+        found = self.replay.instruction(who, turn)
+        self.note(turn, who, found)
+        told = self.teller.parts(who, turn, found)
+        if turn.tick >= self.first:
+            self.arrows += [Arrow(start, (turn.tick, who), kind) for start, kind in ends.items()]
+            self.keep(turn, who, told, self.value(turn, who, raised))
+
+    def note(self, turn, who, found):
+        """Whom a turn hands the CPU to, or whose state it stores into."""
+        event = self.replay.raised_by(who, turn, found) if turn.kind == "exit" else None
         if event and event[2] and event[2].mode == SWITCH:
             self.handed[event[2].target] = (turn.tick, who)
-        title = " ".join(self.teller.tell(turn).split())
-        if turn.tick >= self.first:
-            self.arrows += [Arrow(start, (turn.tick, who), handover) for start, handover in ends.items()]
-            self.cells.append(Cell(turn.tick, who, kind_of(turn), title, self.value(turn, who, raised)))
+        place = self.replay.place_of(who, turn.facts["address"]) if turn.kind == "store" else None
+        span = None if place is None else self.system.memory.span_at(place)
+        if span and span.part == STATE:
+            self.stored.update((other, (turn.tick, who)) for other, subject in enumerate(self.system.image.subjects)
+                               if subject.state is span and other != who)
+
+    def keep(self, turn, who, told, value):
+        """A turn that is drawn."""
+        title = f"{turn.tick} {turn.cpu} {turn.subject} {told.place} {told.code} {told.what}"
+        self.cells.append(Cell(turn.tick, who, kind_of(turn), " ".join(title.split()), value))
 
     def value(self, turn, who, raised):
         """What an output sends, or which interrupt of a device comes."""
@@ -187,6 +212,11 @@ class Lanes:
             self.step = -(-self.step // plan) * plan
         self.cell = max(3, min(24, WIDE // count)) if self.step == 1 else WIDE / count
         self.high = HIGH if self.step == 1 else HIGH_SUMS
+        self.lettered = self.step == 1 and self.cell >= width("O", 9)
+
+    def fill(self, kind):
+        """How a cell of this kind is filled: hatched where no letter has room."""
+        return KINDS[kind] if self.lettered or kind not in HATCHES else f"url(#{kind})"
 
     def x(self, tick):
         """Where a tick begins."""
@@ -201,20 +231,18 @@ def drawn(run, first, end, title):
     """The picture of what was gone through."""
     picture, subjects = Picture(), run.system.image.subjects
     lanes = Lanes(run.system.image, first, end)
+    right = max(lanes.x(end), 900)
+    picture.text(12, 19, title, room=right - 12, bold=True, size=12)
     used = {cell.kind for cell in run.cells}
-    marks = [(colour, kind) for kind, colour in KINDS.items() if kind in used]
-    y = picture.legend(12, 20, max(lanes.x(end), 900), marks + ([(SLOT, "its group's ticks")] if lanes.step == 1 else []))
+    y = draw_key(picture, lanes, [kind for kind in KINDS if kind in used], right)
     if lanes.step > 1:
         picture.text(12, y, f"how many turns of each kind there are in {lanes.step} ticks, on top of one another", size=10, fill="#444")
         y += 16
     elif run.arrows:
-        picture.text(12, y, "arrow: from the call or trap that raised an event to its delivery" + (
-            "; dashed: to the first turn after a handover" if any(arrow.handover for arrow in run.arrows) else ""), size=10, fill="#444")
+        there = {arrow.kind for arrow in run.arrows}
+        picture.text(12, y, "arrow: " + "; ".join(text for kind, (_, _, text) in ARROWS.items() if kind in there), size=10, fill="#444")
         y += 16
     lanes.top = y + 18
-    picture.parts.append("<defs>" + "".join(
-        f'<marker id="{name}" markerWidth="7" markerHeight="7" refX="6" refY="3.5" orient="auto"><path d="M0 1L6 3.5L0 6Z" fill="{colour}"/></marker>'
-        for name, colour in (("arrow", ARROW), ("handover", HANDOVER))) + "</defs>")
     draw_names(picture, lanes)
     bottom = lanes.top + len(subjects) * (lanes.high + GAP)
     if lanes.step > 1:
@@ -223,10 +251,29 @@ def drawn(run, first, end, title):
         draw_slots(picture, lanes, run.plan)
         draw_frames(picture, lanes, run.plan.begun, len(run.system.image.frames) > 1, bottom)
         draw_cells(picture, lanes, run.cells)
+        if lanes.lettered:
+            draw_letters(picture, lanes, run.cells)
         for arrow in run.arrows:
             draw_arrow(picture, lanes, arrow)
     draw_ticks(picture, lanes.left, bottom, first, end, lanes.cell)
     return picture.svg(title)
+
+
+def definitions(kinds):
+    """The heads of arrows, and the hatches of these kinds."""
+    heads = (f'<marker id="{name}" markerWidth="7" markerHeight="7" refX="6" refY="3.5" orient="auto">'
+             f'<path d="M0 1L6 3.5L0 6Z" fill="{colour}"/></marker>' for name, (colour, _, _) in ARROWS.items())
+    hatches = (f'<pattern id="{kind}" width="6" height="4" patternUnits="userSpaceOnUse" viewBox="0 0 6 6" preserveAspectRatio="none">'
+               f'<rect width="6" height="6" fill="{KINDS[kind]}"/><path d="{steps}" stroke="#fff" stroke-width="1.2"/></pattern>'
+               for kind, steps in HATCHES.items() if kind in kinds)
+    return f"<defs>{''.join((*heads, *hatches))}</defs>"
+
+
+def draw_key(picture, lanes, kinds, right):
+    """What colours, hatches and letters mean; where the next line would be."""
+    picture.parts.append(definitions([] if lanes.lettered else kinds))
+    marks = [(lanes.fill(kind), f"{kind} ({LETTERS[kind]})" if kind in LETTERS and lanes.lettered else kind) for kind in kinds]
+    return picture.legend(12, 40, right, marks + ([(SLOT, "its group's ticks")] if lanes.step == 1 else []))
 
 
 def draw_sums(picture, lanes, cells):
@@ -239,7 +286,7 @@ def draw_sums(picture, lanes, cells):
             if count := counts[column, who, kind]:
                 high = lanes.high * count / (behind - first)
                 y -= high
-                picture.rect(lanes.x(first), y, (behind - first) * lanes.cell, high, fill=KINDS[kind],
+                picture.rect(lanes.x(first), y, (behind - first) * lanes.cell, high, fill=lanes.fill(kind),
                              title=f"ticks {first} to {behind - 1} of {lanes.subjects[who].name}: {count} {kind}")
 
 
@@ -281,11 +328,22 @@ def draw_cells(picture, lanes, cells):
     free = {}
     for cell in cells:
         x, y = lanes.x(cell.tick), lanes.y(cell.who)
-        picture.rect(x, y, lanes.cell - .5, lanes.high, title=cell.title, fill=KINDS[cell.kind])
+        picture.rect(x, y, lanes.cell - .5, lanes.high, title=cell.title, fill=lanes.fill(cell.kind))
         if cell.value and x >= free.get(cell.who, 0):
             value = shortened(cell.value, 60, 8)
             picture.text(x, y - 2, value, title=cell.value if value != cell.value else "", size=8, fill="#a4241c")
             free[cell.who] = x + width(value, 8) + 2
+
+
+def draw_letters(picture, lanes, cells):
+    """The letters of cells: black ones on light kinds, and white ones."""
+    for colour, kinds in (("#000", LIGHT), ("#fff", set(LETTERS) - LIGHT)):
+        picture.parts.append(f'<g font-size="9" fill="{colour}">')
+        for cell in cells:
+            if cell.kind in kinds:
+                letter = LETTERS[cell.kind]
+                picture.shape("text", "", letter, x=float(lanes.x(cell.tick) + (lanes.cell - width(letter, 9)) / 2), y=float(lanes.y(cell.who) + 13))
+        picture.parts.append("</g>")
 
 
 def draw_arrow(picture, lanes, arrow):
@@ -298,7 +356,7 @@ def draw_arrow(picture, lanes, arrow):
     elif top > bottom:
         bottom += lanes.high
     bend = (top + bottom) / 2 if by != who else top - 10
-    name, colour = ("handover", HANDOVER) if arrow.handover else ("arrow", ARROW)
-    dashes = {"stroke_dasharray": "4 2"} if arrow.handover else {}
+    colour, dashes, _ = ARROWS[arrow.kind]
     picture.path(f"M{start:.1f} {top}C{start:.1f} {bend:.1f} {end:.1f} {bend:.1f} {end:.1f} {bottom}",
-                 title=f"{name} of tick {begun} to tick {ended}", stroke=colour, marker_end=f"url(#{name})", **dashes)
+                 title=f"{arrow.kind} of tick {begun} to tick {ended}", stroke=colour, marker_end=f"url(#{arrow.kind})",
+                 **({"stroke_dasharray": dashes} if dashes else {}))

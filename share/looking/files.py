@@ -1,5 +1,7 @@
 """Files as forms read them: whole, within a limit, and with each fault in words."""
+import pathlib
 import sys
+import tempfile
 
 from looking.wrong import Wrong
 
@@ -21,6 +23,22 @@ def read_bytes(name, limit=64 * MEBIBYTE):
     if len(content) > limit:
         raise Wrong(f"{name}: more than {limit} bytes")
     return content
+
+
+def write_text(name, text):
+    """Writes a file in one step, so that it is never there in part."""
+    file = pathlib.Path(name)
+    try:
+        if file.exists() and not file.is_file():
+            # a device or a pipe can't be replaced
+            file.write_text(text, encoding="ascii")
+            return
+        with tempfile.NamedTemporaryFile("w", encoding="ascii", dir=file.parent, prefix=f".{file.name[:40]}.", delete=False) as begun:
+            begun.write(text)
+        pathlib.Path(begun.name).chmod(0o644)
+        pathlib.Path(begun.name).replace(file)
+    except OSError as error:
+        raise Wrong(f"{name}: {error.strerror}") from None
 
 
 def read_text(name, limit=64 * MEBIBYTE):

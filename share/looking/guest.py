@@ -1,4 +1,5 @@
 """Instructions and exits of guests in words, after docs/guests.md."""
+import functools
 from dataclasses import dataclass
 
 PORTS = 65536
@@ -60,6 +61,7 @@ def plain(value):
     return str(value) if abs(value) < 1024 else f"{'-' if value < 0 else ''}0x{abs(value):x}"
 
 
+@functools.lru_cache(4096)
 def decode(word):
     """The instruction of eight bytes, or None where they are outside the table."""
     opcode, registers, code, zero = word[:4]

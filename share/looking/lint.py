@@ -16,21 +16,23 @@ def add_arguments(parser):
 
 def run(arguments):
     """Prints each fault and each warning; 1 where there is a fault."""
-    file = arguments.policy
+    lines, wrong = told(arguments.policy)
+    print("\n".join(lines))
+    return 1 if wrong else 0
+
+
+def told(file):
+    """The lines on a policy, and whether it has a fault."""
     try:
         document = opened(file)
     except NotJson as error:
-        print(f"{at(file, error.spot)}: fault: not JSON: {error.why}")
-        return 1
+        return [f"{at(file, error.spot)}: fault: not JSON: {error.why}"], True
     policy = Policy(document)
     wrong = list(faults_of(policy))
     warnings = [(hint.spot, hint.text) for hint in hints(policy)]
-    for spot, text in wrong:
-        print(f"{at(file, spot)}: fault: {text}")
-    for spot, text in sorted(warnings, key=lambda pair: pair[0]):
-        print(f"{at(file, spot)}: warning: {text}")
-    print(f"{counted(wrong, 'fault')}, {counted(warnings, 'warning')}")
-    return 1 if wrong else 0
+    lines = [f"{at(file, spot)}: fault: {text}" for spot, text in wrong]
+    lines += [f"{at(file, spot)}: warning: {text}" for spot, text in sorted(warnings, key=lambda pair: pair[0])]
+    return [*lines, f"{counted(wrong, 'fault')}, {counted(warnings, 'warning')}"], bool(wrong)
 
 
 def counted(items, word):

@@ -15,6 +15,7 @@ FORMS = {
     "lint": "lint",
     "record": "record",
     "refusal": "refusal",
+    "report": "report",
     "trace": "trace",
     "ways": "ways",
 }

@@ -16,15 +16,27 @@ def add_program(parser):
 
 def call(program, *words):
     """The status and the line of errors of a call, without its `muen: `."""
+    return answer(program, *words)[:2]
+
+
+def output(program, *words):
+    """What a call prints, or Wrong with its line."""
+    status, line, text = answer(program, *words)
+    if status:
+        raise Wrong(f"muen {words[0]} answers with status {status}: {line}")
+    return text.decode("ascii")
+
+
+def answer(program, *words):
+    """The status of a call, its line of errors without `muen: `, and what it prints."""
     try:
-        done = subprocess.run([program, *map(str, words)], stdin=subprocess.DEVNULL, stdout=subprocess.DEVNULL,
-                              stderr=subprocess.PIPE, check=False)
+        done = subprocess.run([program, *map(str, words)], stdin=subprocess.DEVNULL, capture_output=True, check=False)
     except OSError as error:
         raise Wrong(f"the program {program}: {error.strerror}; README says how it is built") from None
     line = done.stderr.decode("utf-8", "replace").rstrip("\n")
     if done.returncode not in range(11) or done.returncode and not line.startswith("muen: "):
         raise Wrong(f"{program} ended with status {done.returncode}: {line}")
-    return done.returncode, line.removeprefix("muen: ")
+    return done.returncode, line.removeprefix("muen: "), done.stdout
 
 
 def refusal(program, policy):

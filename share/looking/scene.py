@@ -13,7 +13,7 @@ from looking.dma_file import domains_of, read_dma
 from looking.document import lawful
 from looking.files import MEBIBYTE, read_bytes
 from looking.image import reached
-from looking.image_file import DEVICE, KERNEL, KINDS, MODES, PART_NAMES, STATE, MajorFrame
+from looking.image_file import DEVICE, KERNEL, KINDS, MODES, PART_NAMES, STATE, MajorFrame, Span
 from looking.policy import PAGE, first, name
 from looking.schema import number_of
 from looking.system import System
@@ -95,6 +95,8 @@ class Scene:
     bodies: list[Body]
     choice: str | None
     choosers: list[str]
+    # all of physical memory, the kernel's too; a policy has no places
+    spans: list[Span] = field(default_factory=list, compare=False)
 
     @property
     def by_cpu(self):
@@ -139,7 +141,7 @@ def image_scene(file, dma):
               for number, names, reaches in (domains_of(read_dma(dma)) if dma is not None else ())]
     choosers = [] if image.choice is None else writers(subjects, things[image.choice.number])
     return Scene(pathlib.Path(file).name, image.cpus, subjects, listed, groups, image.frames,
-                 with_others(bodies, [device.name for device in image.devices]), image.choice and image.choice.name, choosers)
+                 with_others(bodies, [device.name for device in image.devices]), image.choice and image.choice.name, choosers, image.spans)
 
 
 def sight_of(things, span, place, address, size, rights):

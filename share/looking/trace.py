@@ -1,4 +1,6 @@
 """look trace: what each line of a run's text means."""
+from dataclasses import dataclass
+
 from looking import guest
 from looking.files import read_text
 from looking.guest import plain
@@ -34,6 +36,14 @@ def run(arguments):
     return 0
 
 
+@dataclass
+class Told:
+    """Of a turn: where its instruction stands, the instruction, and what happened."""
+    place: str
+    code: str
+    what: str
+
+
 class Teller:
     """Puts turns into words, in their order."""
 
@@ -60,15 +70,19 @@ class Teller:
         """The line of a turn."""
         who = self.numbers[turn.subject, turn.cpu]
         self.replay.meet(who, turn)
-        found = self.replay.instruction(who, turn)
+        told = self.parts(who, turn, self.replay.instruction(who, turn))
+        return (f"{turn.tick:{self.tick_width}} {turn.cpu} {turn.subject:{self.name_width}} "
+                f"{told.place:{self.place_width}}  {told.code:32}  {told.what}").rstrip()
+
+    def parts(self, who, turn, found):
+        """What is told of a turn that was met, and of its instruction; it is carried out."""
         text = "" if turn.kind == "inject" else str(found or "?")
         what = getattr(self, f"tell_{'jump' if turn.kind == '-' else turn.kind}")(who, turn, found)
         if turn.kind == "exit" and found is None:
             text = ""
-        row = (f"{turn.tick:{self.tick_width}} {turn.cpu} {turn.subject:{self.name_width}} "
-               f"{self.where(who, turn.pc):{self.place_width}}  {text:32}  {what}").rstrip()
+        told = Told(self.where(who, turn.pc), text, what)
         self.replay.carry_out(who, turn, found)
-        return row
+        return told
 
     def where(self, who, address):
         """A guest address as the region that the subject sees there, with the offset."""
