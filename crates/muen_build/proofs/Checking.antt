@@ -13,7 +13,7 @@ use Rattle.policy_lawful.specs.Things.{AreDeclared}
 use Rattle.policy_lawful.specs.declared.thing.Thing.{Thing}
 use Rattle.policy_lawful.specs.refusal.Refusal.{Refusal}
 use Rattle.policy_lawful.specs.source.Content.TheVariants.{File, Inline}
-use Rattle.muen_build.specs.Accepting.{Files, Grows, IsLengthKnown, NotFound, Passes, Refuses, RefusesContents, StopsAfterLooks, content_of, insert_all, looks_of, part_length, thing_names, thing_refused}
+use Rattle.muen_build.specs.Accepting.{Files, Grows, IsLengthKnown, NotFound, Passes, Refuses, RefusesContents, StopsAfterLooks, insert_all, looks_of, part_length, thing_content, thing_names, thing_refused}
 use Rattle.muen_build.specs.Looks.{is_of_file, names_file}
 use Rattle.muen_build.specs.Refusals.{content_refused, contents_refused, too_long_for}
 use Rattle.muen_build.specs.declared.accepted.BuildError.{BuildError}
@@ -30,7 +30,7 @@ refused_is (Some x) r h = cc
 
 module _ (given : Files) (r : Resolution) (t : Thing) where
   -- bytes of the policy
-  module _ (bytes : List ℕ) (is : content_of r t ≡ Inline bytes) where
+  module _ (bytes : List ℕ) (is : thing_content r t ≡ Inline bytes) where
     pub inline_stops : (held : Option Store) (h : History) (looks : List Look) (why : Refusal) → Err why ≡ as_refusal (too_long_for t.tag t.size (length bytes))
         → StopsAfterLooks given (thing_names r t) held h h looks (Refuses (thing_refused r t)) (Refused why)
     inline_stops held h looks why e =
@@ -38,7 +38,7 @@ module _ (given : Files) (r : Resolution) (t : Thing) where
         (λ files s. ap (content_refused (insert_all files given) t.tag t.size) is ∙ refused_is (too_long_for t.tag t.size (length bytes)) why e)
 
   -- a file
-  module _ (file : List ℕ) (offset : ℕ) (most : Option ℕ) (is : content_of r t ≡ File file offset most) where
+  module _ (file : List ℕ) (offset : ℕ) (most : Option ℕ) (is : thing_content r t ≡ File file offset most) where
     named : (n : List ℕ) → bytes_eq file n ≡ true → thing_names r t n ≡ true
     named n h = ap (is_of_file n) is ∙ h
 

@@ -6,7 +6,7 @@ use Rattle.muen_num.specs.Search.{first_in}
 use Rattle.muen_num.specs.declared.tag.Tag.{Tag}
 use Rattle.muen_num.proofs.Lists.{list_any-map}
 use Rattle.muen_num.proofs.SearchLaws.{first_over-map}
-use Rattle.muen_build.specs.Accepting.{Files, content_of, thing_names, thing_refused}
+use Rattle.muen_build.specs.Accepting.{Files, thing_content, thing_names, thing_refused}
 use Rattle.muen_build.specs.FileNames.{content_file_of, named_files}
 use Rattle.muen_build.specs.Looks.{is_of_file, names_file}
 use Rattle.muen_build.specs.Reading.{content_read, things_read}
@@ -20,7 +20,7 @@ use Rattle.policy_lawful.specs.source.Content.{Content}
 
 module _ {A : Type 0} (made : Tag → ℕ → Content → A) (r : Resolution) where
   abbrev of_thing : Thing → A
-  of_thing t = made t.tag t.size (content_of r t)
+  of_thing t = made t.tag t.size (thing_content r t)
 
   abbrev of_item : Item → A
   of_item i = made (thing_tag i.thing) i.size i.content
@@ -49,7 +49,7 @@ module _ (r : Resolution) (things : List Thing) (declared : AreDeclared r (items
       ∙ list_any-map (λ b. b) (of_item made r) (items_of (source_of r))
 
   -- the names of all files
-  pub all_named : flat_map (λ t. content_file_of (content_of r t)) things ≡ named_files (source_of r)
+  pub all_named : flat_map (λ t. content_file_of (thing_content r t)) things ≡ named_files (source_of r)
   all_named =
       let made : Tag → ℕ → Content → List (List ℕ) = λ tag size content. content_file_of content in
       sym (flat_map-map (λ names. names) (of_thing made r) things)
@@ -57,5 +57,5 @@ module _ (r : Resolution) (things : List Thing) (declared : AreDeclared r (items
       ∙ flat_map-map (λ names. names) (of_item made r) (items_of (source_of r))
 
 -- the bytes of what is placed
-pub all_read : (given found : Files) (r : Resolution) (things : List Thing) → AreDeclared r (placed_items (source_of r)) things → map (λ t. content_read given found t.size (content_of r t)) things ≡ things_read given found (source_of r)
+pub all_read : (given found : Files) (r : Resolution) (things : List Thing) → AreDeclared r (placed_items (source_of r)) things → map (λ t. content_read given found t.size (thing_content r t)) things ≡ things_read given found (source_of r)
 all_read given found r things declared = made_alike (λ tag. content_read given found) r (placed_items (source_of r)) things declared

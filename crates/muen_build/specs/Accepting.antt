@@ -195,13 +195,13 @@ abbrev pub Passes : Files → List Look → Why → Type 0
 Passes given looks why = WithGiven given looks (λ files. why files ≡ None)
 
 -- the content of a thing
-abbrev pub content_of : Resolution → Thing → Content
-content_of r t = content_told (content_found r t.content)
+abbrev pub thing_content : Resolution → Thing → Content
+thing_content r t = content_told (content_found r t.content)
 
 -- it is refused
 abbrev pub thing_refused : Resolution → Thing → Why
-thing_refused r t files = content_refused files t.tag t.size (content_of r t)
+thing_refused r t files = content_refused files t.tag t.size (thing_content r t)
 
 -- which file it is of
 abbrev pub thing_names : Resolution → Thing → AskedNames
-thing_names r t name = is_of_file name (content_of r t)
+thing_names r t name = is_of_file name (thing_content r t)

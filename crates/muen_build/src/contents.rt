@@ -131,16 +131,17 @@ fn check<F: Files>(
     ensures err { IfErr result (StopsAfterLooks (given_files given.now) (thing_names policy.now thing.now) (F.held files.old) (F.history files.old) (F.history files.new) (looks_of found.old) (Refuses (thing_refused policy.now thing.now))) }
     ensures held { F.held files.new ≡ F.held files.old }
 {
-    match policy.content(thing.content) {
-        None | Some(Content::Zero | Content::Fill(_)) => Ok(()),
-        Some(Content::Inline(bytes)) => Ok(fits(thing, bytes.len() as u64)?),
-        Some(
-            Content::File {
-                name: file,
-                offset,
-                length,
-            },
-        ) => {
+    let Some(content) = policy.content(thing.content) else {
+        return Ok(());
+    };
+    match content {
+        Content::Zero | Content::Fill(_) => Ok(()),
+        Content::Inline(bytes) => Ok(fits(thing, bytes.len() as u64)?),
+        Content::File {
+            name: file,
+            offset,
+            length,
+        } => {
             let count = file_length(alloc, given, *file, found, files)?;
             Ok(fits(thing, part_length(count, *offset, *length))?)
         }

@@ -1,6 +1,6 @@
 //! What a policy's regions hold, made of the files that were read.
 ghost use Rattle.std.specs.Prelude.{◌≡◌, IfOk, replicate};
-ghost use Rattle.muen_build.specs.Accepting.{content_of, given_files};
+ghost use Rattle.muen_build.specs.Accepting.{given_files, thing_content};
 ghost use Rattle.muen_build.specs.Reading.{content_read, read_bytes, sized, things_read};
 ghost use Rattle.policy_lawful.specs.Contents.{file_part};
 ghost use Rattle.policy_lawful.specs.Resolution.{source_of};
@@ -65,20 +65,21 @@ fn content(
     policy: &Resolved,
     thing: &Thing,
 ) -> Result<Seq<u8>, AllocError>
-    ensures { IfOk result (λ bytes. bytes ≡ content_read (given_files given.now) found.now thing.now.size (content_of policy.now thing.now)) }
+    ensures { IfOk result (λ bytes. bytes ≡ content_read (given_files given.now) found.now thing.now.size (thing_content policy.now thing.now)) }
 {
     let size = thing.size;
-    match policy.content(thing.content) {
-        None | Some(Content::Zero) => filled(alloc, size, 0),
-        Some(Content::Fill(byte)) => filled(alloc, size, *byte),
-        Some(Content::Inline(bytes)) => sized(alloc, size, bytes.items()),
-        Some(
-            Content::File {
-                name: file,
-                offset,
-                length,
-            },
-        ) => {
+    let Some(content) = policy.content(thing.content) else {
+        return filled(alloc, size, 0);
+    };
+    match content {
+        Content::Zero => filled(alloc, size, 0),
+        Content::Fill(byte) => filled(alloc, size, *byte),
+        Content::Inline(bytes) => sized(alloc, size, bytes.items()),
+        Content::File {
+            name: file,
+            offset,
+            length,
+        } => {
             let bytes = file_bytes(given, found, *file);
             sized(alloc, size, part(bytes, *offset, *length))
         }

@@ -1,6 +1,6 @@
 -- The bytes of all that is placed were put there.
 use Rattle.std.proofs.Common.{ap, arith, map, take_all, ◌∙◌}
-use Rattle.muen_build.specs.Accepting.{content_of, given_files}
+use Rattle.muen_build.specs.Accepting.{given_files, thing_content}
 use Rattle.muen_build.specs.Reading.{content_read}
 use Rattle.muen_build.proofs.OfThings.{all_read}
 use Rattle.muen_build.proofs.things.things.Goals as goal
@@ -11,5 +11,5 @@ returns-clause-things c =
     let all = take_all c.loop-thing.thing-index things (omega (arith, c.loop-thing-test.false)) in
     c.of.ensures
     ∙ c.loop-thing.invariant
-    ∙ ap (map (λ t. content_read (given_files c.args.given.now) c.args.found.now t.size (content_of c.args.policy.now t))) all
+    ∙ ap (map (λ t. content_read (given_files c.args.given.now) c.args.found.now t.size (thing_content c.args.policy.now t))) all
     ∙ all_read (given_files c.args.given.now) c.args.found.now c.args.policy.now things c.placed_things-thing-items.ensures.declared
