@@ -4,7 +4,7 @@ import pathlib
 import re
 import tempfile
 
-from checking import EXAMPLES, PROGRAM, Case, call, each, said, want, with_program
+from checking import EXAMPLES, PROGRAM, TOP, Case, call, each, said, want, with_program
 from checking_examples import REFUSED, RUNNING
 from checking_rules import POLICY, ROWS, changed
 
@@ -224,6 +224,20 @@ class Claims(Case):
         self.want(told_by_look("ways", self.GATEWAY, f"--{kind}", source, target, *behind), (1, way) if way else (0, ["holds"]), "by options")
         broken = [f"FILE:2: broken: {line}", *(f"  {step}" for step in way), "1 claim: 0 hold, 1 broken, 0 faults"] if way else []
         self.want(self.of_file(f"# a comment\n{line} # another\n"), (1, broken) if way else (0, ["1 claim: 1 hold, 0 broken, 0 faults"]), "of a file")
+
+    def test_one_domain(self):
+        """What docs/flows.md quotes is printed of the two-way gateway with both devices in one domain."""
+        text = self.GATEWAY.read_text(encoding="utf-8")
+        for at, devices in ((0, ["inside", "outside"]), (1, [])):
+            text = changed(text, f"/deviceDomains/{at}/devices", devices)
+        claims = self.GATEWAY.with_suffix(".claims")
+        with tempfile.TemporaryDirectory() as folder:
+            file = pathlib.Path(folder, "policy.json")
+            file.write_text(text, encoding="utf-8")
+            status, lines = told_by_look("ways", file, "--claims", claims)
+        quoted = (TOP / "docs" / "flows.md").read_text(encoding="utf-8")
+        printed = "\n".join(lines[:2]).replace(str(claims), claims.name)
+        want((status, printed.count("\n"), f"```\n{printed}\n```" in quoted, f"`{lines[-1]}`" in quoted), (1, 1, True, True), f"the lines: {lines}")
 
     @each((f"no claim {line}", line, why) for line, why in NO_CLAIMS)
     def test_no_claim(self, line, why):

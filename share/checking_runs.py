@@ -10,6 +10,8 @@ from checking_examples import RUNNING
 from checking_look import told_by_look
 from checking_pictures import of_example
 from checking_rules import POLICY, changed
+from looking.diff_policies import ELEMENTS
+from looking.schema import definitions, is_object, keys_of
 
 RUN = "look trace of the two-way gateway"
 # words of look trace, and which lines of the text are told then
@@ -133,6 +135,12 @@ class Differences(Case):
     def test_policies(self, at, value, lines):
         """What a change of a policy is in words; nothing where it means nothing."""
         want(self.of_texts(POLICY, changed(POLICY, at, value)), (1, ["--- A", "+++ B", *lines]) if lines else (0, []), "what differs")
+
+    def test_elements(self):
+        """Each kind of elements of a list has a name, and a key by which one is found again."""
+        found = {says.kind for kind in definitions() if is_object(kind) for says in keys_of(kind).values() if says.is_list and is_object(says.kind)}
+        self.want(found - {"MajorFrame", "MinorFrame"}, set(ELEMENTS), "the kinds")
+        self.want([kind for kind, (_, own) in ELEMENTS.items() if own not in keys_of(kind)], [], "kinds without their key")
 
     def test_twice(self):
         """An element that stands twice is one more."""
