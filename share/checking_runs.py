@@ -2,10 +2,11 @@
 import json
 import pathlib
 import re
+import sys
 import tempfile
 from collections import Counter
 
-from checking import EXAMPLES, Case, each, looked, said, want, with_program
+from checking import EXAMPLES, TOP, Case, call, each, looked, said, want, with_program
 from checking_examples import RUNNING
 from checking_look import told_by_look
 from checking_pictures import of_example
@@ -47,6 +48,36 @@ class Turns(Case):
             for words, line in (("--subject two", "no subject is two; there are one"), ("--from 3 --until 3", "from 3 until 3: no tick is there")):
                 self.want(said("trace", built.image, built.text, *words.split()), (1, f"look: {line}\n"), words)
         of_example("one_subject.json", of_run)
+
+
+class Worked(Case):
+    """The run of private_memory.json that examples/worked.md quotes, up to the store of `b`, on an image that is spelled."""
+
+    def of_run(self, *words):
+        """What a form of look prints of the image and the text."""
+        section = (EXAMPLES / "worked.md").read_text(encoding="utf-8").split("\n## Two subjects, each in its own memory\n")[1].split("\n## ")[0]
+        with tempfile.TemporaryDirectory() as folder:
+            image, text = pathlib.Path(folder, "image"), pathlib.Path(folder, "text")
+            want(call([sys.executable, TOP / "share" / "spell_image.py", "private_memory.json", image]).returncode, 0, "spell_image.py")
+            text.write_text("".join(f"{line}\n" for line in re.findall(r"(?m)^\d+ 0 [ab] .*$", section)[:12]), encoding="ascii")
+            return looked(words[0], image, text, *words[1:]).splitlines()
+
+    def test_trace(self):
+        """What is told of some turns goes by all: where they load from, too."""
+        self.want(self.of_run("trace", "--subject", "b", "--from", "5", "--until", "10"),
+                  [" 5 0 b code+10  LOAD r3, 8 bytes at r1 + 0        r3 = a from table+0",
+                   " 9 0 b code+18  LOAD r4, 8 bytes at r2 + 0        r4 = 2 from data_b+0"], "of b")
+        self.want([line.split()[0] for line in self.of_run("trace", "--only", "store")], ["8", "11"], "ticks of stores")
+
+    def test_coverage(self):
+        """All but the last instruction ran, with their lines where the policy says where sources are."""
+        lines = self.of_run("coverage", "--policy", EXAMPLES / "private_memory.json")
+        self.want([lines[at] for at in (0, 1, 7, 16)], [
+            "a, code from 400000 on: 6 of 7 instructions ran", "  400000 1 LI r1, 0x500000                  code.asm:4: LI r1, table",
+            "! 400030 0 HLT                              code.asm:10: HLT", "all: 12 of 14 instructions ran"], "some lines")
+        self.want(self.of_run("coverage", "--missed"), [
+            "a, code from 400000 on: 6 of 7 instructions ran", "! 400030 0 HLT",
+            "b, code from 400000 on: 6 of 7 instructions ran", "! 400030 0 HLT", "all: 12 of 14 instructions ran"], "those that never ran")
 
 
 @with_program
