@@ -196,13 +196,13 @@ class Differences(Case):
 
     @with_program
     def test_race(self):
-        """Two orders of CPUs: the runs of race.json differ first where one byte is loaded; with the image it is told in words."""
+        """Two orders of CPUs: the runs of race.json differ first in tick 3, where the other CPU stores first; with the image it is told in words."""
         def of_run(built):
             """Of the runs with two records."""
             other = built.folder / "other"
             other.write_bytes(built.program("run", built.image, EXAMPLES / "race_other.record"))
             status, lines = told_by_look("diff", built.text, other, "--image", built.image)
-            self.want((status, [line.split()[1:4] for line in lines[-2:]]), (1, [["4", "0", "a"], ["4", "1", "b"]]), f"the lines: {lines}")
+            self.want((status, [line.split()[1:4] for line in lines[-2:]]), (1, [["3", "0", "a"], ["3", "1", "b"]]), f"the lines: {lines}")
             self.want(told_by_look("diff", built.text, built.text, "--image", built.image), (0, []), "the same")
             self.want(told_by_look("diff", built.image, other), (1, [f"look: {built.image} and {other} are of two kinds: image and trace"]), "two kinds")
             self.want(told_by_look("diff", built.image, built.image, "--image", built.image), (1, ["look: --image goes with two runs' texts"]), "an option")
