@@ -119,6 +119,7 @@ class Coverage(Case):
                       ["  400148 1 RETI                             crypt_text.asm:18: drop:   RETI",
                        "! 400148 0 RETI                             crypt_text.asm:18: drop:   RETI"], "encrypt has dropped one, decrypt none")
             self.want(looked(*words, "--missed").splitlines(), [line for line in lines if not line.startswith("  ")], "those that never ran")
+            self.want(said(*words[:3], "--policy", built.text)[1].startswith(f"look: {built.text}:1:3: not JSON: "), True, "what is no policy")
         of_example("two_way_gateway.json", of_run)
 
 

@@ -1,14 +1,11 @@
 """look coverage: which instructions of each subject's code a run has come to, and how often."""
-import pathlib
 from collections import Counter
 from dataclasses import dataclass, field
 
 from looking import guest
-from looking.document import opened
 from looking.files import read_text
 from looking.image_file import DEVICE
-from looking.policy import Policy, name
-from looking.sources import Sources
+from looking.sources import sources_of
 from looking.system import System
 from looking.trace import Teller
 from looking.turns import lines_of
@@ -56,17 +53,6 @@ def run(arguments):
             print(line)
     print(f"all: {came} of {counted(every, 'instruction')} ran")
     return 0
-
-
-def sources_of(policy, folder):
-    """The sources of a folder, or of the one beside a policy, whose components are known then."""
-    components = {}
-    if policy is not None:
-        declared, beside = Policy(opened(policy)), pathlib.Path(policy).with_suffix("")
-        components = {name(subject): name(component) for subject in declared.subjects
-                      if (component := declared.component(subject)) is not None}
-        folder = folder or (str(beside) if beside.is_dir() else None)
-    return Sources(folder, components)
 
 
 @dataclass
