@@ -4,7 +4,7 @@ import pathlib
 import re
 import tempfile
 
-from checking import EXAMPLES, PROGRAM, Case, call, each, said, want, with_program
+from checking import EXAMPLES, PROGRAM, TOP, Case, call, each, said, want, with_program
 from checking_examples import REFUSED, RUNNING
 from checking_rules import POLICY, ROWS, changed
 
@@ -175,3 +175,110 @@ class Ways(Case):
             step = "b -> a: device net in domain dnet"
             self.want(told_by_look("ways", file, "b", "a"), (0, ["no declared way from b to a", "over devices, which are no flows:", step]), "the way")
             self.want(step in told_by_look("ways", file)[1], True, "it is listed")
+
+    def test_devices(self):
+        """A device is an end, and a step."""
+        gateway = EXAMPLES / "two_way_gateway.json"
+        self.want(told_by_look("ways", gateway, "outside", "red"),
+                  (0, ["outside -> black: device ports 320 to 32f, rx, vector 41, DMA black_buffer", "black -> decrypt: channel to_open",
+                       "decrypt -> red: channel opened"]), "from a device")
+        self.want(told_by_look("ways", gateway, "outside", "inside", "without", "decrypt"), (0, ["no way from outside to inside without decrypt"]), "none")
+
+
+# claims on the two-way gateway with what each prints where it is broken or none
+CLAIMS = [
+    ("never red black", ["red -> encrypt: channel to_seal", "encrypt -> black: channel sealed"]),
+    ("never red black without encrypt", None),
+    ("only inside outside by encrypt", None),
+    ("only inside outside by decrypt", ["inside -> red: device ports 300 to 30f, rx, vector 41, DMA red_buffer", "red -> encrypt: channel to_seal",
+                                        "encrypt -> black: channel sealed", "black -> outside: device ports 320 to 32f"]),
+    ("reaches outside keys", None),
+    ("reaches outside keys without watch", ["no way from outside to keys without watch"]),
+]
+# what is no claim on it, and why
+NO_CLAIMS = [
+    ("never red nobody", "no subject or device is nobody; there are red, black, keys, encrypt, guard, decrypt, watch, inside, outside"),
+    ("never red red", "the ends and the names behind them are different ones"),
+    ("only red black by black", "the ends and the names behind them are different ones"),
+    *((line, "a claim is never A B [without X ..], only A B by X .., or reaches A B [without X ..]")
+      for line in ("never red", "ever red black", "only red black", "only red black by", "only red black without keys", "never red black keys")),
+]
+
+
+class Claims(Case):
+    """`look ways` with claims."""
+
+    GATEWAY = EXAMPLES / "two_way_gateway.json"
+
+    @each((f"the claims of examples/{file.name}", file) for file in sorted(EXAMPLES.glob("*.claims")))
+    def test_example(self, file):
+        """The claims beside an example hold of its policy."""
+        status, lines = told_by_look("ways", file.with_suffix(".json"), "--claims", file)
+        want((status, len(lines), lines[0].endswith(" hold, 0 broken, 0 faults")), (0, 1, True), f"look ways: {lines}")
+
+    @each((f"the claim {line}", line, way) for line, way in CLAIMS)
+    def test_claim(self, line, way):
+        """A claim holds, or a way breaks it: by options, and as a line of a file."""
+        kind, source, target, *rest = line.split()
+        behind = [f"--{rest[0]}", *rest[1:]] if rest else []
+        self.want(told_by_look("ways", self.GATEWAY, f"--{kind}", source, target, *behind), (1, way) if way else (0, ["holds"]), "by options")
+        broken = [f"FILE:2: broken: {line}", *(f"  {step}" for step in way), "1 claim: 0 hold, 1 broken, 0 faults"] if way else []
+        self.want(self.of_file(f"# a comment\n{line} # another\n"), (1, broken) if way else (0, ["1 claim: 1 hold, 0 broken, 0 faults"]), "of a file")
+
+    def test_one_domain(self):
+        """What docs/flows.md quotes is printed of the two-way gateway with both devices in one domain."""
+        text = self.GATEWAY.read_text(encoding="utf-8")
+        for at, devices in ((0, ["inside", "outside"]), (1, [])):
+            text = changed(text, f"/deviceDomains/{at}/devices", devices)
+        claims = self.GATEWAY.with_suffix(".claims")
+        with tempfile.TemporaryDirectory() as folder:
+            file = pathlib.Path(folder, "policy.json")
+            file.write_text(text, encoding="utf-8")
+            status, lines = told_by_look("ways", file, "--claims", claims)
+        quoted = (TOP / "docs" / "flows.md").read_text(encoding="utf-8")
+        printed = "\n".join(lines[:2]).replace(str(claims), claims.name)
+        want((status, printed.count("\n"), f"```\n{printed}\n```" in quoted, f"`{lines[-1]}`" in quoted), (1, 1, True, True), f"the lines: {lines}")
+
+    @each((f"no claim {line}", line, why) for line, why in NO_CLAIMS)
+    def test_no_claim(self, line, why):
+        """What is no claim, or names nobody, is a fault of its line, and the others are looked at."""
+        self.want(self.of_file(f"{line}\nreaches red black\n"), (1, [f"FILE:1: fault: {why}", "2 claims: 1 hold, 0 broken, 1 fault"]), "the lines")
+
+    def of_file(self, text):
+        """The status and the lines of `look ways` on a file of claims, which is FILE in the lines."""
+        with tempfile.TemporaryDirectory() as folder:
+            file = pathlib.Path(folder, "system.claims")
+            file.write_text(text, encoding="ascii")
+            status, lines = told_by_look("ways", self.GATEWAY, "--claims", file)
+        return status, [line.replace(str(file), "FILE") for line in lines]
+
+    @each((f"look ways {words}", words, why) for words, why in [
+        ("--only red black", "--only wants --by"), ("--without encrypt", "--without goes with --never and --reaches"),
+        ("--never red black --by encrypt", "--by goes with --only"), ("red --never red black", "red: a claim has no other words"),
+        ("--claims /dev/null", "/dev/null: no claim is in it"),
+        ("--never red nobody", "no subject or device is nobody; there are red, black, keys, encrypt, guard, decrypt, watch, inside, outside")])
+    def test_words(self, words, why):
+        """Words that don't go together are a line of errors."""
+        want(told_by_look("ways", self.GATEWAY, *words.split()), (1, [f"look: {why}"]), "status and lines")
+
+    def test_same_name(self):
+        """A device that has a subject's name is told apart from it, and devices of a domain count as one."""
+        text = changed(changed(changed(POLICY, "/devices/1/name", "a"), "/deviceDomains/0/devices", ["net", "a"]), "/deviceDomains/1/devices", [])
+        with tempfile.TemporaryDirectory() as folder:
+            file = pathlib.Path(folder, "policy.json")
+            file.write_text(text, encoding="utf-8")
+            self.want(told_by_look("ways", file, "--never", "a", "b"),
+                      (1, ["look: a subject and a device are a: subject:a or device:a is wanted"]), "which one")
+            self.want(told_by_look("ways", file, "--never", "device:a", "subject:a"),
+                      (1, ["device:a -> net: device in domain dnet", "net -> a: device ports 300 to 30f, ring, rx, vector 42"]), "the way")
+
+    @with_program
+    def test_image(self):
+        """Claims on an image are as those on its policy, and want its tables."""
+        with tempfile.TemporaryDirectory() as folder:
+            image, tables = (pathlib.Path(folder, part) for part in ("image", "tables"))
+            self.program(["build", self.GATEWAY, image, tables], 0, b"", None)
+            file = self.GATEWAY.with_suffix(".claims")
+            self.want(told_by_look("ways", image, "--dma", tables, "--claims", file), told_by_look("ways", self.GATEWAY, "--claims", file), "of both")
+            self.want(told_by_look("ways", image, "--claims", file),
+                      (1, [f"look: {image}: what its devices write by themselves isn't known without --dma"]), "without tables")

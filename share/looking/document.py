@@ -17,14 +17,20 @@ def opened(file):
     return document_of(read_bytes(file))
 
 
-def lawful(file):
-    """The policy of a file that breaks neither the schema nor a rule, or Wrong."""
+def document_in_shape(file):
+    """The document of a file that doesn't break the schema, or Wrong."""
     try:
         document = opened(file)
     except NotJson as error:
         raise Wrong(f"{at(file, error.spot)}: not JSON: {error.why}") from None
     for fault in faults(document):
         raise Wrong(f"{at(file, fault.spot)}: {fault.line}: {fault.text}")
+    return document
+
+
+def lawful(file):
+    """The policy of a file that breaks neither the schema nor a rule, or Wrong."""
+    document = document_in_shape(file)
     policy = Policy(document)
     for finding in broken(policy):
         spot = finding.nodes[0].spot if finding.nodes else document.spot

@@ -11,7 +11,7 @@ from looking.image_file import STATE, SWITCH
 from looking.svg import Picture, shortened, widest, width
 from looking.system import System
 from looking.trace import Teller
-from looking.turns import lines_of
+from looking.turns import kind_of, lines_of
 from looking.wrong import Wrong
 
 HELP = "the turns of a run by CPU and subject, with arrows from calls to deliveries"
@@ -185,13 +185,6 @@ class Plan:
                 else:
                     found.append([tick, tick + 1])
         return found
-
-
-def kind_of(turn):
-    """The kind of a turn's line."""
-    if turn.kind == "exit":
-        return {"on": "call", "halt": "halt", "trap": "trapped fault", "stop": "fault, stops"}[turn.facts["ending"]]
-    return {"-": "jump, flag, NOP", "store": "store", "wrmsr": "store", "out": "output", "inject": "event"}.get(turn.kind, "instruction")
 
 
 # ---- the picture

@@ -9,6 +9,7 @@ from looking.wrong import Wrong
 
 # the forms, each with the module of this package that has HELP, add_arguments and run
 FORMS = {
+    "coverage": "coverage",
     "diff": "diff",
     "draw": "draw",
     "image": "image",

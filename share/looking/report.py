@@ -11,12 +11,12 @@ from looking.document import opened
 from looking.files import MEBIBYTE, read_bytes, read_text, write_text
 from looking.image import sections_of
 from looking.inputs import Inputs
-from looking.policy import Policy, name
+from looking.policy import Policy
 from looking.program import add_program, answer, output
 from looking.report_page import page
 from looking.report_run import data_of, memory_of, told_of
 from looking.scene import Scene, scene_of
-from looking.sources import Sources
+from looking.sources import sources_of
 from looking.system import System
 from looking.trace import Teller
 from looking.turns import lines_of
@@ -121,15 +121,7 @@ def of_run(looked, arguments, image, tables):
     system = System(image)
     teller = Teller(system, lines_of(text, title), title)
     inputs = Inputs(system, read_dma(tables), read_text(record), record)
-    told = told_of(teller, text, title, inputs, sources_of(arguments))
+    told = told_of(teller, text, title, inputs, sources_of(arguments.policy, arguments.sources))
     looked.final = [line for line in text.splitlines() if not line[0].isdigit()]
     looked.record, looked.data = pathlib.Path(record).name, data_of(told, inputs.ticks)
     looked.memory = list(memory_of(system, looked.final))
-
-
-def sources_of(arguments):
-    """The sources of the guests: of the folder that is named, or of the one beside the policy."""
-    beside = pathlib.Path(arguments.policy).with_suffix("")
-    policy = Policy(opened(arguments.policy))
-    components = {name(subject): name(component) for subject in policy.subjects if (component := policy.component(subject)) is not None}
-    return Sources(arguments.sources or (str(beside) if beside.is_dir() else None), components)

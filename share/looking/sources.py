@@ -2,8 +2,10 @@
 import pathlib
 import re
 
+from looking.document import document_in_shape
 from looking.files import read_text
 from looking.guest import TABLE
+from looking.policy import Policy, name
 from looking.wrong import Wrong
 
 LABEL = re.compile(r"\s*[A-Za-z_][\w.]*\s*:\s*")
@@ -62,3 +64,14 @@ class Sources:
         if not file.is_file():
             return {}
         return {at: (name, f"{file.name}:{number}: {text}") for at, name, number, text in instructions(read_text(str(file)))}
+
+
+def sources_of(policy, folder):
+    """The sources of a folder, or of the one beside a policy, whose components are known then."""
+    components = {}
+    if policy is not None:
+        declared, beside = Policy(document_in_shape(policy)), pathlib.Path(policy).with_suffix("")
+        components = {name(subject): name(component) for subject in declared.subjects
+                      if (component := declared.component(subject)) is not None}
+        folder = folder or (str(beside) if beside.is_dir() else None)
+    return Sources(folder, components)

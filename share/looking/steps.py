@@ -3,11 +3,12 @@ from dataclasses import dataclass
 from itertools import permutations
 
 from looking.image import spread
+from looking.scene import Body
 
 
 @dataclass(frozen=True)
 class Step:
-    """A direct way from a subject to another one, its kind, and what carries it."""
+    """A direct way from a subject to another one, or from or to a device, its kind, and what carries it."""
     source: str
     target: str
     kind: str
@@ -72,9 +73,9 @@ class Touch:
     takes: list[str]
 
 
-def touches(scene):
-    """What each subject has to do with the devices of each body."""
-    for body in scene.bodies:
+def touches(scene, bodies=None):
+    """What each subject has to do with the devices of each body, or of each of these."""
+    for body in scene.bodies if bodies is None else bodies:
         reached = {sight.thing: sight.rights for sight in body.sights}
         for subject in scene.subjects:
             both = [spread("port", first, last) for device, first, last in subject.ports if device in body.devices]
@@ -96,3 +97,23 @@ def device_steps(scene):
     found = list(touches(scene))
     return [Step(one.subject, other.subject, "device", one.devices) for one in found for other in found
             if one.gives and other.takes and one.devices == other.devices and one.subject != other.subject]
+
+
+def device_names(scene):
+    """Of each device the name by which steps have it: its own, or device:NAME where a subject has that, too."""
+    subjects = {subject.name for subject in scene.subjects}
+    return {device: f"device:{device}" if device in subjects else device for body in scene.bodies for device in body.devices}
+
+
+def end_steps(scene):
+    """From subjects to the devices that they give something, back from these, and between those of a domain, which count as one."""
+    names = device_names(scene)
+    for body in scene.bodies:
+        for device in body.devices:
+            for touch in touches(scene, [Body([device], None, body.sights)]):
+                if touch.gives:
+                    yield Step(touch.subject, names[device], "device", ", ".join(touch.gives))
+                if touch.takes:
+                    yield Step(names[device], touch.subject, "device", ", ".join(touch.takes))
+        for one, other in permutations(body.devices, 2):
+            yield Step(names[one], names[other], "device", f"in {body.domain}")

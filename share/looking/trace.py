@@ -7,22 +7,36 @@ from looking.guest import plain
 from looking.image_file import STATE
 from looking.replay import Replay, is_taken
 from looking.system import System
-from looking.turns import lines_of
+from looking.turns import kind_of, lines_of
 from looking.wrong import Wrong
 
+# the kinds of turns by the words of --only
+KINDS = {"instruction": "instruction", "jump": "jump, flag, NOP", "store": "store", "call": "call", "halt": "halt", "event": "event",
+         "output": "output", "trap": "trapped fault", "stop": "fault, stops"}
 HELP = "a run's text with instructions, names of regions, causes of events, and faults in words"
 LONG_HELP = """Prints each line of a turn anew: tick, CPU, subject, where its instruction stands, the
 instruction as the image has it (or as stores of the text have made it), and what
 happened. Addresses are told as REGION+OFFSET, of the region that the subject sees
 there; they, values and ports are hexadecimal, other numbers decimal. Final lines stay.
 The text may begin and end at any line: what it doesn't tell is left out. What devices
-write into code isn't in a text; an instruction that its line contradicts is shown as `?`."""
+write into code isn't in a text; an instruction that its line contradicts is shown as `?`.
+
+  look trace gateway.img gateway.trace --subject black cipher --from 30 --until 50
+  look trace gateway.img gateway.trace --only stop trap
+
+These tell some turns alone, as they are told among all, and no final lines. The kinds of
+turns are instruction, jump (also a flag, and NOP), store, call, halt, event, output, trap (a
+fault that is trapped) and stop (one that isn't)."""
 
 
 def add_arguments(parser):
     """The words of this form."""
     parser.add_argument("image", metavar="IMAGE", help="the image that was run")
     parser.add_argument("trace", metavar="TRACE", help="what `muen run` printed; - is standard input")
+    parser.add_argument("--subject", nargs="+", metavar="NAME", help="the turns of these subjects alone")
+    parser.add_argument("--from", metavar="TICK", dest="first", type=int, help="the first tick that is told")
+    parser.add_argument("--until", metavar="TICK", dest="end", type=int, help="the tick behind the last")
+    parser.add_argument("--only", nargs="+", choices=KINDS, metavar="KIND", help="the turns of these kinds alone")
 
 
 def run(arguments):
@@ -31,9 +45,27 @@ def run(arguments):
     text = read_text(arguments.trace, 1 << 30)
     # once for faults and widths, before anything is printed
     teller = Teller(system, lines_of(text, arguments.trace), arguments.trace)
+    wanted = wanted_of(arguments, teller)
     for line, turn in lines_of(text, arguments.trace):
-        print(line if turn is None else teller.tell(turn))
+        # each turn is carried out, also where it isn't told
+        told = line if turn is None else teller.tell(turn)
+        if wanted is None or turn is not None and wanted(turn):
+            print(told)
     return 0
+
+
+def wanted_of(arguments, teller):
+    """Whether a turn is told, as a function; none where all lines are."""
+    first, end, names, kinds = arguments.first, arguments.end, arguments.subject, arguments.only
+    for name in names or ():
+        if name not in {subject for subject, _ in teller.numbers}:
+            raise Wrong(f"no subject is {name}; there are {', '.join(subject.name for subject in teller.system.image.subjects)}")
+    if first is not None and end is not None and first >= end:
+        raise Wrong(f"from {first} until {end}: no tick is there")
+    if first is None and end is None and not names and not kinds:
+        return None
+    return lambda turn: ((first is None or first <= turn.tick) and (end is None or turn.tick < end)
+                         and (not names or turn.subject in names) and (not kinds or kind_of(turn) in map(KINDS.get, kinds)))
 
 
 @dataclass

@@ -49,3 +49,10 @@ def lines_of(text, source):
             yield line, turn_of(line)
         except Wrong as error:
             raise Wrong(f"{source}: line {number}: {error}") from None
+
+
+def kind_of(turn):
+    """The kind of a turn's line."""
+    if turn.kind == "exit":
+        return {"on": "call", "halt": "halt", "trap": "trapped fault", "stop": "fault, stops"}[turn.facts["ending"]]
+    return {"-": "jump, flag, NOP", "store": "store", "wrmsr": "store", "out": "output", "inject": "event"}.get(turn.kind, "instruction")
