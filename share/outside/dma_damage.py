@@ -105,14 +105,26 @@ class Damaged(dma_questions.Asking):
         return None, [(place, access.size, 0)]
 
     def damage(self, damaged):
-        """Lays all anew, with these damages."""
-        self.bus.translate()
+        """Lays all anew, with these damages. Translation stays on: turning it takes long with so many devices."""
         self.bus.ram.clear()
         self.memory = dma_questions.Memory()
-        self.lay()
+        self.lay_memory()
         for one in damaged:
             self.put(one.place, struct.pack("<Q", one.new))
         self.bus.forget()
+
+    def read_all(self, accesses, damaged):
+        """Lets each device read once by damaged tables, and write what it found by sound ones."""
+        self.damage(damaged)
+        self.seed()
+        found = [(access, self.read(access, 0)) for access in accesses]
+        self.damage([])
+        for access, content in found:
+            self.bus.move(access.source, bus.OUTWARD, WINDOW, 0, access.size)
+            self.buffers[access.source] = content + self.buffers[access.source][access.size:]
+            place = self.made.by_source[access.source].windows[0].place
+            if self.bus.ram.read(place, access.size) != content:
+                self.differs(access, "reads other bytes")
 
 
 def lines_of(made, damaged, draw):
@@ -149,6 +161,7 @@ def asked(program, folder, seed, count):
     left = list(damages(made, draw, count))
     with bus.Bus(folder, sorted(made.names), bus.ram_bytes([*made.spans(), (0, 4 * RAM)])) as machine:
         asking = Damaged(machine, made, draw)
+        asking.lay()
         while left:
             damaged, left = left[:DOMAINS], left[DOMAINS:]
             accesses, told = lines_of(made, damaged, draw)
@@ -157,6 +170,5 @@ def asked(program, folder, seed, count):
             for access in accesses:
                 asking.write(access)
             asking.look_through()
-            asking.damage(damaged)
-            asking.reads(accesses)
+            asking.read_all(accesses, damaged)
         return asking.counts

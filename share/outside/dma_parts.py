@@ -44,7 +44,7 @@ def spoiled_tables(program, folder, words):
 
 def every_source(program, folder, words):
     """Every source of the buses 1 to 255, or of so many of them."""
-    path = random_domains.write(folder, words.seed, 1)[0]
+    path = random_domains.write(folder, words.seed, 1, 30)[0]
     counts = sources.asked(program, path, folder, words.seed, range(1, 1 + min(255, words.count or 255)))
     return [line_of("every source", counts)], counts.differ
 
@@ -58,7 +58,7 @@ def damaged_tables(program, folder, words):
 def policies_of_chance(program, folder, words):
     """What policies of chance declare."""
     lines, differ = [], []
-    for path in random_domains.write(folder, words.seed, words.count or 6):
+    for path in random_domains.write(folder, words.seed, words.count or 4):
         more, wrong = policy(program, path, folder, words.seed)
         lines, differ = lines + more, differ + [f"{path.stem}: {one}" for one in wrong]
     return lines, differ

@@ -127,11 +127,15 @@ class Asking:
         self.bus.translate()
         self.buffers = {source: self.draw.randbytes(bus.MOST) for source in self.bus.windows}
         self.bus.fill(self.buffers, self.buffers)
+        self.lay_memory()
+        self.bus.translate(self.made.base)
+
+    def lay_memory(self):
+        """Lays spans and tables."""
         laid = self.made.image.memory()
         laid.write(self.made.base, self.made.tables)
         for place, content in laid.runs():
             self.put(place, content)
-        self.bus.translate(self.made.base)
 
     def put(self, place, content):
         """Writes into memory, as it is and as it has to be."""
@@ -245,7 +249,7 @@ def ask_policy(program, made, folder, seed):
     with bus.Bus(folder, sources, bus.ram_bytes(made.spans())) as machine:
         asking = Asking(machine, made, draw)
         asking.lay()
-        first = {domain.sources[0] for domain in made.domains if domain.sources}
+        first = {domain.sources[0] for domain in made.domains[:3] if domain.sources}
         asked = [one for source in machine.windows for one in accesses(made, source, draw, source in first)]
         lines = []
         for access in filter(asking.is_whole, asked):
@@ -257,7 +261,6 @@ def ask_policy(program, made, folder, seed):
         for access in asked:
             if not asking.is_whole(access):
                 asking.write(access)
-                asking.counts.add("halves", True)
         asking.look_through()
         asking.seed()
         asking.reads(asked)

@@ -13,9 +13,9 @@ BUSES = (0, 0, 1, 2, 0x7F, 0x80, 0xFE, 0xFF)
 
 
 class Policy:
-    """A policy in the making, with so many devices at most."""
+    """A policy in the making, with so many devices."""
 
-    def __init__(self, draw, devices=14):
+    def __init__(self, draw, devices):
         self.draw, self.devices, self.regions, self.domains = draw, [], [], []
         places = set()
         while len(places) < devices:
@@ -74,11 +74,11 @@ class Policy:
                 "deviceDomains": self.domains}
 
 
-def write(folder, seed, count):
-    """Writes so many policies, of the seeds from this one on, and returns their paths."""
+def write(folder, seed, count, devices=None):
+    """Writes so many policies, of the seeds from this one on, and returns their paths; of 1 to 8 devices, or so many."""
     paths = []
     for one in range(seed, seed + count):
         draw = random.Random(one)
         paths.append(folder / f"random-{one}.json")
-        paths[-1].write_text(json.dumps(Policy(draw, draw.randrange(1, 9)).document()))
+        paths[-1].write_text(json.dumps(Policy(draw, devices or draw.randrange(1, 9)).document()))
     return paths

@@ -1,11 +1,11 @@
-"""Every source of buses 1 to 255: one bus is full of devices, and its number goes from 1 to 255."""
+"""Every source of buses 1 to 255: the number of a bus with devices goes from 1 to 255, until each function was there."""
 import random
 
 import bus
 import domains
-from dma_questions import Access, Asking
+from dma_questions import Access, Asking, Counts
 
-FIRST = 0x100
+FIRST, AT_ONCE = 0x100, 32
 
 
 def addresses(made, draw):
@@ -23,27 +23,28 @@ def addresses(made, draw):
 class Renumbered(Asking):
     """A machine whose only bus with devices has another number from time to time."""
 
-    number = 1
-
-    def write_as(self, function):
-        """Lets a function of the bus write: its source is that of the number."""
-        source = self.number << 8 | function
-        self.bus.windows[source] = self.bus.windows.get(source) or self.bus.windows[FIRST | function]
-        self.buffers[source] = self.buffers[FIRST | function]
-        self.write(Access(source, self.address(source), 8))
+    def renumber(self, number, address):
+        """Gives the bus this number, and lets each of its devices write at the address for its source."""
+        self.bus.number(1, number)
+        self.bus.forget()
+        for here in list(self.windows):
+            source = number << 8 | here & 255
+            self.bus.windows[source], self.buffers[source] = self.windows[here], self.buffers[here]
+            self.write(Access(source, address(source), 8))
 
 
 def asked(program, path, folder, seed, buses):
-    """The part: every source of these buses writes once."""
+    """The part: every source of these buses writes once. A machine with few devices is quicker by far."""
     made, draw = domains.made(program, path, folder), random.Random(seed)
-    with bus.Bus(folder, range(FIRST, FIRST + 256), bus.ram_bytes(made.spans())) as machine:
-        asking = Renumbered(machine, made, draw)
-        asking.address = addresses(made, draw)
-        asking.lay()
-        for asking.number in buses:
-            machine.number(1, asking.number)
-            machine.forget()
-            for function in range(256):
-                asking.write_as(function)
-        asking.look_through()
-        return asking.counts
+    address, counts = addresses(made, draw), Counts()
+    for first in range(FIRST, FIRST + 256, AT_ONCE):
+        here = range(first, first + AT_ONCE)
+        with bus.Bus(folder, here, bus.ram_bytes(made.spans())) as machine:
+            asking = Renumbered(machine, made, draw)
+            asking.lay()
+            asking.windows = {source: machine.windows[source] for source in here}
+            for number in buses:
+                asking.renumber(number, address)
+            asking.look_through()
+            counts.join(asking.counts)
+    return counts
