@@ -58,8 +58,7 @@ def ram_bytes(ends):
     for place, end in ends:
         if place < HIGH and end > LOW_END:
             raise CantBeAsked(f"its memory at {place:#x} is where the emulated PC has devices")
-    top = max(end for _, end in ends)
-    top = -(-top // MEBIBYTE + -1) * MEBIBYTE
+    top = -(-max(end for _, end in ends) // MEBIBYTE) * MEBIBYTE
     return max(64 * MEBIBYTE, top if top <= LOW_END else LOW_END + top - HIGH)
 
 
@@ -133,7 +132,7 @@ class Bus:
             devices += ["-device", f"edu,bus={on},addr={source >> 3 & 31:x}.{source & 7},multifunction=on,"
                                    "dma_mask=0xffffffffffffffff"]
         unit = ",".join(["intel-iommu,intremap=off,aw-bits=48", *self.options])
-        return [QEMU, "-nodefaults", "-no-user-config", "-display", "none", "-machine", "q35,memory-backend=ram",
+        return [QEMU, "-nodefaults", "-no-user-config", "-display", "none", "-machine", "q35,memory-backend=ram,max-ram-below-4g=2G",
                 "-accel", "tcg", "-icount", "shift=0,sleep=off", "-cpu", "qemu64,vendor=GenuineIntel,phys-bits=46",
                 "-m", f"{self.ram.size // MEBIBYTE}M", "-object",
                 f"memory-backend-file,id=ram,size={self.ram.size},mem-path={self.ram.path},share=on",
@@ -194,7 +193,7 @@ class Bus:
                 if not more:
                     raise self.broken("QEMU ended")
                 self.left += more
-        except (OSError, TimeoutError):
+        except OSError:
             raise self.broken("QEMU doesn't answer") from None
         *answers, self.left = self.left.split(b"\n")
         if not all(answer.startswith(b"OK") for answer in answers):

@@ -59,7 +59,7 @@ def policies_of_chance(program, folder, words):
     """What policies of chance declare."""
     lines, differ = [], []
     for path in random_domains.write(folder, words.seed, words.count or 4):
-        more, wrong = policy(program, path, folder, words.seed)
+        more, wrong = policy(program, path, folder, words)
         lines, differ = lines + more, differ + [f"{path.stem}: {one}" for one in wrong]
     return lines, differ
 
@@ -71,10 +71,10 @@ def answer(program, name, folder, words):
     """The lines of a part or of a policy, and what differs."""
     if name in PARTS:
         return PARTS[name](program, folder, words)
-    return policy(program, pathlib.Path(name).resolve(), folder, words.seed)
+    return policy(program, pathlib.Path(name).resolve(), folder, words)
 
 
-def policy(program, path, folder, seed):
+def policy(program, path, folder, words):
     """What a policy declares."""
-    counts = dma_questions.ask_policy(program, domains.made(program, path, folder), folder, seed)
+    counts = dma_questions.ask_policy(program, domains.made(program, path, folder), folder, words)
     return [line_of(path.name, counts)], counts.differ

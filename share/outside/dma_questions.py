@@ -103,14 +103,15 @@ def sources_of(made):
     return sorted(found - bus.CHIPSET)
 
 
-def accesses(made, source, draw, all_entries):
-    """What a device is asked, none twice."""
+def accesses(made, source, draw, all_entries, short):
+    """What a device is asked, none twice; shortly only windows and what is beside them."""
     domain = made.by_source.get(source)
     windows = domain.windows if domain else [one for other in made.domains for one in other.windows[:1]]
     own = draw.choice(windows).address if windows else PAGE
     wanted = [one for window in windows for one in near(window, draw)]
-    wanted += elsewhere(made, own, draw)
-    if all_entries:
+    if not short:
+        wanted += elsewhere(made, own, draw)
+    if all_entries and not short:
         wanted += entries(own)
     return [Access(source, *one) for one in dict.fromkeys(wanted) if can_be_asked(*one)]
 
@@ -235,7 +236,7 @@ class Asking:
 
 def hold_against_run(asking, program, lines, folder):
     """Holds the regions against the digests that `run` prints after the lines of a record."""
-    made = asking.made
+    made, asking.counts.asked["lines"] = asking.made, len(lines)
     printed = domains.digests(program, domains.stilled(made), made.dma, lines, folder)
     for name, (place, size) in made.regions.items():
         asking.counts.add("regions", True)
@@ -243,21 +244,25 @@ def hold_against_run(asking, program, lines, folder):
             asking.counts.differ.append(f"run prints another digest of {name}")
 
 
-def ask_policy(program, made, folder, seed):
+def written(asking, asked):
+    """Lets devices write where an access is granted wholly or not at all; answers the lines of a record for it."""
+    names, lines = asking.made.names, []
+    for access in filter(asking.is_whole, asked):
+        content = asking.write(access)
+        if access.source in names and access.address + access.size <= ADDRESSES:
+            lines.append(f"dma 0 {names[access.source]} {access.address} {content.hex()}")
+    return lines
+
+
+def ask_policy(program, made, folder, words):
     """All questions about a policy: writes first, as what a unit keeps of a read is kept for a write, too."""
-    draw, sources = random.Random(seed), sources_of(made)
-    with bus.Bus(folder, sources, bus.ram_bytes(made.spans())) as machine:
+    draw, first = random.Random(words.seed), {one.sources[0] for one in made.domains[:3] if one.sources}
+    with bus.Bus(folder, sources_of(made), bus.ram_bytes(made.spans())) as machine:
         asking = Asking(machine, made, draw)
         asking.lay()
-        first = {domain.sources[0] for domain in made.domains[:3] if domain.sources}
-        asked = [one for source in machine.windows for one in accesses(made, source, draw, source in first)]
-        lines = []
-        for access in filter(asking.is_whole, asked):
-            content = asking.write(access)
-            if access.source in made.names and access.address + access.size <= ADDRESSES:
-                lines.append(f"dma 0 {made.names[access.source]} {access.address} {content.hex()}")
-        asking.counts.asked["lines"] = len(lines)
-        hold_against_run(asking, program, lines, folder)
+        asked = [one for source in machine.windows for one in accesses(made, source, draw, source in first, words.short)]
+        hold_against_run(asking, program, written(asking, asked), folder)
+        # `run` drops a line whole where one of its pages is refused; a bus lets the other arrive
         for access in asked:
             if not asking.is_whole(access):
                 asking.write(access)

@@ -10,7 +10,7 @@ ADDRESS = (1 << 48) - PAGE
 # More reasons of fault records: entries that may not be so, tables that can't be read, bits that are reserved.
 BEYOND, BAD_CONTEXT, NO_TABLE, NO_CONTEXT_TABLE = 4, 3, 7, 9
 ROOT_BITS, CONTEXT_BITS, PAGING_BITS, OF_INTERRUPT = 10, 11, 12, 14
-# These are recorded although the context entry says that no faults are.
+# These are recorded although the context entry says that no faults are; that the last one is, is QEMU's answer.
 NEVER_QUIET = {NO_ROOT, NO_CONTEXT_TABLE, ROOT_BITS, CONTEXT_BITS}
 READ, WRITE, GREAT, QUIET = 1, 2, 1 << 7, 2
 HIGH_BITS = 0xF << 48 | 1 << 62
@@ -84,7 +84,7 @@ class Manual:
             shift = 3 + 9 * level
             found = self.read(table + 8 * (address >> shift & 511), 1)
             if found is None or found[0] == NOTHING:
-                # QEMU takes a number with all bits set for one that can't be read
+                # QEMU's answers: that all bits set are as what can't be read, and another reason of the highest table
                 return BAD_CONTEXT if level == 4 - first else NO_TABLE, None
             entry = found[0]
             if not entry & (WRITE if write else READ):
