@@ -20,7 +20,7 @@ LOW_END, HIGH = 2 * GIBIBYTE, 4 * GIBIBYTE
 SECONDS = 120
 # The unit's registers (VT-d, "Register Descriptions").
 UNIT = 0xFED9_0000
-CAPABILITY, COMMAND, STATUS, ROOT, CONTEXT_COMMAND, FAULT_STATUS, FLUSH = 0x08, 0x18, 0x1C, 0x20, 0x28, 0x34, 0xF8
+COMMAND, STATUS, ROOT, CONTEXT_COMMAND, FAULT_STATUS, FLUSH = 0x18, 0x1C, 0x20, 0x28, 0x34, 0xF8
 FAULT_ADDRESS, FAULT = 0x220, 0x228
 ENABLE, SET_ROOT = 1 << 31, 1 << 30
 FAULT_IS_THERE, FAULT_OF_READ = 1 << 63, 1 << 62
@@ -29,7 +29,7 @@ FROM, TO, COUNT, MOVE, BUFFER, MOST = 0x80, 0x88, 0x90, 0x98, 0x4_0000, 4095
 INWARD, OUTWARD = 1, 3
 FIRST_WINDOW = 0xC000_0000
 # Places of bus 0 that are the chipset's own.
-CHIPSET = {0, *range(31 * 8, 32 * 8)}
+CHIPSET = {*range(8), *range(31 * 8, 32 * 8)}
 
 
 @dataclass(frozen=True)
@@ -105,11 +105,10 @@ class Ram:
 class Bus:
     """QEMU with an `edu` at each of these sources. Used in a `with`, which ends it."""
 
-    def __init__(self, folder, sources, ram, options=()):
+    def __init__(self, folder, sources, ram):
         if any(source in CHIPSET for source in sources):
             raise Broken("a device of the chipset's own can't be asked")
-        self.folder, self.options = folder, list(options)
-        self.ram = Ram(folder / "ram", ram)
+        self.folder, self.ram = folder, Ram(folder / "ram", ram)
         self.windows, self.ports, self.process, self.line = {}, {}, None, None
         self.left, self.faulted = b"", False
         for source in sorted(sources):
@@ -131,13 +130,13 @@ class Bus:
             on = f"port{source >> 8}" if source >> 8 else "pcie.0"
             devices += ["-device", f"edu,bus={on},addr={source >> 3 & 31:x}.{source & 7},multifunction=on,"
                                    "dma_mask=0xffffffffffffffff"]
-        unit = ",".join(["intel-iommu,intremap=off,aw-bits=48", *self.options])
-        return [QEMU, "-nodefaults", "-no-user-config", "-display", "none", "-machine", "q35,memory-backend=ram,max-ram-below-4g=2G",
-                "-accel", "tcg", "-icount", "shift=0,sleep=off", "-cpu", "qemu64,vendor=GenuineIntel,phys-bits=46",
+        return [QEMU, "-nodefaults", "-no-user-config", "-display", "none",
+                "-machine", "q35,memory-backend=ram,max-ram-below-4g=2G", "-accel", "tcg",
+                "-icount", "shift=0,sleep=off", "-cpu", "qemu64,vendor=GenuineIntel,phys-bits=46",
                 "-m", f"{self.ram.size // MEBIBYTE}M", "-object",
                 f"memory-backend-file,id=ram,size={self.ram.size},mem-path={self.ram.path},share=on",
                 "-bios", str(self.folder / "rom"), "-qtest", f"unix:{self.folder / 'line'}", "-qtest-log", "none",
-                "-device", unit, *devices]
+                "-device", "intel-iommu,intremap=off,aw-bits=48", *devices]
 
     def __enter__(self):
         # CLI; HLT, and again
@@ -228,10 +227,6 @@ class Bus:
     def number(self, port, bus):
         """Gives the bus behind a port another number."""
         self.configure(self.ports[port], 0x18, bus << 16 | bus << 8)
-
-    def fields(self):
-        """What the unit says that it has (CAP and ECAP)."""
-        return self.ask(f"readq {UNIT + CAPABILITY:#x}", f"readq {UNIT + CAPABILITY + 8:#x}")
 
     def translate(self, base=None):
         """Turns translation on by the tables at a base, or off."""

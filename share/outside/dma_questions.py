@@ -260,7 +260,8 @@ def ask_policy(program, made, folder, words):
     with bus.Bus(folder, sources_of(made), bus.ram_bytes(made.spans())) as machine:
         asking = Asking(machine, made, draw)
         asking.lay()
-        asked = [one for source in machine.windows for one in accesses(made, source, draw, source in first, words.short)]
+        asked = [one for source in machine.windows
+                 for one in accesses(made, source, draw, source in first, words.short)]
         hold_against_run(asking, program, written(asking, asked), folder)
         # `run` drops a line whole where one of its pages is refused; a bus lets the other arrive
         for access in asked:

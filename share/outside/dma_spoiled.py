@@ -1,4 +1,4 @@
-"""The judge's own test of devices' access: one entry of the tables that QEMU gets is changed, and that has to be seen."""
+"""The judge's own test of devices' access: one entry of QEMU's tables is changed, and that has to be seen."""
 import pathlib
 import random
 import struct

@@ -144,9 +144,9 @@ def digests(program, image_bytes, dma, lines, folder):
     for name, content in (("changed", image_bytes), ("tables", dma), ("record", "".join(
             f"{line}\n" for line in [*lines, "end 1"]).encode())):
         (folder / name).write_bytes(content)
-    done = subprocess.run([str(program), "run", str(folder / "changed"), str(folder / "record"), str(folder / "tables")],
-                          capture_output=True, timeout=600)
+    words = [str(program), "run", *(str(folder / name) for name in ("changed", "record", "tables"))]
+    done = subprocess.run(words, capture_output=True, timeout=600)
     if done.returncode:
         raise Broken(f"run: {done.stderr.decode(errors='replace').strip()}")
-    words = [line.split(" ") for line in done.stdout.decode("ascii").splitlines()]
-    return {one[1]: one[2] for one in words if one[0] == "region"}
+    printed = [line.split(" ") for line in done.stdout.decode("ascii").splitlines()]
+    return {one[1]: one[2] for one in printed if one[0] == "region"}

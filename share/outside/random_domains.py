@@ -75,7 +75,7 @@ class Policy:
 
 
 def write(folder, seed, count, devices=None):
-    """Writes so many policies, of the seeds from this one on, and returns their paths; of 1 to 8 devices, or so many."""
+    """Writes so many policies, of these seeds and with 1 to 8 devices, or so many, and returns their paths."""
     paths = []
     for one in range(seed, seed + count):
         draw = random.Random(one)

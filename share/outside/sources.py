@@ -1,4 +1,4 @@
-"""Every source of buses 1 to 255: the number of a bus with devices goes from 1 to 255, until each function was there."""
+"""Every source of buses 1 to 255: the number of a bus goes from 1 to 255, with some of its devices after others."""
 import random
 
 import bus
@@ -15,6 +15,7 @@ def addresses(made, draw):
     anywhere = [window for windows in granted.values() for window in windows]
 
     def address(source):
+        """An address for a source."""
         window = draw.choice(granted.get(source) or anywhere)
         return window.address + 8 * draw.randrange(window.size // 8)
     return address
