@@ -11,6 +11,16 @@ import random_policies
 import spoiled
 
 
+def look_for_programs():
+    """Ends in Lacking where a program isn't there."""
+    emulator.look_for_programs()
+
+
+def examples(folder):
+    """The policies of a folder."""
+    return sorted(map(str, folder.glob("*.json")))
+
+
 def line_of(name, asked, counts):
     """A line of counts."""
     known = [f"{count} {word}" for word, count in sorted(counts.known.items())]
