@@ -1,13 +1,11 @@
 """What the checks of share/check have in common: tests of rows, what they need, calls of the programs and of share/look, and what is wanted."""
-import contextlib
 import functools
-import io
 import pathlib
 import re
 import subprocess
 import unittest
 
-import looking.main
+from looking.main import said
 
 # by this name unittest leaves the lines of this file out of what it shows of a failure
 __unittest = True
@@ -43,13 +41,6 @@ def want(found, wanted, what):
 def call(words, folder=EXAMPLES, **how):
     """What became of a call, with its streams as bytes."""
     return subprocess.run(list(map(str, words)), cwd=folder, capture_output=True, timeout=120, check=False, **how)
-
-
-def said(*words):
-    """The status of a form of share/look, and what it prints on both streams, without a process of its own."""
-    with contextlib.redirect_stdout(io.StringIO()) as out, contextlib.redirect_stderr(out):
-        status = looking.main.main(list(map(str, words)))
-    return status, out.getvalue()
 
 
 def looked(*words):

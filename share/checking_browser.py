@@ -37,6 +37,12 @@ class Browser:
             self.call(f"{name}.enable")
         self.size(wide, high)
 
+    def __enter__(self):
+        return self
+
+    def __exit__(self, *_):
+        self.close()
+
     def close(self):
         """Ends it."""
         self.process.terminate()
@@ -138,3 +144,24 @@ class Browser:
                          " return [box.x + scrollX, box.y + scrollY, box.width, box.height]; })()")
         clip = dict(zip(("x", "y", "width", "height"), box), scale=1)
         return base64.b64decode(self.call("Page.captureScreenshot", format="png", clip=clip, captureBeyondViewport=True)["data"])
+
+    def window(self):
+        """A picture of what the window shows, as PNG."""
+        return base64.b64decode(self.call("Page.captureScreenshot", format="png")["data"])
+
+    def different(self, one, other):
+        """Of two pictures as PNG the part of their squares of eight by eight pixels that are clearly of another colour; 1 where sizes differ."""
+        texts = json.dumps([base64.b64encode(content).decode() for content in (one, other)])
+        return self.value(f"""(async () => {{
+            const pictures = await Promise.all({texts}.map(text => createImageBitmap(new Blob([Uint8Array.from(atob(text), letter => letter.charCodeAt(0))]))));
+            const [wide, high] = ["width", "height"].map(side => pictures[0][side]), squares = Math.floor(wide / 8) * Math.floor(high / 8);
+            if (pictures[1].width !== wide || pictures[1].height !== high) return 1;
+            const [first, second] = pictures.map(picture => {{
+              const pen = new OffscreenCanvas(wide / 8, high / 8).getContext("2d");
+              pen.imageSmoothingQuality = "high";
+              pen.drawImage(picture, 0, 0, wide / 8, high / 8);
+              return pen.getImageData(0, 0, wide / 8, high / 8).data;
+            }});
+            let count = 0;
+            for (let at = 0; at < 4 * squares; at += 4) if ([0, 1, 2].some(part => Math.abs(first[at + part] - second[at + part]) > 40)) count++;
+            return count / squares; }})()""")

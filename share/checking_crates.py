@@ -6,6 +6,10 @@ from checking import TOP, Case, each, want
 from crate_list import below, count_line, crates, readme
 
 
+# what has to be read for all clauses of muen, and for `boots`, in lines: share/footprint
+MOST_LINES = (5324, 2316)
+
+
 class Crates(Case):
     """crates.txt, the rooms of docs/architecture.md, and the READMEs of crates."""
 
@@ -46,6 +50,24 @@ class Crates(Case):
         """No statement is proved in several files, and no definition stands twice, but for those that share/twins has a reason for."""
         told = subprocess.run([TOP / "share" / "twins"], cwd=TOP, capture_output=True, text=True, check=True).stdout
         self.want(told, "0 statements in several files (0 copies), 0 definitions\n", "what share/twins tells")
+
+    def test_footprint(self):
+        """The lines of definitions under all clauses of muen, and under `boots`, only fall."""
+        told = self.footprint()
+        found = [int(lines) for lines in re.findall(r"(\d+) lines", told)]
+        self.want([most for most, lines in zip(MOST_LINES, found, strict=True) if lines > most], [], f"what is exceeded by {told}")
+
+    def test_reading_order(self):
+        """docs/definitions.md tells the lines that each step of its reading order adds, and those of all."""
+        text = (TOP / "docs" / "definitions.md").read_text(encoding="utf-8")
+        rows = re.findall(r"(?m)^\| \d+ \| `([^`]+)` \| .* \| (\d+) \|$", text)
+        self.want(self.footprint("--in-turn", *(word for word, _ in rows)), "".join(f"{int(lines):4} {word}\n" for word, lines in rows), "what share/footprint --in-turn tells")
+        told = re.search(r"rest on ([\d,]+) lines, `boots` on ([\d,]+)", text).groups()
+        self.want([int(number.replace(",", "")) for number in told], [int(lines) for lines in re.findall(r"(\d+) lines", self.footprint())], "the lines under all clauses, and under boots")
+
+    def footprint(self, *words):
+        """What share/footprint tells."""
+        return subprocess.run([TOP / "share" / "footprint", *words], cwd=TOP, capture_output=True, text=True, check=True).stdout
 
     @each((f"how many crates stand on {name}", name) for name in crates())
     def test_count(self, name):

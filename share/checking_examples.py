@@ -1,6 +1,8 @@
 """What examples/ and the documents on them promise: everything has an example, and what is quoted is printed, or stands in a source."""
 import json
 import re
+import shutil
+import unittest
 
 from checking import EXAMPLES, PROGRAM, TOP, Case, call, each, want, with_program
 from looking.guest import TABLE, decode
@@ -102,6 +104,18 @@ class Everything(Case):
         """Each rule refuses some policy."""
         found = [int(rule) for cells in rows() for rule in re.findall(r"^`muen: rule (\d+):", cells[-1])]
         self.all_of(range(1, RULES + 1), found, "rules without a refusal")
+
+
+class Expanded(Case):
+    """Policies by jsonnet."""
+
+    @unittest.skipUnless(shutil.which("jsonnet"), "jsonnet isn't there")
+    @each((f"examples/{file.name}", file) for file in sorted(EXAMPLES.glob("*.jsonnet")))
+    def test_expanded(self, file):
+        """Expanded, it is the plain policy of its name."""
+        done = call(["jsonnet", file])
+        want((done.returncode, done.stderr), (0, b""), "the status and errors of jsonnet")
+        want(json.loads(done.stdout), json.loads(file.with_suffix(".json").read_text(encoding="utf-8")), "the policy")
 
 
 # ---- what documents quote

@@ -1,10 +1,10 @@
-"""The checks of what share/look tells of policies: refusals explained, faults found at once, ways."""
+"""The checks of what share/look tells of policies: refusals explained, faults found at once, ways, names for assembly."""
 import json
 import pathlib
 import re
 import tempfile
 
-from checking import EXAMPLES, PROGRAM, TOP, Case, call, each, said, want, with_program
+from checking import ASSEMBLER_PROGRAM, EXAMPLES, PROGRAM, TOP, Case, call, each, looked, said, want, with_assembler, with_program
 from checking_examples import REFUSED, RUNNING
 from checking_rules import POLICY, ROWS, changed
 
@@ -282,3 +282,141 @@ class Claims(Case):
             self.want(told_by_look("ways", image, "--dma", tables, "--claims", file), told_by_look("ways", self.GATEWAY, "--claims", file), "of both")
             self.want(told_by_look("ways", image, "--claims", file),
                       (1, [f"look: {image}: what its devices write by themselves isn't known without --dma"]), "without tables")
+
+
+# of subjects of the policy of docs/rules.md their constants, but for the size and the end of windows
+NAMES = {
+    "a": {"entry": 0x400000, "code": 0x400000, "board": 0x500000, "pick": 0x510000, "log": 0x600000, "net.ring": 0x700000, "b.state": 0x800000, "b.state.entry": 0x400000,
+          "net.regs": 768, "net.regs.last": 783, "net.rx.vector": 42, "net.rx.handler": 336, "dnet.buf": 0x1000,
+          "msr.c0000080": 0xc0000080, "msr.c0000081": 0xc0000081, "msr.c0000082": 0xc0000082, "turn.call": 2, "tell.vector": 41, "tell.handler": 328},
+    "b": {"entry": 0x400000, "board": 0x500000, "text": 0x400000, "store": 0x600000, "in": 0x700000, "in.vector": 40, "in.handler": 320},
+    "c": {"entry": 0x400000, "code": 0x400000, "job": 0x600000, "job.call": 1, "log": 0x610000, "tell.call": 2}}
+# what is changed in that policy, and which constants of a subject are others then
+RENAMED = [
+    ("a second window", "a", {"/subjects/0/memory/3": {"region": "pick", "virtualAddress": 0x520000, "rights": "r"}}, {"pick.2": 0x520000}),
+    ("a second call", "a", {"/subjects/0/sources/1": {"event": "turn", "call": 9}}, {"turn.2.call": 9}),
+    ("another spelling", "c", {"/channels/0/name": "1.lo-g", "/subjects/0/channels/0/channel": "1.lo-g", "/subjects/2/channels/1/channel": "1.lo-g"},
+     {"_1.lo_g": 0x610000, "log": None}),
+    ("an event of two names", "a", {"/events/1/name": "turn.2", "/subjects/0/targets/0/event": "turn.2", "/subjects/2/sources/0/event": "turn.2"},
+     {"turn.2.vector": 41, "turn.2.handler": 328, "tell.vector": None, "tell.handler": None}),
+]
+# what can't have names, and the line that says so
+UNNAMED = [
+    ("a", {"/memory/0/name": "entry", "/subjects/0/memory/0/region": "entry", "/subjects/2/memory/0/region": "entry"},
+     "entry would be the entry, and the region entry: one of them wants another name"),
+    ("c", {"/channels/0/name": "job.size", "/subjects/0/channels/0/channel": "job.size", "/subjects/2/channels/1/channel": "job.size"},
+     "job.size would be the channel job, and the channel job.size: one of them wants another name"),
+    ("a", {"/devices/0/ioPorts/0/name": "ring", "/subjects/0/devices/0/ioPorts/0": "ring"},
+     "net.ring would be the memory ring of net, and the ports ring of net: one of them wants another name"),
+    ("c", {"/events/1/name": "job", "/subjects/0/targets/0/event": "job", "/subjects/2/sources/0/event": "job"},
+     "job.call would be the channel job, and the call of the event job: one of them wants another name"),
+    ("a", {"/devices/0/name": 60 * "n", "/subjects/0/devices/0/device": 60 * "n", "/deviceDomains/0/devices/0": 60 * "n"},
+     f"{60 * 'n'}.ring has 65 characters, and a name in assembly at most 63"),
+    ("nobody", {}, "no subject is nobody; there are a, b, c"),
+    ("a", {"/subjects/0/cpu": 9}, "rule 3: a a: the CPUs are 0 to 1"),
+]
+
+
+class Names(Case):
+    """`look names`: the constants of subjects."""
+
+    LINE = re.compile(r"(\S+) = (\S+) +; \S.*")
+
+    def constants(self, policy, subject):
+        """The constants that are printed, by their names."""
+        head, *lines = looked("names", policy, subject).splitlines()
+        want(head, f"; the constants of {subject}, by share/look names", "the first line")
+        found = {name: int(value, 0) for name, value in (self.LINE.fullmatch(line).groups() for line in lines)}
+        want(len(found), len(lines), "how many names there are")
+        return found
+
+    def of_changed(self, changes, check):
+        """A check of the policy of docs/rules.md with these values elsewhere."""
+        policy = POLICY
+        for at, value in changes.items():
+            policy = changed(policy, at, value)
+        with tempfile.TemporaryDirectory() as folder:
+            file = pathlib.Path(folder, "policy.json")
+            file.write_text(policy, encoding="utf-8")
+            return check(file)
+
+    @with_program
+    @each((f"look names of examples/{name}", name) for name in RUNNING)
+    def test_windows(self, name):
+        """Each window that `map` prints has a name for its address, its size and its end."""
+        printed = [words.split() for words in call([PROGRAM, "map", name]).stdout.decode().splitlines()]
+        for subject in {words[1] for words in printed if words[0] == "window"}:
+            found = self.constants(EXAMPLES / name, subject)
+            domains = tuple(f"{domain['name']}." for domain in json.loads((EXAMPLES / name).read_text(encoding="utf-8")).get("deviceDomains", []))
+            named = sorted((found[one.removesuffix(".size")], size, found[f"{one.removesuffix('.size')}.end"])
+                           for one, size in found.items() if one.endswith(".size") and not one.startswith(domains))
+            places = sorted((int(words[2], 16), int(words[3], 16)) for words in printed if words[:2] == ["window", subject])
+            self.want(named, [(place, size, place + size) for place, size in places], f"the windows of {subject}")
+
+    @with_assembler
+    @each((f"muen_asm on the constants of examples/{name}", name) for name in RUNNING)
+    def test_assembled(self, name):
+        """They are assembly, which gives each name its number."""
+        for subject in json.loads((EXAMPLES / name).read_text(encoding="utf-8"))["subjects"]:
+            found = self.constants(EXAMPLES / name, subject["name"])
+            text = looked("names", EXAMPLES / name, subject["name"]) + "".join(f".u64 {one}\n" for one in found)
+            self.want(self.assembled(text), b"".join(value.to_bytes(8, "little") for value in found.values()).hex(), subject["name"])
+
+    @with_assembler
+    @each((f"{source} of the two-way gateway by the constants of {one} and {other}", one, other, source) for one, other, source in
+          [("red", "black", "nic_text"), ("encrypt", "decrypt", "crypt_text")])
+    def test_source(self, one, other, source):
+        """A source gives the same bytes behind the constants of each who runs it, and behind those that all have."""
+        policy, text = EXAMPLES / "two_way_gateway.json", (EXAMPLES / "two_way_gateway" / f"{source}.asm").read_text(encoding="ascii")
+        found = [self.constants(policy, subject) for subject in (one, other)]
+        common = looked("names", policy, one, other)
+        self.want({line.split()[0] for line in common.splitlines()[1:]}, {name for name, number in found[0].items() if found[1].get(name) == number}, "what both have")
+        self.want(len({self.assembled(names + text) for names in (looked("names", policy, one), looked("names", policy, other), common)}), 1, "how many bytes there are")
+
+    @with_assembler
+    def test_file_of_names(self):
+        """A file of names before a source is as both in one, and a fault is told of its file."""
+        with tempfile.TemporaryDirectory() as folder:
+            names, source, whole = (pathlib.Path(folder, part) for part in ("names", "source", "whole"))
+            names.write_text(looked("names", EXAMPLES / "gateway.json", "black").rstrip("\n"), encoding="ascii")
+            source.write_text("\nLI r1, sealed\n", encoding="ascii")
+            whole.write_text(f"{names.read_text(encoding='ascii')}\n{source.read_text(encoding='ascii')}", encoding="ascii")
+            self.want(call([ASSEMBLER_PROGRAM, "hex", names, source]).stdout, call([ASSEMBLER_PROGRAM, "hex", whole]).stdout, "the bytes")
+            source.write_text("\nLI r1, selaed\n", encoding="ascii")
+            self.want(call([ASSEMBLER_PROGRAM, "hex", names, source]).stderr.decode(), f"muen_asm: file {source}, line 2, column 8: no such name\n", "a fault of the source")
+            names.write_text("k = 1\nk = 2", encoding="ascii")
+            self.want(call([ASSEMBLER_PROGRAM, "hex", names, source]).stderr.decode(), f"muen_asm: file {names}, line 2, column 1: the name stands before\n", "one of the names")
+
+    def test_quoted(self):
+        """What docs/guests.md quotes is printed."""
+        quoted = re.search(r"\$ share/look names examples/(\S+) (\S+) .*\n((?:in.*\n)+)```", (TOP / "docs" / "guests.md").read_text(encoding="utf-8"))
+        want(re.findall(r"(?m)^in\b.*\n", looked("names", EXAMPLES / quoted[1], quoted[2])), quoted[3].splitlines(True), "the lines")
+
+    def assembled(self, text):
+        """The hexadecimal digits of a source's bytes."""
+        with tempfile.TemporaryDirectory() as folder:
+            file = pathlib.Path(folder, "source.asm")
+            file.write_text(text, encoding="ascii")
+            done = call([ASSEMBLER_PROGRAM, "hex", file])
+        want((done.returncode, done.stderr), (0, b""), "muen_asm")
+        return done.stdout.decode().strip()
+
+    @each((f"look names of {subject} of docs/rules.md", subject, values) for subject, values in NAMES.items())
+    def test_rules(self, subject, values):
+        """All that a subject has, in its order, and nothing else."""
+        found = self.of_changed({}, lambda file: self.constants(file, subject))
+        want([one for one in found if not one.endswith((".size", ".end"))], list(values), "the names in their order")
+        self.want({one: found[one] for one in values}, values, "the numbers")
+
+    @each((f"look names, {what}", subject, changes, others) for what, subject, changes, others in RENAMED)
+    def test_renamed(self, subject, changes, others):
+        """What would have one name, or isn't spelled as names are, is told apart."""
+        found = self.of_changed(changes, lambda file: self.constants(file, subject))
+        wanted = {name: value for name, value in {**NAMES[subject], **others}.items() if value is not None}
+        want({one: value for one, value in found.items() if not one.endswith((".size", ".end"))}, wanted, "the constants")
+
+    @each((f"look names: {line}", subject, changes, line) for subject, changes, line in UNNAMED)
+    def test_unnamed(self, subject, changes, line):
+        """One line says why there are none, behind the place of a fault of the policy."""
+        status, lines = self.of_changed(changes, lambda file: told_by_look("names", file, subject))
+        want((status, [re.sub(r"\S+:\d+:\d+: ", "", one) for one in lines]), (1, [f"look: {line}"]), "status and lines")

@@ -81,6 +81,11 @@ def number(value):
     return value if isinstance(value, int) else int(value[3:-1].replace("_", ""), 16)
 
 
+def both(value):
+    """A number as titles have it: in hexadecimal, and behind that in decimal where it looks otherwise."""
+    return f"{value:x}" if value < 10 else f"{value:x} ({value})"
+
+
 def named(items, name):
     """The item of this name."""
     return next(item for item in items if item["name"] == name)
@@ -195,11 +200,15 @@ def trace_between(built, told, begin, end, words):
     """The cells and arrows of these ticks."""
     seen = Seen(looked("draw", "trace", built.image, built.text, *words))
     lines = {title: line for line, title in zip(built.lines, told) if begin <= int(line.split()[0]) < end}
-    cells = [(element, title) for element, title in seen.titled("rect") if re.match(r"\d+ \d ", title)]
-    want(Counter(title for _, title in cells), Counter(lines.keys()), "the cells")
+    cells = [(element, *title.partition("\n")[::2]) for element, title in seen.titled("rect") if re.match(r"\d+ \d ", title)]
+    want(Counter(title for _, title, _ in cells), Counter(lines.keys()), "the cells")
+    for _, title, decimal in cells:
+        values = dict(re.findall(r"(\w+) is (\d+)", decimal))
+        want({one: str(int(one, 16)) for one in values}, values, f"numbers in decimal: {title}")
+        want({one for one in re.findall(r"(?:0x|= )([0-9a-f]+)\b", title) if int(one, 16) > 9} - set(values), set(), f"numbers without decimal: {title}")
     seen.names(subject["name"] for subject in built.document["subjects"])
     at, colours = tick_places(seen), legend(seen)
-    for element, title in cells:
+    for element, title, _ in cells:
         is_cell(seen, element, lines[title], at, colours)
     # where one letter has room, all have
     letters = Counter(LETTERS[kind] for kind in map(kind_of, lines.values()) if kind in LETTERS)
@@ -267,6 +276,9 @@ def gateway_arrows(case, built):
     arrows = [f"arrow of tick {begin} to tick {end}" for begin, end in ((27, 34), (39, 40), (45, 46))]
     case.want([title for _, title in seen.titled("path")], arrows, "arrows")
     case.want([text.words for text in seen.texts if text.size == 8], ["5", "5", "5"], "the outputs in front of tick 60")
+    later = Seen(looked("draw", "trace", built.image, built.text, "--until", 150))
+    case.want({text.whole for text in later.texts if text.size == 8 and len(text.words) > 1},
+              {"11 is 17", "16 is 22", "18 is 24", "1e is 30"}, "outputs in decimal")
     sums = Counter()
     for element, title in Seen(looked("draw", "trace", built.image, built.text, "--until", 5000)).titled("rect"):
         subject, count, kind = re.fullmatch(r"ticks \d+ to \d+ of (\S+): (\d+) (.*)", title).groups()
@@ -388,8 +400,9 @@ def matrix(case, built):
 def matrix_of(built, regions, words, domain_name):
     """The cells, names and places of one of them."""
     seen = Seen(looked("draw", "matrix", *words))
+    want(seen.titles[0], f"who sees what of {words[0].name}", "the title")
     cells = seen.titled("rect")
-    windows = [f"{subject} sees {shown} at {int(place, 16):x}, {rights}" for subject, place, _, rights, shown in built.mapped("window")]
+    windows = [f"{subject} sees {shown} at {both(int(place, 16))}, {rights}" for subject, place, _, rights, shown in built.mapped("window")]
     want(Counter(title for _, title in cells), Counter([*windows, *granted(built.document, domain_name)]), "the cells")
     seen.names(subject["name"] for subject in built.document["subjects"])
     # the kernel's pages are left out, but for states that are monitored
@@ -397,6 +410,7 @@ def matrix_of(built, regions, words, domain_name):
     seen.names(shown)
     for name in shown if words is built.sound else ():
         want(any(fact.startswith(f"{regions[name]:x}, ") for row in seen.rows() if name in row for fact in row), True, f"the place of {name}")
+        want(any(title.startswith(f"{both(regions[name])}, ") for title in seen.titles), True, f"the place of {name} in decimal")
     are_cells(seen, [(re.match(r"(.*) sees (\S+) at ", title), element) for element, title in cells])
 
 
@@ -419,16 +433,16 @@ def granted(document, domain_name):
             device = named(document["devices"], use["device"])
             for name in use.get("ioPorts", []):
                 first, last = (number(named(device["ioPorts"], name)[key]) for key in ("start", "end"))
-                yield f"{subject['name']} has {device['name']}: ports {first:x} to {last:x}"
+                yield f"{subject['name']} has {device['name']}: {f'port {both(first)}' if first == last else f'ports {both(first)} to {both(last)}'}"
             for irq in use.get("irqs", []):
                 yield f"{subject['name']} has {irq['irq']} of {device['name']}, vector {irq['vector']}"
         for msrs in subject.get("msrs", []):
             start, end = number(msrs["start"]), number(msrs["end"])
-            yield f"{subject['name']} has {f'MSR {start:x}' if start == end else f'MSRs {start:x} to {end:x}'}, {msrs['rights']}"
+            yield f"{subject['name']} has {f'MSR {both(start)}' if start == end else f'MSRs {both(start)} to {both(end)}'}, {msrs['rights']}"
     for at, domain in enumerate(document.get("deviceDomains", [])):
         for entry in domain.get("memory", []):
             yield (f"{', '.join(sorted(domain['devices']))} in domain {domain_name(at, domain)} sees {entry['region']}"
-                   f" at {number(entry['virtualAddress']):x}, {entry['rights']}")
+                   f" at {both(number(entry['virtualAddress']))}, {entry['rights']}")
 
 
 def same_scene(case, built):
@@ -520,6 +534,7 @@ def gateway_flows(case):
     case.want(list(arrows_of(text)), [
         *((name, "cipher", "channel", [f"{channel}: call 1, {mode}, vector {vector}"]) for name, channel, vector, mode in channels),
         ("cipher", "black", "channel", ["sealed: call 1, asap, vector 40"]), ("black", "device net", "device", net), ("device net", "black", "device", net)], "the arrows")
+    case.want('tooltip="ports 300 to 30f, rx, vector 43; 300 is 768, 30f is 783"' in text, True, "ports in decimal")
     few = looked("draw", "flows", EXAMPLES / "gateway.json", "--text", "--without", "cipher", "--without", "net")
     case.want((list(arrows_of(few)), "cipher" in few, '"black"' in few), ([], False, True), "without cipher and net")
     folded = looked("draw", "flows", EXAMPLES / "gateway.json", "--text", "--fold")
@@ -599,13 +614,13 @@ def memory(case, built):
         row = next((row for row in physical if row[0] <= place and place + size <= row[1]), None)
         case.want(row is not None and (row[2] == name or name in row[3]), True, f"the row of {name}")
     case.want(physical, sorted(physical), "the order of rows")
-    gaps = {f"{one[1]:x} to {other[0] - 1:x}" for one, other in zip(physical, physical[1:]) if one[1] < other[0]}
+    gaps = {f"{both(one[1])} to {both(other[0] - 1)}" for one, other in zip(physical, physical[1:]) if one[1] < other[0]}
     case.want(gaps - {title.split(",")[0] for title in seen.titles if title.endswith(": gap")}, set(), "the gaps")
     policy = Seen(looked("draw", "memory", built.policy))
     case.want(len(policy.titled("rect")), sum(windows.values()), "the rows of a policy")
 
 
-ROW = re.compile(r"([0-9a-f]+) to ([0-9a-f]+), [^:]*?: (.*?)(?:, (.*))?")
+ROW = re.compile(r"([0-9a-f]+)(?: \(\d+\))? to ([0-9a-f]+)(?: \(\d+\))?, [^:]*?: (.*?)(?:, (.*))?")
 
 
 def region_size(document, name):
@@ -653,7 +668,7 @@ def faults(case):
 FURTHER = {"gateway": ("plan", "matrix", "flows"), "two_subjects": ("plan",), "major_frames": ("plan",), "second_member": ("plan",),
            "private_memory": ("matrix",), "shared_memory": ("flows",), "frame_choice": ("plan",), "device_domains": ("matrix",),
            "packet_ring": ("flows",), "monitor": ("matrix",), "network_in": ("matrix",), "msrs_of_two": ("matrix",),
-           "handover": ("plan",), "two_way_gateway": ("plan", "matrix", "flows", "memory")}
+           "handover": ("plan",), "two_way_gateway": ("plan", "matrix", "flows", "memory"), "joined_gateways": ("matrix",)}
 
 
 def pictures_of(name):
@@ -682,7 +697,7 @@ def stored(case, name, picture):
     def same(built):
         """Drawn anew."""
         drawn, there = now(built, picture), file.read_text(encoding="ascii")
-        want(len(there) < 60_000, True, "it is small")
+        want(len(there) < 70_000, True, "it is small")
         if picture == "flows":
             drawn, there = ((sorted(text.words for text in seen.texts), sorted(seen.titles)) for seen in map(Seen, (drawn, there)))
         want(drawn == there, True, "it is what share/draw-pictures draws")

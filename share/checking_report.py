@@ -9,18 +9,20 @@ import sys
 import tempfile
 import unittest
 import zlib
+from collections import Counter
 from html import unescape
 
 import checking_browser
 import checking_ring
-from checking import EXAMPLES, LOOK, NO_DOT, PROGRAM, Case, call, each, looked, said, want, with_program
-from checking_pictures import Seen, kind_of
+from checking import EXAMPLES, LOOK, NO_DOT, PROGRAM, TOP, Case, call, each, looked, said, want, with_program
+from checking_pictures import Seen, both, kind_of
 from looking.draw_trace import KINDS
 
 with_browser = unittest.skipUnless(checking_browser.PROGRAM, "chromium isn't there")
 SECTIONS = ["timeline", "memory", "matrix", "flows", "plan", "map", "closed", "lint", "verify", "image"]
 TICKS = 20_000
 PAGES = ("two_way_gateway", "packet_ring", "gateway", "ring")
+README_PICTURE = TOP / "docs" / "report.png"
 # that the pages were made once, by their names
 MADE = {}
 
@@ -67,6 +69,16 @@ def made(name):
     if name not in MADE:
         MADE[name] = Made(name, FOLDER.name)
     return MADE[name]
+
+
+def readme_picture(browser, page):
+    """The picture of README, of a page of the two-way gateway without its words on keys: the turns from tick 86 on, of which a store of
+    guard's is chosen."""
+    browser.look()
+    browser.open(page.file)
+    turn = next(row for row, line in enumerate(page.turns) if line.startswith("189 1 guard "))
+    browser.value(f"void (document.querySelector('#timeline > p').hidden = true, stepper.timeline.first = 86, stepper.choose({turn}))")
+    return browser.window()
 
 
 FOLDER = None
@@ -145,6 +157,37 @@ class Held(Case):
             number, text = re.match(r"black_code\.asm:(\d+): (.*)", line).groups()
             self.want(source[int(number) - 1].split(";")[0].strip(), text, line)
 
+    @each((f"who reads what devices write, on the page of {name}", name) for name in ("two_way_gateway", "packet_ring"))
+    def test_reads(self, name):
+        """From each line `dma` an arrow leads to each subject's first load from what it wrote, before that is stored over."""
+        page, found = made(name), {}
+        written = [(at, one[0], *re.search(r" = (\w+) into (\S+)[+](\w+)$", one[3]).groups()) for at, one in enumerate(page.data["inputs"])
+                   if one[1] == "dma" and " into " in one[3]]
+        want(len(written) > 1, True, "lines that write")
+        for row, (tick, who, what) in enumerate(zip(*map(page.column, ("tick", "who", "what")))):
+            if load := re.search(r" from (\S+)[+](\w+)$", what):
+                over = [at for at, when, digits, region, offset in written if when <= tick and region == load[1]
+                        and int(offset, 16) <= int(load[2], 16) < int(offset, 16) + len(digits) // 2]
+                if over:
+                    found.setdefault((over[-1], who), row)
+        want([tuple(one) for one in page.data["reads"]], sorted(((at, row) for (at, _), row in found.items()), key=lambda one: one[1]), "the arrows")
+        want(len(found) > 1, True, "how many there are")
+
+    @each((f"numbers of the image on the page of {name}", name) for name in PAGES)
+    def test_numbers(self, name):
+        """Each address of a window and of a region in what the page tells of the image is marked as a number, and no name or decimal number is."""
+        page = made(name)
+        section = re.search(r'<section id="image">.*?</section>', page.page, re.S)[0]
+        marked = re.sub(r'<span class="number mono">(.*?)</span>', r"#\1", section)
+        for kind, words in (("window", 4), ("region", 3)):
+            for line in (line for line in page.printed("map") if line[0] == kind):
+                place, size = (f"{int(one, 16):x}" for one in line[words - 2:words])
+                shown = f"window #{place} #{size} " if kind == "window" else f"#{int(line[1], 16):x} "
+                self.want(shown in marked, True, " ".join(line))
+        self.want(re.findall(r"(?:CPU|number|group|vector|call|trap|level) #", marked), [], "decimal numbers")
+        self.want(re.findall(r"(?:from|starts at|ports?|MSRs?) [0-9a-f]+\b(?!\|)", marked), [], "numbers that aren't marked")
+        self.want(set(re.findall(r"#(\w+)", marked)) & {one["name"] for one in page.data["subjects"]}, set(), "names")
+
     def test_dropped(self):
         """A line of direct memory access that leads nowhere is told as dropped; and of one that a subject stores over in a later tick
         memory has the store."""
@@ -159,8 +202,9 @@ class Held(Case):
             record.write_text("dma 0 nic 4104 0700\ndma 1 nic 8191 0707\nend 8\n", encoding="ascii")
             page = looked("report", policy, "--record", record)
         data = json.loads(zlib.decompress(base64.b64decode(re.search(r'id="data">([^<]*)<', page)[1])))
-        want(data["inputs"], [[0, "dma", "nic", "dma at 1008 = 0700 into buf+8"], [1, "dma", "nic", "dma at 1fff = 0707: dropped, 2000 leads nowhere"]],
-             "the inputs")
+        want(data["inputs"], [[0, "dma", "nic", "dma at 1008 = 0700 into buf+8", "1008 is 4104"],
+                              [1, "dma", "nic", "dma at 1fff = 0707: dropped, 2000 leads nowhere", "1fff is 8191, 2000 is 8192"]], "the inputs")
+        want(data["reads"], [], "nobody reads what is written")
         want("digests are those that muen printed" in page, True, "the digests")
 
     def test_marked(self):
@@ -197,13 +241,27 @@ class Held(Case):
     def test_large(self):
         """Pictures of 32 subjects on 8 CPUs fit into a page of 830 pixels, with the names of all."""
         policy = made("ring").policy
-        for picture, *words in (("plan",), ("memory",), ("flows", "--fold")):
+        for picture, *words in (("plan",), ("memory",), ("matrix",), ("flows", "--fold")):
             with self.subTest(picture):
                 if picture == "flows" and not shutil.which("dot"):
                     self.skipTest(NO_DOT)
                 seen = Seen(looked("draw", picture, policy, *words))
                 seen.names(f"s{at}" for at in range(32))
                 want(float(seen.root.get("viewBox").split()[2]) <= 830, True, f"it is narrow: {seen.root.get('viewBox')}")
+
+    def test_parts(self):
+        """The matrix of 32 subjects has a cell for each window of `map`, in parts: a column for each subject, below its CPU, and in each
+        row of a part some cell; `--whole` has the same cells in one."""
+        page = made("ring")
+        windows = Counter(f"{who} sees {shown} at {both(int(place, 16))}, {rights}" for _, who, place, _, rights, shown
+                          in (words for words in page.printed("map") if words[0] == "window"))
+        for words, is_narrow in (([], True), (["--whole"], False)):
+            seen = Seen(looked("draw", "matrix", page.policy, *words))
+            names = Counter(text.words for text in seen.texts)
+            cells = Counter(title for _, title in seen.titled("rect") if " sees " in title)
+            self.want((cells, names["code"] > 1), (windows, is_narrow), "the cells")
+            self.want([at for at in range(32) if names[f"s{at}"] != 1] + [at for at in range(8) if names[f"CPU {at}"] != 1], [], "the columns")
+            self.want(float(seen.root.get("viewBox").split()[2]) <= 830, is_narrow, "whether it is narrow")
 
     def test_without_record(self):
         """Without a record there is no run on the page."""
@@ -232,6 +290,14 @@ class Shown(Case):
         want(self.browser.said, [], "what the browser says")
         return page, self.browser
 
+    def test_readme(self):
+        """README's picture is what share/draw-pictures makes, but for how letters are drawn."""
+        with checking_browser.Browser(1200, 800) as browser:
+            drawn = readme_picture(browser, made("two_way_gateway"))
+            browser.key("ArrowRight")
+            stored, other = (browser.different(one, drawn) for one in (README_PICTURE.read_bytes(), browser.window()))
+        self.want((stored < .002, other >= .002), (True, True), f"what differs: {stored}, and of another turn {other}")
+
     @each((f"the page of {name} in a browser", name) for name in PAGES)
     def test_sections(self, name):
         """Each section is there with what it has to show, in light and dark; nothing is wider than the window; and it prints."""
@@ -247,7 +313,7 @@ class Shown(Case):
         for selector, count in counts.items():
             self.want(browser.value(f"document.querySelectorAll({json.dumps(selector)}).length"), count, selector)
         cells = browser.value("[...document.querySelectorAll('#matrix rect[data-thing] title')].map(one => one.textContent)")
-        self.want({f"{who} sees {shown} at {int(place, 16):x}, {rights}" for _, who, place, _, rights, shown in windows} - set(cells), set(), "the matrix")
+        self.want({f"{who} sees {shown} at {both(int(place, 16))}, {rights}" for _, who, place, _, rights, shown in windows} - set(cells), set(), "the matrix")
         for where in ("#map", "#plan", "#flows", "#closed", "#image"):
             text = browser.value(f"document.querySelector('{where}').textContent")
             self.want([one["name"] for one in page.data["subjects"] if one["name"] not in text], [], f"names in {where}")
@@ -341,6 +407,47 @@ class Shown(Case):
             browser.click(*browser.middle("#fold"))
             self.want(browser.value("[document.querySelector('#flows .whole').offsetHeight > 0, document.querySelector('#flows .folded').offsetHeight > 0]"),
                       [False, True], "folded")
+
+    def test_sums(self):
+        """Where turns are summed up, halts and outputs are hatched, and so no bar of theirs is higher than two pixels without a line; others are."""
+        page, browser = self.opened("gateway")
+        browser.value("void stepper.timeline.zoom(0)")
+        runs = browser.value("""(() => { const one = stepper.timeline, found = {};
+            const { data, width, height } = one.pen.getImageData(0, 0, one.canvas.width, one.canvas.height);
+            for (let x = 0; x < width; x++) {
+              let before = "", high = 0;
+              for (let y = 0; y < height; y++) {
+                const at = 4 * (y * width + x), colour = [0, 1, 2].map(part => data[at + part].toString(16).padStart(2, "0")).join("");
+                high = colour === before ? high + 1 : 1;
+                before = colour;
+                found[colour] = Math.max(found[colour] || 0, high);
+              }
+            }
+            return found; })()""")
+        highest = {kind: runs.get(colour[1:], 0) for kind, _, colour, _ in page.data["kinds"]}
+        self.want({kind: 0 < highest[kind] <= 2 for kind in ("halt", "output")}, {"halt": True, "output": True}, f"hatched: {highest}")
+        self.want(highest["instruction"] > 4, True, f"not hatched: {highest}")
+
+    def test_decimal(self):
+        """Where the pointer is, hexadecimal numbers are told in decimal."""
+        _, browser = self.opened("two_way_gateway")
+        browser.value("void stepper.goTo(3)")
+        for selector, wanted in (("#image .number", ["1000000 hexadecimal is 16777216 decimal"]), ("#what", ["300 hexadecimal is 768 decimal"]),
+                                 ("#timeline pre .number", [])):
+            text, title = browser.value(f"""(() => {{ const cell = document.querySelector({json.dumps(selector)});
+                cell.dispatchEvent(new MouseEvent("mouseover", {{ bubbles: true }})); return [cell.textContent, cell.title]; }})()""")
+            digits, decimal = re.fullmatch(r"(\w+) hexadecimal is (\d+) decimal", title).groups()
+            self.want((digits in text, int(decimal), not wanted or title in wanted), (True, int(digits, 16), True), f"{selector}: {text}, {title}")
+
+    def test_read(self):
+        """Of a turn that reads what a device has written the page tells the line, and of that line who reads it."""
+        page, browser = self.opened("two_way_gateway")
+        (number, row), head = page.data["reads"][0], "document.querySelector('#told').textContent"
+        browser.value(f"void stepper.choose({row})")
+        tick, _, device, text, _ = page.data["inputs"][number]
+        self.want(f"from, dma{tick} {device} {text}" in browser.value(head), True, "where it comes from")
+        browser.value(f"void stepper.goTo({tick})")
+        self.want(f"read by{' '.join(page.turns[row].split()[:3])}" in browser.value(head), True, "who reads it")
 
     @each((f"how fast the page of {name} is", name, most) for name, most in (("gateway", 1000), ("ring", 3000)))
     def test_fast(self, name, most):

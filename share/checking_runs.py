@@ -73,8 +73,8 @@ class Worked(Case):
         """All but the last instruction ran, with their lines where the policy says where sources are."""
         lines = self.of_run("coverage", "--policy", EXAMPLES / "private_memory.json")
         self.want([lines[at] for at in (0, 1, 7, 16)], [
-            "a, code from 400000 on: 6 of 7 instructions ran", "  400000 1 LI r1, 0x500000                  code.asm:4: LI r1, table",
-            "! 400030 0 HLT                              code.asm:10: HLT", "all: 12 of 14 instructions ran"], "some lines")
+            "a, code from 400000 on: 6 of 7 instructions ran", "  400000 1 LI r1, 0x500000                  code.asm:3: LI r1, table",
+            "! 400030 0 HLT                              code.asm:9: HLT", "all: 12 of 14 instructions ran"], "some lines")
         self.want(self.of_run("coverage", "--missed"), [
             "a, code from 400000 on: 6 of 7 instructions ran", "! 400030 0 HLT",
             "b, code from 400000 on: 6 of 7 instructions ran", "! 400030 0 HLT", "all: 12 of 14 instructions ran"], "those that never ran")
@@ -115,9 +115,9 @@ class Coverage(Case):
             """Of one run."""
             words = ["coverage", built.image, built.text, "--policy", EXAMPLES / "two_way_gateway.json"]
             lines = looked(*words).splitlines()
-            self.want([line for line in lines if line.endswith("crypt_text.asm:18: drop:   RETI")],
-                      ["  400148 1 RETI                             crypt_text.asm:18: drop:   RETI",
-                       "! 400148 0 RETI                             crypt_text.asm:18: drop:   RETI"], "encrypt has dropped one, decrypt none")
+            self.want([line for line in lines if line.endswith("crypt_text.asm:14: drop:   RETI")],
+                      ["  400148 1 RETI                             crypt_text.asm:14: drop:   RETI",
+                       "! 400148 0 RETI                             crypt_text.asm:14: drop:   RETI"], "encrypt has dropped one, decrypt none")
             self.want(looked(*words, "--missed").splitlines(), [line for line in lines if not line.startswith("  ")], "those that never ran")
             self.want(said(*words[:3], "--policy", built.text)[1].startswith(f"look: {built.text}:1:3: not JSON: "), True, "what is no policy")
         of_example("two_way_gateway.json", of_run)

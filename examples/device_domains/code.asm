@@ -1,4 +1,3 @@
 ; loads what the device nic has written into the region buf
-buf = 0x50_0000
         LI r2, buf
         LOAD r1, 8 bytes at r2 + 8      ; behind it are zeros, which are NOPs

@@ -1,5 +1,4 @@
 ; the component feed: writes a number into its channel and says so, adds 1, and so on
-out = 0x60_0000
         LI r1, 7
         LI r2, out
         LI r3, 1

@@ -1,6 +1,4 @@
 ; server: answers with twice the number, and hands the CPU back
-question = 0x60_0000
-answer = 0x60_1000
         LI r2, question
         LI r3, answer
         LI r4, 1

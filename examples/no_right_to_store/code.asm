@@ -1,5 +1,4 @@
 ; loads where it may read alone, and tries to store there
-table = 0x50_0000
         LI r1, table
         LOAD r2, 8 bytes at r1
         STORE r2, 8 bytes at r1 + 8     ; exit 48

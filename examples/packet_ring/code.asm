@@ -1,7 +1,5 @@
 ; driver: sleeps, and adds up the number in the next of four buffers at each interrupt
-base = 0x40_0000
-ring = 0x50_0000
-        LI r9, base + take - 320        ; handlers begin 8 x 40 bytes in front of that of vector 40
+        LI r9, code + take - nic.rx.handler
         SETV r9
         LI r8, ring
         LI r4, 64                       ; the size of a buffer

@@ -1,6 +1,4 @@
 ; the component racer: stores its number on the board, and looks what stands there then
-number = 0x50_0000
-board = 0x60_0000
         LI r1, number
         LI r2, board
         LOAD r3, 1 byte at r1

@@ -1,5 +1,4 @@
 ; loads the number from the board, and says so there
-board = 0x60_0000
         LI r2, board
         LOAD r5, 8 bytes at r2
         LI r1, 1

@@ -1,5 +1,4 @@
 ; stores a number on the board, and looks whether the other one has seen it
-board = 0x60_0000
         LI r1, 7
         LI r2, board
         STORE r1, 8 bytes at r2

@@ -1,2 +1,2 @@
 ; the first port of the device outside
-        .u64 0x320
+        .u64 outside.regs

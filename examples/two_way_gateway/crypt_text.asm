@@ -1,11 +1,7 @@
 ; the component crypt: puts a key to the lowest byte of each message; the bytes above it say which key
-base = 0x40_0000
-table = 0x50_0000                       ; 4,096 keys of a byte
-out = 0x60_0000
-in = 0x60_1000
-        LI r9, base
+        LI r9, text
         SETV r9
-        LI r8, table
+        LI r8, table                    ; 4,096 keys of a byte
         LI r2, out
         LI r3, in
         LI r4, 1

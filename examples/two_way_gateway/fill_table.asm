@@ -1,5 +1,4 @@
 ; keys: writes key after key into the table
-table = 0x50_0000
         LI r1, table
         LI r2, 0x5a                     ; the first key
         LI r3, 0x13                     ; what is between two of them

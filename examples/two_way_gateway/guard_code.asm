@@ -1,14 +1,11 @@
 ; guard: has the CPU of encrypt from where that one has left its windows, until watch has looked
-base = 0x40_0000
-state = 0x60_0000                       ; the state page of encrypt, which it may change
 pc = 128
-drop = 0x40_0148                        ; of crypt
         LI r3, 1
         VMCALL r3                       ; call 1: the event alarm
-        LI r9, base
+        LI r9, guard_code
         SETV r9
-        LI r1, state
-        LI r2, drop
+        LI r1, encrypt.state            ; which it may change
+        LI r2, encrypt.state.entry + 0x148 ; drop, of crypt
         LI r4, 2
         STI
 wait:   HLT

@@ -1,14 +1,9 @@
 ; the component nic: sends on what its device has written, and to its device what comes to it
-base = 0x40_0000
-port = 0x50_0000                        ; has the device's first port
-buffer = 0x50_1000                      ; the device writes here by itself
-out = 0x60_0000
-in = 0x60_1000
-        LI r9, base
+        LI r9, text
         SETV r9
-        LI r1, port
+        LI r1, port                     ; has the device's first port
         LOAD r7, 8 bytes at r1
-        LI r8, buffer
+        LI r8, buffer                   ; the device writes here by itself
         LI r2, out
         LI r3, in
         LI r4, 1

@@ -1,2 +1,2 @@
 ; the first port of the device inside
-        .u64 0x300
+        .u64 inside.regs

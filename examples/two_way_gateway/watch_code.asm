@@ -1,14 +1,10 @@
 ; watch: at an alarm looks at encrypt, and keeps black silent for a while
-base = 0x40_0000
-choice = 0x50_0000                      ; the region of tau0
-report = 0x50_1000
-state = 0x60_0000                       ; the state page of encrypt, which it may read
 message = 40                            ; there register 5
-        LI r9, base
+        LI r9, watch_code
         SETV r9
-        LI r1, choice
+        LI r1, choice                   ; the region of tau0
         LI r2, report
-        LI r3, state
+        LI r3, encrypt.state            ; which it may read
         LI r4, 1
         LI r6, 50                       ; ticks
         STI

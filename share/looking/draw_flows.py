@@ -6,7 +6,7 @@ from dataclasses import dataclass, replace
 from looking.scene import add_system, scene_of
 from looking.steps import steps, touches
 from looking.svg import FONT, shortened
-from looking.words import counted
+from looking.words import counted, decimals
 from looking.wrong import Wrong
 
 HELP = "the direct flows, typed: channels, events, handovers, shared memory, monitors, tau0; devices"
@@ -168,12 +168,14 @@ def of_devices(title):
 
 
 def label(labels):
-    """What an arrow is by, in a few lines; all of it where the pointer is, if some is left out."""
+    """What an arrow is by, in a few lines; all of it where the pointer is, if some is left out, or has numbers that aren't decimal."""
     # an event of a channel has its name in front
     labels = [text for text in labels if not any(other.startswith(f"{text}: ") for other in labels)]
     lines = [shown(part) for text in labels[:MOST_LINES] for part in parted(text)]
     lines += [f"and {len(labels) - MOST_LINES} more"] if len(labels) > MOST_LINES else []
-    whole = f", tooltip={quoted(', '.join(labels))}" if len(labels) > MOST_LINES or any(".." in line for line in lines) else ""
+    every = ", ".join(labels)
+    told = decimals(every)
+    whole = f", tooltip={quoted(every + (told and f'; {told}'))}" if told or len(labels) > MOST_LINES or any(".." in line for line in lines) else ""
     return "label=\"" + "\\n".join(lines) + f"\"{whole}"
 
 

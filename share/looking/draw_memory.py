@@ -6,13 +6,14 @@ from looking.image_file import KERNEL, KINDS, STATE
 from looking.scene import add_system, scene_of
 from looking.svg import Picture, width
 from looking.system import size_text
+from looking.words import both
 
 HELP = "what lies where in physical memory, and at which addresses each subject sees what, with gaps"
 LONG_HELP = """Draws a row for each region in the order of addresses, with its size, and who sees it with
 which rights; the pages of the kernel that follow one another are one row, and so is a gap.
 Below stand the addresses of each subject, and those of each domain of devices, with what
 they show. A policy tells no places, so of one the first part is left out. Addresses are
-hexadecimal."""
+hexadecimal; the pointer tells them in decimal."""
 OWN, KERNEL_COLOUR, DEVICE_COLOUR = "#e8eef5", "#dddddd", "#fde9c4"
 LINE, WIDE, BLOCK, GAP = 17, 806, 394, 18
 AT, NAME, SIZE = 96, 112, 78
@@ -112,7 +113,7 @@ def draw_block(picture, heading, rows, x, y, wide):
         picture.text(x, y + 12, "nothing", fill="#555", size=10)
         return y + LINE
     for row in rows:
-        whole = f"{row.begin:x} to {row.begin + row.size - 1:x}, {size_text(row.size)}: {row.name}{', ' if row.fact else ''}{row.fact}"
+        whole = f"{both(row.begin)} to {both(row.begin + row.size - 1)}, {size_text(row.size)}: {row.name}{', ' if row.fact else ''}{row.fact}"
         draw_row(picture, row, whole, x, y, wide)
         y += LINE
     return y
@@ -126,7 +127,7 @@ def draw_row(picture, row, whole, x, y, wide):
         picture.text(x + AT - 8, base, f"{gap_text(row.size)} free", text_anchor="end", size=9, fill="#555", title=whole)
         return
     picture.rect(x + AT, y, wide - AT, LINE, title=whole, fill=row.colour, stroke="#999", stroke_width=".6")
-    picture.text(x + AT - 8, base, f"{row.begin:x}", room=AT - 8, text_anchor="end", size=10)
+    picture.text(x + AT - 8, base, f"{row.begin:x}", room=AT - 8, title=both(row.begin), text_anchor="end", size=10)
     size, fact_room = size_text(row.size), 36 if wide == BLOCK else 330
     name_room = wide - AT - 8 - SIZE - fact_room
     picture.text(x + AT + 6, base, row.name, room=name_room, title=whole if width(row.name) > name_room else "")

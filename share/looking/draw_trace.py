@@ -12,12 +12,13 @@ from looking.svg import Picture, shortened, widest, width
 from looking.system import System
 from looking.trace import Teller
 from looking.turns import kind_of, lines_of
+from looking.words import decimals
 from looking.wrong import Wrong
 
 HELP = "the turns of a run by CPU and subject, with arrows from calls to deliveries"
 LONG_HELP = """Draws a lane for each subject, those of a CPU together, and in it a cell for each turn, whose
-title is what `look trace` says of it; a letter tells its kind where there is room. Behind
-it is grey in the ticks that its group has. An arrow leads from the call or trap that raised
+title is what `look trace` says of it, with numbers in decimal; a letter tells its kind where
+there is room. Behind it is grey in the ticks that its group has. An arrow leads from the call or trap that raised
 an event first to the event's delivery, a dashed one from a handover to the first turn of the
 subject that gets the CPU, and a dotted one from a monitor's last store into a state to the
 next turn of the subject whose state it is. Above stand the value of an output, hexadecimal,
@@ -321,10 +322,11 @@ def draw_cells(picture, lanes, cells):
     free = {}
     for cell in cells:
         x, y = lanes.x(cell.tick), lanes.y(cell.who)
-        picture.rect(x, y, lanes.cell - .5, lanes.high, title=cell.title, fill=lanes.fill(cell.kind))
+        picture.rect(x, y, lanes.cell - .5, lanes.high, title="\n".join(filter(None, (cell.title, decimals(cell.title)))), fill=lanes.fill(cell.kind))
         if cell.value and x >= free.get(cell.who, 0):
             value = shortened(cell.value, 60, 8)
-            picture.text(x, y - 2, value, title=cell.value if value != cell.value else "", size=8, fill="#a4241c")
+            told = decimals(f"= {cell.value}") if cell.kind == "output" else ""
+            picture.text(x, y - 2, value, title=told or (cell.value if value != cell.value else ""), size=8, fill="#a4241c")
             free[cell.who] = x + width(value, 8) + 2
 
 

@@ -25,15 +25,15 @@ def read_bytes(name, limit=64 * MEBIBYTE):
     return content
 
 
-def write_text(name, text):
+def write_text(name, text, encoding="ascii"):
     """Writes a file in one step, so that it is never there in part."""
     file = pathlib.Path(name)
     try:
         if file.exists() and not file.is_file():
             # a device or a pipe can't be replaced
-            file.write_text(text, encoding="ascii")
+            file.write_text(text, encoding=encoding)
             return
-        with tempfile.NamedTemporaryFile("w", encoding="ascii", dir=file.parent, prefix=f".{file.name[:40]}.", delete=False) as begun:
+        with tempfile.NamedTemporaryFile("w", encoding=encoding, newline="", dir=file.parent, prefix=f".{file.name[:40]}.", delete=False) as begun:
             begun.write(text)
         pathlib.Path(begun.name).chmod(0o644)
         pathlib.Path(begun.name).replace(file)

@@ -113,9 +113,9 @@ def window_line(window):
             f" ({pages}, {window.caching})")
 
 
-def spread(word, first, last):
+def spread(word, first, last, number="{:x}".format):
     """One number, or from which to which they are."""
-    return f"{word} {first:x}" if first == last else f"{word}s {first:x} to {last:x}"
+    return f"{word} {number(first)}" if first == last else f"{word}s {number(first)} to {number(last)}"
 
 
 def port_lines(system, subject):

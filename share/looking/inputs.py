@@ -4,6 +4,7 @@ from dataclasses import dataclass, field
 
 from looking.dma_file import domains_of
 from looking.image_file import CHANNEL, DEVICE, OWN, PAGE, PROVIDED
+from looking.words import decimals
 from looking.wrong import Wrong
 
 WORDS = {"order": None, "port": 5, "mem": 6, "irq": 4, "dma": 5, "end": 2}
@@ -18,6 +19,11 @@ class Input:
     device: str
     text: str
     writes: list[tuple[int, bytes]] = field(default_factory=list)
+
+    @property
+    def decimals(self):
+        """Its numbers in decimal; bytes that are written are none."""
+        return decimals(self.text if self.kind == "port" else self.text.replace(" = ", " is "))
 
 
 class Inputs:
@@ -37,11 +43,13 @@ class Inputs:
                 self.lines.append(getattr(self, kind)(int(words[0]), *words[1:]))
 
     def go_to(self, tick):
-        """Writes what is written before the turns of this tick."""
+        """Writes what is written before the turns of this tick; the numbers of the lines that do."""
+        begun = self.done
         while self.done < len(self.lines) and self.lines[self.done].tick <= tick:
             for place, content in self.lines[self.done].writes:
                 self.system.memory.write(place, content)
             self.done += 1
+        return range(begun, self.done)
 
     def order(self, tick, *cpus):
         """The order of the CPUs' turns."""
@@ -74,10 +82,10 @@ class Inputs:
         names = " and ".join(self.where(place) for place, _ in writes)
         return Input(tick, "dma", device, f"dma at {int(address):x} = {digits.lower()} into {names}", writes)
 
-    def led(self, device, address):
-        """The place to which a device's address leads for a write, or none."""
+    def led(self, device, address, right="w"):
+        """The place to which a device's address leads for a write, or with `r` for a read, or none."""
         for reach in self.reaches.get(device, ()):
-            if reach.address <= address < reach.address + reach.size and "w" in reach.rights:
+            if reach.address <= address < reach.address + reach.size and right in reach.rights:
                 place = reach.place + address - reach.address
                 return place if self.system.memory.span_at(place) else None
         return None

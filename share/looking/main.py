@@ -1,6 +1,8 @@
 """The words of share/look: which form they are, and how each fault ends."""
 import argparse
+import contextlib
 import importlib
+import io
 import os
 import signal
 import sys
@@ -14,6 +16,7 @@ FORMS = {
     "draw": "draw",
     "image": "image",
     "lint": "lint",
+    "names": "names",
     "record": "record",
     "refusal": "refusal",
     "report": "report",
@@ -98,3 +101,10 @@ def main(words):
     if sys.stderr is not None:
         print(f"look: {line}".encode("ascii", "backslashreplace").decode(), file=sys.stderr)
     return 1
+
+
+def said(*words):
+    """The status of a form, and what it prints on both streams, without a process of its own."""
+    with contextlib.redirect_stdout(io.StringIO()) as out, contextlib.redirect_stderr(out):
+        status = main(list(map(str, words)))
+    return status, out.getvalue()

@@ -1,17 +1,28 @@
 """What the program answers of a policy."""
 import pathlib
+import re
 import subprocess
 import tempfile
 
+import running
 from looking.wrong import Wrong
 
-BUILT = pathlib.Path(__file__).resolve().parents[2] / "crates" / "muen" / "out" / "muen"
+NAME = re.compile("muen(_asm)?: ")
 
 
 def add_program(parser):
     """The option that names the program."""
-    parser.add_argument("--program", metavar="PROGRAM", default=str(BUILT),
-                        help="the program muen; crates/muen/out/muen where this isn't given")
+    parser.add_argument("--program", metavar="PROGRAM", help="the program muen; without it, the one that share/muen runs")
+
+
+def program_of(arguments):
+    """The program of the option, or the one that is built or kept, or Wrong."""
+    if arguments.program is not None:
+        return arguments.program
+    try:
+        return str(running.program("muen"))
+    except running.NoProgram as error:
+        raise Wrong(f"the program muen: {error}") from None
 
 
 def call(program, *words):
@@ -28,15 +39,16 @@ def output(program, *words):
 
 
 def answer(program, *words):
-    """The status of a call, its line of errors without `muen: `, and what it prints."""
+    """The status of a call, its line of errors without the program's name, and what it prints."""
     try:
         done = subprocess.run([program, *map(str, words)], stdin=subprocess.DEVNULL, capture_output=True, check=False)
     except OSError as error:
         raise Wrong(f"the program {program}: {error.strerror}; README says how it is built") from None
     line = done.stderr.decode("utf-8", "replace").rstrip("\n")
-    if done.returncode not in range(11) or done.returncode and not line.startswith("muen: "):
+    own = NAME.match(line)
+    if done.returncode not in range(11) or done.returncode and not own:
         raise Wrong(f"{program} ended with status {done.returncode}: {line}")
-    return done.returncode, line.removeprefix("muen: "), done.stdout
+    return done.returncode, line[own.end():] if own else line, done.stdout
 
 
 def refusal(program, policy):

@@ -4,7 +4,7 @@ import re
 from looking.document import at, opened
 from looking.places import NotJson
 from looking.policy import Policy, first
-from looking.program import add_program, refusal
+from looking.program import add_program, program_of, refusal
 from looking.rules import broken, sentences
 from looking.schema import faults, number_of, short
 from looking.wrong import Wrong
@@ -20,7 +20,7 @@ def add_arguments(parser):
 
 def run(arguments):
     """Prints the line and what explains it."""
-    status, line = refusal(arguments.program, arguments.policy)
+    status, line = refusal(program_of(arguments), arguments.policy)
     if status == 0:
         print("accepted")
         return 0

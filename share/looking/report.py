@@ -12,7 +12,7 @@ from looking.files import MEBIBYTE, read_bytes, read_text, write_text
 from looking.image import sections_of
 from looking.inputs import Inputs
 from looking.policy import Policy
-from looking.program import add_program, answer, output
+from looking.program import add_program, answer, output, program_of
 from looking.report_page import page
 from looking.report_run import data_of, memory_of, told_of
 from looking.scene import Scene, scene_of
@@ -79,7 +79,7 @@ class Looked:
 
 def looked_at(arguments):
     """Calls the program, and reads what it says of a policy and its run."""
-    program, policy = arguments.program, arguments.policy
+    program, policy = program_of(arguments), arguments.policy
     status, line, _ = answer(program, "map", policy)
     if status:
         raise Wrong(f"{policy}: {line}; look refusal says where" if status in (2, 3) else f"{policy}: {line}")
@@ -88,7 +88,7 @@ def looked_at(arguments):
         output(program, "build", policy, image, tables)
         looked = of_policy(program, policy, image, tables)
         if arguments.record is not None:
-            of_run(looked, arguments, image, tables)
+            of_run(looked, program, arguments, image, tables)
     return looked
 
 
@@ -110,9 +110,9 @@ def summed(title, content):
     return title, len(content), hashlib.sha256(content).hexdigest()
 
 
-def of_run(looked, arguments, image, tables):
+def of_run(looked, program, arguments, image, tables):
     """Adds what is told of a run."""
-    program, record = arguments.program, arguments.record
+    record = arguments.record
     status, line, out = answer(program, "run", image, record, tables)
     if status:
         raise Wrong(f"{record}: {line}")

@@ -11,15 +11,18 @@ from looking import draw_matrix, draw_memory, draw_plan
 from looking.draw_flows import dot_text, laid_out
 from looking.image_file import DEVICE
 from looking.report_run import ROW
+from looking.scene import MANY
 from looking.steps import device_steps, steps
 from looking.system import size_text
-from looking.words import counted
+from looking.words import HEXADECIMAL, counted
 from looking.wrong import Wrong
 
 HERE = pathlib.Path(__file__).resolve().parent / "page"
 SCRIPTS = ("timeline.js", "stepper.js", "sections.js")
-# from so many subjects on the flows are folded by CPU at first
-MANY = 13
+# in the words of look image what stands before hexadecimal numbers, and before two of them
+BEFORE = re.compile(r"((?:\bstarts|\bmemory(?: \S+)?) at |\bfrom |\bon, of |\bports? |\bMSRs? |(?<!CPU )\bto |\bis |\bepc |\bvbase |\br\d+ )"
+                    r"([0-9a-f]+)(?![\w.|:+-])")
+BEFORE_TWO = re.compile(r"(\bwindow )([0-9a-f]+) ([0-9a-f]+)")
 
 
 def page(looked):
@@ -27,7 +30,8 @@ def page(looked):
     sections = [one for one in (timeline(looked), memory(looked), matrix(looked), flows(looked), plan(looked), memory_map(looked),
                                 closed_sets(looked), lint(looked), verified(looked), image(looked)) if one]
     style = (HERE / "style.css").read_text(encoding="ascii")
-    script = '"use strict";\n' + "".join((HERE / name).read_text(encoding="ascii") for name in SCRIPTS)
+    script = f'"use strict";\nconst HEXADECIMAL = /{HEXADECIMAL.pattern}/g;\n'
+    script += "".join((HERE / name).read_text(encoding="ascii") for name in SCRIPTS)
     policy = (f"default-src 'none'; style-src {digest(style)}; script-src {digest(script)}; base-uri 'none'; form-action 'none'")
     title = escape(f"{looked.policy}{f', {looked.record}' if looked.record else ''}")
     links = "".join(f'<a href="#{name}">{heading}</a>' for name, heading, _ in sections)
@@ -78,6 +82,7 @@ def timeline(looked):
         return None
     buttons = "".join(f'<button type="button" id="{name}" title="{title}" aria-label="{title}">{text}</button>' for name, text, title in TOOLS)
     registers = escape("\n".join(line for line in looked.final if line.startswith(("end", "regs"))))
+    registers = re.sub(r"\b[0-9a-f]{16}\b", lambda one: number(one[0]), registers)
     return "timeline", "Timeline", f'''<p class="quiet">A click chooses a turn; the wheel zooms, dragging scrolls. Keys: left and right step, with shift within the subject;
 +, - and 0 zoom, &lt; and &gt; scroll, / searches, n and N go to what is found, g goes to a tick, c and e follow an arrow to its cause and its effect.</p>
 <div class="tools">{buttons}<label>tick <input type="number" id="tick" min="0" max="{looked.data['ticks']}"></label>
@@ -204,5 +209,13 @@ def verified(looked):
 
 def image(looked):
     """What the image's bytes say, section by section."""
-    parts = ((escape(title), escape("\n".join(lines))) for title, lines in looked.sections)
+    parts = ((escape(title), numbered(escape("\n".join(lines)), title == "spans")) for title, lines in looked.sections)
     return "image", "Image", "".join(f"<details><summary>{title}</summary><pre>{text}</pre></details>" for title, text in parts)
+
+
+def numbered(text, is_spans):
+    """Lines of look image, with its hexadecimal numbers marked as such; lines of spans begin with one."""
+    if is_spans:
+        return re.sub(r"(?m)^( *)([0-9a-f]+)", lambda one: one[1] + number(one[2]), text)
+    text = BEFORE_TWO.sub(lambda one: f"{one[1]}{number(one[2])} {number(one[3])}", text)
+    return BEFORE.sub(lambda one: one[1] + number(one[2]), text)

@@ -1,6 +1,7 @@
 """What a page tells of a run: its turns as columns of numbers, with all texts once; arrows, inputs, and memory at the end."""
 from looking.draw_trace import ARROWS, HATCHES, KINDS, LETTERS, Run
 from looking.inputs import held
+from looking.replay import INSTRUCTION
 from looking.svg import shortened
 from looking.turns import lines_of
 
@@ -28,6 +29,8 @@ class Told(Run):
         self.columns = {name: [] for name in COLUMNS}
         self.kinds = list(KINDS)
         self.known = [fields_of(state) for state in teller.replay.states]
+        # of each byte that a device has written by itself the input that did, and of each input and subject the turn that read it first
+        self.written, self.reads = {}, {}
         self.starts = [[shown(value) for value in known] for known in self.known]
         self.before = self.line = ""
         self.begin = teller.ticks.start
@@ -36,17 +39,41 @@ class Told(Run):
 
     def take(self, turn, who):
         """A turn, behind the inputs of its tick and before it."""
-        self.inputs.go_to(turn.tick)
+        for number in self.inputs.go_to(turn.tick):
+            line = self.inputs.lines[number]
+            if line.kind == "dma":
+                self.written.update((place + at, number) for place, content in line.writes for at in range(len(content)))
         super().take(turn, who)
 
     def note(self, turn, who, found):
         """Before a turn is carried out: what has changed since the last one, and the line of its source."""
         super().note(turn, who, found)
+        self.meet_written(turn, who, found)
         self.before, self.line = self.changed(who), ""
         place = self.replay.place_of(who, turn.pc) if self.sources.folder else None
         span = None if place is None else self.system.memory.span_at(place)
         if span:
             self.line = self.sources.line(span, place - span.place, found)
+
+    def meet_written(self, turn, who, found):
+        """Which inputs a turn reads, in its instruction and by a load; bytes that it stores aren't a device's any more."""
+        if not self.written or turn.kind == "inject":
+            return
+        parts = [(turn.pc, INSTRUCTION)]
+        if found and found.name == "LOAD" and turn.kind == "register":
+            parts.append((self.replay.states[who].sum(found.rs, found.imm), found.size))
+        for place in self.places(who, parts):
+            if place in self.written:
+                self.reads.setdefault((self.written[place], who), len(self.columns["tick"]))
+        if turn.kind == "store":
+            for place in self.places(who, [(turn.facts["address"], turn.facts["size"])]):
+                self.written.pop(place, None)
+
+    def places(self, who, parts):
+        """The places of the bytes that a subject sees at its addresses, each with so many bytes."""
+        for address, size in parts:
+            place = None if address is None else self.replay.place_of(who, address)
+            yield from () if place is None else range(place, place + size)
 
     def changed(self, who):
         """Which registers of a subject have other values than it was told of last, and which."""
@@ -98,7 +125,8 @@ def data_of(told, ticks):
         "subjects": [{"name": subject.name, "cpu": subject.cpu, "start": start, "slots": told.plan.slots(subject.group, 0, ticks)}
                      for subject, start in zip(image.subjects, told.starts)],
         "frames": told.plan.begun if len(image.frames) > 1 else [],
-        "inputs": [[one.tick, one.kind, one.device, one.text] for one in told.inputs.lines],
+        "inputs": [[one.tick, one.kind, one.device, one.text, one.decimals] for one in told.inputs.lines],
+        "reads": sorted(([number, row] for (number, _), row in told.reads.items()), key=lambda one: one[1]),
         "turns": {**told.columns, "tick": steps_of(told.columns["tick"])}}
 
 

@@ -19,6 +19,9 @@ from looking.schema import number_of
 from looking.system import System
 from looking.wrong import Wrong
 
+# from so many subjects on pictures are parted or folded by CPU, where nobody says otherwise
+MANY = 13
+
 
 @dataclass(frozen=True)
 class Thing:

@@ -39,14 +39,29 @@ def instructions(text):
             at += 8
 
 
-class Sources:
-    """The sources of a folder, by the names of regions: REGION.asm, or COMPONENT_REGION.asm of what a component provides."""
+def contents_of(policy):
+    """Of each content of a policy its region's name, COMPONENT_REGION where a component provides it, and the value."""
+    held = [(name(region), region) for region in policy.memory]
+    held += [(f"{name(component)}_{name(region, 'logical')}", region) for component in policy.components for region in component.items("provides")]
+    for title, region in held:
+        if (content := region.get("content")) is not None:
+            yield title, content
 
-    def __init__(self, folder, components):
-        """`components` has of each subject the name of its component."""
+
+def source_of(folder, title, content):
+    """The source of a content in a folder: of its region's name, or of its file's; or none."""
+    stems = [title] if content is None or content.text("file") is None else [title, pathlib.Path(content.text("file")).stem]
+    return next((file for stem in stems if (file := pathlib.Path(folder, f"{stem}.asm")).is_file()), None)
+
+
+class Sources:
+    """The sources of a folder, by the names of regions, or of the files of their contents."""
+
+    def __init__(self, folder, components, contents):
+        """`components` has of each subject the name of its component, and `contents` the values of `contents_of`."""
         if folder is not None and not pathlib.Path(folder).is_dir():
             raise Wrong(f"{folder}: no folder")
-        self.folder, self.components, self.read = folder, components, {}
+        self.folder, self.components, self.contents, self.read = folder, components, contents, {}
 
     def line(self, span, offset, found):
         """File, number and text of an instruction's line, or the empty text where no source has it."""
@@ -59,19 +74,20 @@ class Sources:
 
     def lines_of(self, span):
         """Of each offset of a region the name of its instruction and its line."""
-        stem = span.name if span.own_name is None else f"{self.components.get(span.owner)}_{span.own_name}"
-        file = pathlib.Path(self.folder, f"{stem}.asm")
-        if not file.is_file():
+        title = span.name if span.own_name is None else f"{self.components.get(span.owner)}_{span.own_name}"
+        file = source_of(self.folder, title, self.contents.get(title))
+        if file is None:
             return {}
         return {at: (name, f"{file.name}:{number}: {text}") for at, name, number, text in instructions(read_text(str(file)))}
 
 
 def sources_of(policy, folder):
     """The sources of a folder, or of the one beside a policy, whose components are known then."""
-    components = {}
+    components, contents = {}, {}
     if policy is not None:
         declared, beside = Policy(document_in_shape(policy)), pathlib.Path(policy).with_suffix("")
         components = {name(subject): name(component) for subject in declared.subjects
                       if (component := declared.component(subject)) is not None}
+        contents = dict(contents_of(declared))
         folder = folder or (str(beside) if beside.is_dir() else None)
-    return Sources(folder, components)
+    return Sources(folder, components, contents)

@@ -8,6 +8,7 @@ from looking.image_file import STATE
 from looking.replay import Replay, is_taken
 from looking.system import System
 from looking.turns import kind_of, lines_of
+from looking.words import want_subject
 from looking.wrong import Wrong
 
 # the kinds of turns by the words of --only
@@ -58,8 +59,7 @@ def wanted_of(arguments, teller):
     """Whether a turn is told, as a function; none where all lines are."""
     first, end, names, kinds = arguments.first, arguments.end, arguments.subject, arguments.only
     for name in names or ():
-        if name not in {subject for subject, _ in teller.numbers}:
-            raise Wrong(f"no subject is {name}; there are {', '.join(subject.name for subject in teller.system.image.subjects)}")
+        want_subject(name, (subject.name for subject in teller.system.image.subjects))
     if first is not None and end is not None and first >= end:
         raise Wrong(f"from {first} until {end}: no tick is there")
     if first is None and end is None and not names and not kinds:

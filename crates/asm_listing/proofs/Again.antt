@@ -15,9 +15,10 @@ use Rattle.asm_listing.specs.Source.{chunks_of}
 use Rattle.asm_text.proofs.Accepted.{holds_at}
 use Rattle.asm_text.proofs.Seats.{encoding_long}
 use Rattle.asm_listing.proofs.Accepted.{IsSound}
-use Rattle.asm_listing.proofs.Chunks.{chunks_by, encoding_decodes, first_chunk, no_chunk}
+use Rattle.asm_listing.proofs.Chunks.{chunks_by, first_chunk, no_chunk}
 use Rattle.asm_listing.proofs.Placed.{AreStanding, IsSeat, said_standing}
 use Rattle.asm_listing.proofs.Sources.{bytes_back, chunk_item, front_low, item_by, source_says}
+use Rattle.guest_isa.proofs.Spelled.{encoding_decodes}
 use Rattle.guest_isa.specs.Words.{IsByte}
 
 -- ---- the bytes of a source

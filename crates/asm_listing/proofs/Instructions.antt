@@ -1,82 +1,71 @@
 -- The line of an instruction says it.
-use Rattle.std.proofs.Common.{◌≡◌, ℕ, ◌-◌, ◌^◌, true, false, ℤ, pos, negsuc, List, [], ◌∷◌, ◌++◌, length, Option, Some, None, Result, Ok, refl, ap, ◌∙◌, append_assoc, w32, to_z-of_z, add-one, arith}
-use Rattle.std.specs.Prelude.{◌&&◌, if◌then◌else◌, codes}
+use Rattle.std.proofs.Common.{◌≡◌, ℕ, ◌-◌, ◌^◌, true, false, ℤ, pos, negsuc, List, [], ◌∷◌, ◌++◌, length, Option, Some, None, Result, Ok, refl, ap, sym, subst, ◌∙◌, append_assoc, w32, to_z-of_z, add-one, arith}
+use Rattle.std.specs.Prelude.{◌&&◌, if◌then◌else◌, codes, nat_le, nat_lt}
 use Rattle.std.specs.Fmt.{signed_decimal}
 use Rattle.std.specs.Int.{cast_signed, cast_unsigned}
 use Rattle.std.specs.Int.RustNames.{FitsSigned}
 use Rattle.std.specs.List.{list_all}
 use Rattle.std.specs.Str.{bytes_eq}
-use Rattle.std.proofs.lemmas.Bool.{lt-ltb, le-leb}
+use Rattle.std.proofs.lemmas.Bool.{and_parts, false≢true, le-leb, lt-ltb, ltb-true}
+use Rattle.muen_num.specs.AccessSize.{bytes_of}
 use Rattle.muen_num.specs.declared.access.AccessSize.{AccessSize}
-use Rattle.muen_num.specs.declared.access.AccessSize.TheVariants.{One}
-use Rattle.guest_isa.specs.GuestIsa.{IsValid}
+use Rattle.muen_num.specs.declared.access.AccessSize.TheVariants.{One, Two, Four, Eight}
+use Rattle.guest_isa.specs.GuestIsa.{IsSmall, IsValid, instr, instruction_named, instruction_with, named, opcode_with, row_of, shape_of, word_of}
 use Rattle.guest_isa.specs.declared.instr.Instr.{Instr}
-use Rattle.guest_isa.specs.declared.instr.Instr.TheVariants.{Nop as INop, Li as ILi, Lih as ILih, Mov as IMov, Add as IAdd, Sub as ISub, And as IAnd, Or as IOr, Xor as IXor, Shl as IShl, Shr as IShr, Load as ILoad, Store as IStore, Jmp as IJmp, Jz as IJz, Jnz as IJnz, Jb as IJb, In as IIn, Out as IOut, Rdmsr as IRdmsr, Wrmsr as IWrmsr, Rdtsc as IRdtsc, Vmcall as IVmcall, Hlt as IHlt, Sti as ISti, Cli as ICli, Setv as ISetv, Reti as IReti}
+use Rattle.guest_isa.specs.declared.opcode.Opcode.{Opcode}
+use Rattle.guest_isa.specs.declared.opcode.Opcode.TheVariants.{Nop}
+use Rattle.guest_isa.specs.declared.opcode.Shape.{Shape}
+use Rattle.guest_isa.specs.declared.opcode.Shape.TheVariants.{Alone, Immediate, High, Pair, Memory, PortRead, PortWrite, Destination, Source, Jump, JumpIf, JumpBelow}
+use Rattle.guest_isa.proofs.Spelled.{own_fields}
 use Rattle.text_words.specs.Steps.{◌>>=◌, ◌>>◌}
 use Rattle.asm_text.specs.Layout.{SymbolTable}
 use Rattle.asm_text.specs.Meaning.{instruction as instruction_item, fits_in_bits, fits_signed, if_fits, immediate_by, immediate_of, instruction_of, assembled_item_of, residue}
-use Rattle.asm_text.specs.Mnemonics.{instruction_with, mnemonic_text, shape_of}
-use Rattle.asm_text.specs.Reading.{at_end, definition, directive, instruction, label, source_line_of, named, offset_line, operands, operands_of, statement, worded}
+use Rattle.asm_text.specs.Reading.{at_end, definition, directive, instruction, label, source_line_of, named as named_label, offset_line, operands, operands_of, statement, worded}
 use Rattle.asm_text.specs.Tokens.{Tokens, end_with, token, word_goes_on, is_word_byte, tokens_of}
-use Rattle.asm_text.specs.Words.{data_size_of, mnemonic_of}
+use Rattle.asm_text.specs.Words.{data_size_of}
 use Rattle.asm_text.specs.declared.fault.LineError.{LineError}
 use Rattle.asm_text.specs.declared.fault.Want.TheVariants.{Near, Range}
 use Rattle.asm_text.specs.declared.meaning.Sum.{Sum}
-use Rattle.asm_text.specs.declared.mnemonic.Mnemonic.{Mnemonic}
-use Rattle.asm_text.specs.declared.mnemonic.Mnemonic.TheVariants.{Nop, Li, Lih, Mov, Add, Sub, And, Or, Xor, Shl, Shr, Load, Store, Jmp, Jz, Jnz, Jb, In, Out, Rdmsr, Wrmsr, Rdtsc, Vmcall, Hlt, Sti, Cli, Setv, Reti}
-use Rattle.asm_text.specs.declared.mnemonic.Shape.TheVariants.{Immediate, Pair, Memory, PortRead, PortWrite, JumpIf, JumpBelow}
 use Rattle.asm_text.specs.declared.statement.Label.{Label}
 use Rattle.asm_text.specs.declared.statement.Operands.{Operands}
 use Rattle.asm_text.specs.declared.statement.Operation.{Operation}
 use Rattle.asm_text.specs.declared.statement.SourceLine.{SourceLine}
 use Rattle.asm_text.specs.declared.statement.Statement.{Statement}
 use Rattle.asm_text.specs.declared.statement.Statement.TheVariants.{Instruction}
-use Rattle.asm_listing.specs.Source.{displacement_text, instruction_text, operands_text, parts, parts_of, register_text, size_text}
-use Rattle.asm_listing.proofs.Shapes.{OperandsRead, alone_read, destination_read, immediate_read, jump_below_read, jump_if_read, jump_read, memory_read, pair_read, port_read_read, port_write_read, source_read}
+use Rattle.asm_listing.specs.Source.{displacement_text, instruction_text, operands_text, register_text, size_text}
+use Rattle.asm_listing.proofs.Shapes.{OperandsRead, alone_read, destination_read, high_read, immediate_read, jump_below_read, jump_if_read, jump_read, memory_read, pair_read, port_read_read, port_write_read, source_read}
 use Rattle.asm_listing.proofs.Values.{IsUnmarked}
 use Rattle.asm_listing.proofs.Words.{◌⧺◌, IsWord, word_parted}
 
--- ---- mnemonics
+-- ---- words
 
--- what a mnemonic's word is, and what it isn't
-record IsMnemonic (m : Mnemonic) : Type 0 where
-  word : IsWord (mnemonic_text m)
-  offset : bytes_eq (mnemonic_text m) (codes ".at") ≡ false
-  size : data_size_of (mnemonic_text m) ≡ None
-  is : mnemonic_of (mnemonic_text m) ≡ Some m
+word_bytes : (o : Opcode) → list_all is_word_byte (word_of o) ≡ true
+unfolding row_of
+word_bytes Nop = refl
+word_bytes _ = refl
 
-word_by : (c : ℕ) (cs : List ℕ) → list_all is_word_byte (c ∷ cs) ≡ true → IsWord (c ∷ cs)
-word_by c cs h = record { some = omega arith; bytes = h }
+word_some : (o : Opcode) → nat_lt 0 (length (word_of o)) ≡ true
+unfolding row_of
+word_some Nop = refl
+word_some _ = refl
 
-is_mnemonic : (m : Mnemonic) → IsMnemonic m
-is_mnemonic Nop = record { word = word_by 78 (79 ∷ 80 ∷ []) refl; offset = refl; size = refl; is = refl }
-is_mnemonic Li = record { word = word_by 76 (73 ∷ []) refl; offset = refl; size = refl; is = refl }
-is_mnemonic Lih = record { word = word_by 76 (73 ∷ 72 ∷ []) refl; offset = refl; size = refl; is = refl }
-is_mnemonic Mov = record { word = word_by 77 (79 ∷ 86 ∷ []) refl; offset = refl; size = refl; is = refl }
-is_mnemonic Add = record { word = word_by 65 (68 ∷ 68 ∷ []) refl; offset = refl; size = refl; is = refl }
-is_mnemonic Sub = record { word = word_by 83 (85 ∷ 66 ∷ []) refl; offset = refl; size = refl; is = refl }
-is_mnemonic And = record { word = word_by 65 (78 ∷ 68 ∷ []) refl; offset = refl; size = refl; is = refl }
-is_mnemonic Or = record { word = word_by 79 (82 ∷ []) refl; offset = refl; size = refl; is = refl }
-is_mnemonic Xor = record { word = word_by 88 (79 ∷ 82 ∷ []) refl; offset = refl; size = refl; is = refl }
-is_mnemonic Shl = record { word = word_by 83 (72 ∷ 76 ∷ []) refl; offset = refl; size = refl; is = refl }
-is_mnemonic Shr = record { word = word_by 83 (72 ∷ 82 ∷ []) refl; offset = refl; size = refl; is = refl }
-is_mnemonic Load = record { word = word_by 76 (79 ∷ 65 ∷ 68 ∷ []) refl; offset = refl; size = refl; is = refl }
-is_mnemonic Store = record { word = word_by 83 (84 ∷ 79 ∷ 82 ∷ 69 ∷ []) refl; offset = refl; size = refl; is = refl }
-is_mnemonic Jmp = record { word = word_by 74 (77 ∷ 80 ∷ []) refl; offset = refl; size = refl; is = refl }
-is_mnemonic Jz = record { word = word_by 74 (90 ∷ []) refl; offset = refl; size = refl; is = refl }
-is_mnemonic Jnz = record { word = word_by 74 (78 ∷ 90 ∷ []) refl; offset = refl; size = refl; is = refl }
-is_mnemonic Jb = record { word = word_by 74 (66 ∷ []) refl; offset = refl; size = refl; is = refl }
-is_mnemonic In = record { word = word_by 73 (78 ∷ []) refl; offset = refl; size = refl; is = refl }
-is_mnemonic Out = record { word = word_by 79 (85 ∷ 84 ∷ []) refl; offset = refl; size = refl; is = refl }
-is_mnemonic Rdmsr = record { word = word_by 82 (68 ∷ 77 ∷ 83 ∷ 82 ∷ []) refl; offset = refl; size = refl; is = refl }
-is_mnemonic Wrmsr = record { word = word_by 87 (82 ∷ 77 ∷ 83 ∷ 82 ∷ []) refl; offset = refl; size = refl; is = refl }
-is_mnemonic Rdtsc = record { word = word_by 82 (68 ∷ 84 ∷ 83 ∷ 67 ∷ []) refl; offset = refl; size = refl; is = refl }
-is_mnemonic Vmcall = record { word = word_by 86 (77 ∷ 67 ∷ 65 ∷ 76 ∷ 76 ∷ []) refl; offset = refl; size = refl; is = refl }
-is_mnemonic Hlt = record { word = word_by 72 (76 ∷ 84 ∷ []) refl; offset = refl; size = refl; is = refl }
-is_mnemonic Sti = record { word = word_by 83 (84 ∷ 73 ∷ []) refl; offset = refl; size = refl; is = refl }
-is_mnemonic Cli = record { word = word_by 67 (76 ∷ 73 ∷ []) refl; offset = refl; size = refl; is = refl }
-is_mnemonic Setv = record { word = word_by 83 (69 ∷ 84 ∷ 86 ∷ []) refl; offset = refl; size = refl; is = refl }
-is_mnemonic Reti = record { word = word_by 82 (69 ∷ 84 ∷ 73 ∷ []) refl; offset = refl; size = refl; is = refl }
+word_is : (o : Opcode) → IsWord (word_of o)
+word_is o = record { some = ltb-true 0 (length (word_of o)) (word_some o); bytes = word_bytes o }
+
+no_offset : (o : Opcode) → bytes_eq (word_of o) (codes ".at") ≡ false
+unfolding row_of
+no_offset Nop = refl
+no_offset _ = refl
+
+no_data : (o : Opcode) → data_size_of (word_of o) ≡ None
+unfolding row_of
+no_data Nop = refl
+no_data _ = refl
+
+own_word : (o : Opcode) → opcode_with (word_of o) ≡ Some o
+unfolding row_of
+own_word Nop = refl
+own_word _ = refl
 
 -- ---- lines
 
@@ -85,7 +74,7 @@ unlabelled : (left : ℕ) (word : List ℕ) (more : Tokens) → IsUnmarked more 
 unfolding label
 unlabelled left word (end_with last) h = refl
 unlabelled left word (token at mark more) h =
-    λ i. if h.0 i then named left word more else Ok (None, token left word (token at mark more))
+    λ i. if h.0 i then named_label left word more else Ok (None, token left word (token at mark more))
 
 stated_by_word : (left : ℕ) (word : List ℕ) (more : Tokens) → IsUnmarked more → statement (token left word more) ≡ worded left word more
 unfolding statement
@@ -102,16 +91,15 @@ line_by left word more s h e =
     ap (λ (r : Result (Option Label × Tokens) LineError). r >>= λ l. statement l.1 >>= λ s. Ok (record { label = l.0; statement = s })) (unlabelled left word more h)
     ∙ ap (λ (r : Result Statement LineError). r >>= λ s. Ok (as_line s)) (stated_by_word left word more h ∙ e)
 
-abbrev operation : ℕ → Mnemonic → Operands → Operation
-operation left m with = record { left = left; mnemonic = m; operands = with }
+abbrev operation : ℕ → Opcode → Operands → Operation
+operation left o with = record { left = left; opcode = o; operands = with }
 
-instruction_worded : (left : ℕ) (m : Mnemonic) (more : Tokens) (with : Operands) → operands_of (shape_of m) more ≡ Ok (with, end_with 0)
-    → worded left (mnemonic_text m) more ≡ Ok (Instruction (operation left m with))
+instruction_worded : (left : ℕ) (o : Opcode) (more : Tokens) (with : Operands) → operands_of (shape_of o) more ≡ Ok (with, end_with 0)
+    → worded left (word_of o) more ≡ Ok (Instruction (operation left o with))
 unfolding instruction at_end
-instruction_worded left m more with e =
-    let w = is_mnemonic m in
-    (λ i. if w.offset i then offset_line left more else directive left (mnemonic_text m) more (w.size i) (w.is i))
-    ∙ ap (λ (r : Result (Operands × Tokens) LineError). r >>= λ x. at_end x.1 >> Ok (Instruction (operation left m x.0))) e
+instruction_worded left o more with e =
+    (λ i. if no_offset o i then offset_line left more else directive left (word_of o) more (no_data o i) (own_word o i))
+    ∙ ap (λ (r : Result (Operands × Tokens) LineError). r >>= λ x. at_end x.1 >> Ok (Instruction (operation left o x.0))) e
 
 -- ---- immediates
 
@@ -134,35 +122,12 @@ residue_is z h = same z ∙ to_z-of_z h
 abbrev alone_sum : ℤ → Sum
 alone_sum z = record { number = z; labels = pos 0 }
 
-immediate_is : (m : Mnemonic) (here left : ℕ) (z : ℤ) → FitsSigned w32 z → immediate_by m here left (alone_sum z) ≡ Ok z
-immediate_is Lih here left z h = λ i. if_fits (fits_either z h i) left Range (residue_is z h i)
-immediate_is Nop here left z h = λ i. if_fits (fits_32 z h i) left Range z
-immediate_is Li here left z h = λ i. if_fits (fits_32 z h i) left Range z
-immediate_is Mov here left z h = λ i. if_fits (fits_32 z h i) left Range z
-immediate_is Add here left z h = λ i. if_fits (fits_32 z h i) left Range z
-immediate_is Sub here left z h = λ i. if_fits (fits_32 z h i) left Range z
-immediate_is And here left z h = λ i. if_fits (fits_32 z h i) left Range z
-immediate_is Or here left z h = λ i. if_fits (fits_32 z h i) left Range z
-immediate_is Xor here left z h = λ i. if_fits (fits_32 z h i) left Range z
-immediate_is Shl here left z h = λ i. if_fits (fits_32 z h i) left Range z
-immediate_is Shr here left z h = λ i. if_fits (fits_32 z h i) left Range z
-immediate_is Load here left z h = λ i. if_fits (fits_32 z h i) left Range z
-immediate_is Store here left z h = λ i. if_fits (fits_32 z h i) left Range z
-immediate_is Jmp here left z h = λ i. if_fits (fits_32 z h i) left Near z
-immediate_is Jz here left z h = λ i. if_fits (fits_32 z h i) left Near z
-immediate_is Jnz here left z h = λ i. if_fits (fits_32 z h i) left Near z
-immediate_is Jb here left z h = λ i. if_fits (fits_32 z h i) left Near z
-immediate_is In here left z h = λ i. if_fits (fits_32 z h i) left Range z
-immediate_is Out here left z h = λ i. if_fits (fits_32 z h i) left Range z
-immediate_is Rdmsr here left z h = λ i. if_fits (fits_32 z h i) left Range z
-immediate_is Wrmsr here left z h = λ i. if_fits (fits_32 z h i) left Range z
-immediate_is Rdtsc here left z h = λ i. if_fits (fits_32 z h i) left Range z
-immediate_is Vmcall here left z h = λ i. if_fits (fits_32 z h i) left Range z
-immediate_is Hlt here left z h = λ i. if_fits (fits_32 z h i) left Range z
-immediate_is Sti here left z h = λ i. if_fits (fits_32 z h i) left Range z
-immediate_is Cli here left z h = λ i. if_fits (fits_32 z h i) left Range z
-immediate_is Setv here left z h = λ i. if_fits (fits_32 z h i) left Range z
-immediate_is Reti here left z h = λ i. if_fits (fits_32 z h i) left Range z
+immediate_is : (shape : Shape) (here left : ℕ) (z : ℤ) → FitsSigned w32 z → immediate_by shape here left (alone_sum z) ≡ Ok z
+immediate_is High here left z h = λ i. if_fits (fits_either z h i) left Range (residue_is z h i)
+immediate_is Jump here left z h = λ i. if_fits (fits_32 z h i) left Near z
+immediate_is JumpIf here left z h = λ i. if_fits (fits_32 z h i) left Near z
+immediate_is JumpBelow here left z h = λ i. if_fits (fits_32 z h i) left Near z
+immediate_is _ here left z h = λ i. if_fits (fits_32 z h i) left Range z
 
 -- ---- instructions
 
@@ -172,28 +137,26 @@ pub record InstructionRead (i : Instr) : Type 0 where
   pub line : source_line_of (tokens_of (instruction_text i)) ≡ Ok (as_line (Instruction operation))
   pub item : (names : SymbolTable) (here : ℕ) → assembled_item_of names here (Instruction operation) ≡ Ok (instruction_item i)
 
-read_by : (i : Instr) (m : Mnemonic) (text : List ℕ) (rd rs : ℕ) (size : AccessSize) (imm : ℤ)
-    → instruction_text i ≡ mnemonic_text m ++ text → word_goes_on text ≡ false → OperandsRead (shape_of m) (tokens_of text) rd rs size imm
-    → FitsSigned w32 imm → instruction_with m rd rs size imm ≡ i → InstructionRead i
+read_by : (i : Instr) (text : List ℕ) (rd rs : ℕ) (size : AccessSize) (imm : ℤ)
+    → instruction_text i ≡ word_of i.opcode ++ text → word_goes_on text ≡ false → OperandsRead (shape_of i.opcode) (tokens_of text) rd rs size imm
+    → FitsSigned w32 imm → instruction_with i.opcode rd rs size imm ≡ i → InstructionRead i
 unfolding immediate_of
-read_by i m text rd rs size imm is ends o fits_in_bits back =
-    let left = length (mnemonic_text m ++ text) in
+read_by i text rd rs size imm is ends o fits back =
+    let word = word_of i.opcode in
+    let left = length (word ++ text) in
     let with = operands rd rs size o.read in
+    let shape = shape_of i.opcode in
     record {
-      operation = operation left m with;
+      operation = operation left i.opcode with;
       line =
           ap (λ t. source_line_of (tokens_of t)) is
-          ∙ ap source_line_of (word_parted (mnemonic_text m) text (is_mnemonic m).word ends)
-          ∙ line_by left (mnemonic_text m) (tokens_of text) (Instruction (operation left m with)) o.unmarked (instruction_worded left m (tokens_of text) with o.is);
+          ∙ ap source_line_of (word_parted word text (word_is i.opcode) ends)
+          ∙ line_by left word (tokens_of text) (Instruction (operation left i.opcode with)) o.unmarked (instruction_worded left i.opcode (tokens_of text) with o.is);
       item = λ names here.
-          ap (λ (r : Result Sum LineError). r >>= immediate_by m here o.read.left >>= λ z. Ok (instruction_item (instruction_of (operation left m with) z))) (o.sum names)
-          ∙ ap (λ (r : Result ℤ LineError). r >>= λ z. Ok (instruction_item (instruction_of (operation left m with) z))) (immediate_is m here o.read.left imm fits_in_bits)
+          ap (λ (r : Result Sum LineError). r >>= immediate_by shape here o.read.left >>= λ z. Ok (instruction_item (instruction_of (operation left i.opcode with) z))) (o.sum names)
+          ∙ ap (λ (r : Result ℤ LineError). r >>= λ z. Ok (instruction_item (instruction_of (operation left i.opcode with) z))) (immediate_is shape here o.read.left imm fits)
           ∙ ap (λ (x : Instr). Ok (instruction_item x)) back;
     }
-
--- the immediate of an instruction, 0 where it has none
-abbrev pub immediate : Instr → ℤ
-immediate i = (parts_of i).imm
 
 -- 0 fits it
 pub none_fits : FitsSigned w32 (pos 0)
@@ -210,82 +173,74 @@ grouped_6 a b c d e f = simp append_assoc
 grouped_7 : (a b c d e f g : List ℕ) → a ++ b ++ c ++ d ++ e ++ f ++ g ≡ a ⧺ b ⧺ c ⧺ d ⧺ e ⧺ f ⧺ g
 grouped_7 a b c d e f g = simp append_assoc
 
-immediate_grouped : (m : Mnemonic) (rd : ℕ) (imm : ℤ) → operands_text Immediate (parts m rd 0 One imm) ≡ codes " " ⧺ register_text rd ⧺ codes ", " ⧺ signed_decimal imm
-immediate_grouped m rd imm = grouped_4 (codes " ") (register_text rd) (codes ", ") (signed_decimal imm)
+-- what is printed of an access of at most one byte
+one_byte : (size : AccessSize) → One ≡ (if nat_le (bytes_of size) 1 then size else One)
+one_byte One = refl
+one_byte Two = refl
+one_byte Four = refl
+one_byte Eight = refl
 
-pair_grouped : (m : Mnemonic) (rd : ℕ) (rs : ℕ) → operands_text Pair (parts m rd rs One (pos 0)) ≡ codes " " ⧺ register_text rd ⧺ codes ", " ⧺ register_text rs
-pair_grouped m rd rs = grouped_4 (codes " ") (register_text rd) (codes ", ") (register_text rs)
+few_bytes : (size : AccessSize) → nat_le (bytes_of size) 4 ≡ true → IsSmall size
+few_bytes One h = tt
+few_bytes Two h = tt
+few_bytes Four h = tt
+few_bytes Eight h = absurd (false≢true h)
 
-memory_grouped : (m : Mnemonic) (rd : ℕ) (rs : ℕ) (size : AccessSize) (imm : ℤ) → operands_text Memory (parts m rd rs size imm) ≡ codes " " ⧺ register_text rd ⧺ codes ", " ⧺ size_text size ⧺ codes " at " ⧺ register_text rs ⧺ displacement_text imm
-memory_grouped m rd rs size imm = grouped_7 (codes " ") (register_text rd) (codes ", ") (size_text size) (codes " at ") (register_text rs) (displacement_text imm)
+module _ (i : Instr) (v : IsValid i) where
+  -- by its shape
+  read_as : (s : Shape) → shape_of i.opcode ≡ s → (text : List ℕ) (rd rs : ℕ) (size : AccessSize) (imm : ℤ)
+      → operands_text s i ≡ text → word_goes_on text ≡ false → OperandsRead s (tokens_of text) rd rs size imm → FitsSigned w32 imm
+      → instruction_named (named s) i.opcode rd rs size imm ≡ instruction_named (named s) i.opcode i.rd i.rs i.size i.imm → InstructionRead i
+  unfolding instruction_text
+  read_as s e text rd rs size imm is ends o fits same =
+      read_by i text rd rs size imm
+      (ap (λ s. word_of i.opcode ++ operands_text s i) e ∙ ap (λ (t : List ℕ). word_of i.opcode ++ t) is)
+      ends (subst (λ s. OperandsRead s (tokens_of text) rd rs size imm) (sym e) o) fits
+      (ap (λ s. instruction_named (named s) i.opcode rd rs size imm) e
+      ∙ same
+      ∙ ap (λ s. instruction_named (named s) i.opcode i.rd i.rs i.size i.imm) (sym e)
+      ∙ own_fields i v)
 
-port_read_grouped : (m : Mnemonic) (rd : ℕ) (rs : ℕ) (size : AccessSize) (imm : ℤ) → operands_text PortRead (parts m rd rs size imm) ≡ codes " " ⧺ register_text rd ⧺ codes ", " ⧺ size_text size ⧺ codes " at port " ⧺ register_text rs ⧺ displacement_text imm
-port_read_grouped m rd rs size imm = grouped_7 (codes " ") (register_text rd) (codes ", ") (size_text size) (codes " at port ") (register_text rs) (displacement_text imm)
+  at_most : (s : Shape) → shape_of i.opcode ≡ s → nat_le (bytes_of i.size) (named s).most ≡ true
+  at_most s e = subst (λ s. nat_le (bytes_of i.size) (named s).most ≡ true) e (and_parts _ (nat_le (bytes_of i.size) (named (shape_of i.opcode)).most) v.2).1
 
-port_write_grouped : (m : Mnemonic) (rd : ℕ) (rs : ℕ) (size : AccessSize) (imm : ℤ) → operands_text PortWrite (parts m rd rs size imm) ≡ codes " " ⧺ register_text rd ⧺ codes ", " ⧺ size_text size ⧺ codes " to port " ⧺ register_text rs ⧺ displacement_text imm
-port_write_grouped m rd rs size imm = grouped_7 (codes " ") (register_text rd) (codes ", ") (size_text size) (codes " to port ") (register_text rs) (displacement_text imm)
+  shape_read : FitsSigned w32 i.imm → (s : Shape) → shape_of i.opcode ≡ s → InstructionRead i
+  shape_read fits Alone e =
+      read_as Alone e [] 0 0 One (pos 0) refl refl alone_read none_fits (λ j. instr i.opcode 0 0 (one_byte i.size j) (pos 0))
+  shape_read fits Immediate e =
+      read_as Immediate e (codes " " ⧺ register_text i.rd ⧺ codes ", " ⧺ signed_decimal i.imm) i.rd 0 One i.imm (grouped_4 (codes " ") (register_text i.rd) (codes ", ") (signed_decimal i.imm)) refl
+      (immediate_read i.rd i.imm v.0 fits) fits (λ j. instr i.opcode i.rd 0 (one_byte i.size j) i.imm)
+  shape_read fits High e =
+      read_as High e (codes " " ⧺ register_text i.rd ⧺ codes ", " ⧺ signed_decimal i.imm) i.rd 0 One i.imm (grouped_4 (codes " ") (register_text i.rd) (codes ", ") (signed_decimal i.imm)) refl
+      (high_read i.rd i.imm v.0 fits) fits (λ j. instr i.opcode i.rd 0 (one_byte i.size j) i.imm)
+  shape_read fits Pair e =
+      read_as Pair e (codes " " ⧺ register_text i.rd ⧺ codes ", " ⧺ register_text i.rs) i.rd i.rs One (pos 0) (grouped_4 (codes " ") (register_text i.rd) (codes ", ") (register_text i.rs)) refl
+      (pair_read i.rd i.rs v.0 v.1) none_fits (λ j. instr i.opcode i.rd i.rs (one_byte i.size j) (pos 0))
+  shape_read fits Memory e =
+      read_as Memory e (codes " " ⧺ register_text i.rd ⧺ codes ", " ⧺ size_text i.size ⧺ codes " at " ⧺ register_text i.rs ⧺ displacement_text i.imm) i.rd i.rs i.size i.imm
+      (grouped_7 (codes " ") (register_text i.rd) (codes ", ") (size_text i.size) (codes " at ") (register_text i.rs) (displacement_text i.imm)) refl
+      (memory_read i.rd i.rs i.size i.imm v.0 v.1 fits) fits refl
+  shape_read fits PortRead e =
+      read_as PortRead e (codes " " ⧺ register_text i.rd ⧺ codes ", " ⧺ size_text i.size ⧺ codes " at port " ⧺ register_text i.rs ⧺ displacement_text i.imm) i.rd i.rs i.size i.imm
+      (grouped_7 (codes " ") (register_text i.rd) (codes ", ") (size_text i.size) (codes " at port ") (register_text i.rs) (displacement_text i.imm)) refl
+      (port_read_read i.rd i.rs i.size i.imm v.0 v.1 (few_bytes i.size (at_most PortRead e)) fits) fits refl
+  shape_read fits PortWrite e =
+      read_as PortWrite e (codes " " ⧺ register_text i.rd ⧺ codes ", " ⧺ size_text i.size ⧺ codes " to port " ⧺ register_text i.rs ⧺ displacement_text i.imm) i.rd i.rs i.size i.imm
+      (grouped_7 (codes " ") (register_text i.rd) (codes ", ") (size_text i.size) (codes " to port ") (register_text i.rs) (displacement_text i.imm)) refl
+      (port_write_read i.rd i.rs i.size i.imm v.0 v.1 (few_bytes i.size (at_most PortWrite e)) fits) fits refl
+  shape_read fits Destination e =
+      read_as Destination e (codes " " ⧺ register_text i.rd) i.rd 0 One (pos 0) refl refl (destination_read i.rd v.0) none_fits (λ j. instr i.opcode i.rd 0 (one_byte i.size j) (pos 0))
+  shape_read fits Source e =
+      read_as Source e (codes " " ⧺ register_text i.rs) 0 i.rs One (pos 0) refl refl (source_read i.rs v.1) none_fits (λ j. instr i.opcode 0 i.rs (one_byte i.size j) (pos 0))
+  shape_read fits Jump e =
+      read_as Jump e (codes " " ⧺ signed_decimal i.imm) 0 0 One i.imm refl refl (jump_read i.imm fits) fits (λ j. instr i.opcode 0 0 (one_byte i.size j) i.imm)
+  shape_read fits JumpIf e =
+      read_as JumpIf e (codes " " ⧺ register_text i.rd ⧺ codes ", " ⧺ signed_decimal i.imm) i.rd 0 One i.imm (grouped_4 (codes " ") (register_text i.rd) (codes ", ") (signed_decimal i.imm)) refl
+      (jump_if_read i.rd i.imm v.0 fits) fits (λ j. instr i.opcode i.rd 0 (one_byte i.size j) i.imm)
+  shape_read fits JumpBelow e =
+      read_as JumpBelow e (codes " " ⧺ register_text i.rd ⧺ codes ", " ⧺ register_text i.rs ⧺ codes ", " ⧺ signed_decimal i.imm) i.rd i.rs One i.imm
+      (grouped_6 (codes " ") (register_text i.rd) (codes ", ") (register_text i.rs) (codes ", ") (signed_decimal i.imm)) refl
+      (jump_below_read i.rd i.rs i.imm v.0 v.1 fits) fits (λ j. instr i.opcode i.rd i.rs (one_byte i.size j) i.imm)
 
-jump_if_grouped : (m : Mnemonic) (rd : ℕ) (imm : ℤ) → operands_text JumpIf (parts m rd 0 One imm) ≡ codes " " ⧺ register_text rd ⧺ codes ", " ⧺ signed_decimal imm
-jump_if_grouped m rd imm = grouped_4 (codes " ") (register_text rd) (codes ", ") (signed_decimal imm)
-
-jump_below_grouped : (m : Mnemonic) (rd : ℕ) (rs : ℕ) (imm : ℤ) → operands_text JumpBelow (parts m rd rs One imm) ≡ codes " " ⧺ register_text rd ⧺ codes ", " ⧺ register_text rs ⧺ codes ", " ⧺ signed_decimal imm
-jump_below_grouped m rd rs imm = grouped_6 (codes " ") (register_text rd) (codes ", ") (register_text rs) (codes ", ") (signed_decimal imm)
-
-pub instruction_read : (i : Instr) → IsValid i → FitsSigned w32 (immediate i) → InstructionRead i
-unfolding instruction_text
-instruction_read INop v fits_in_bits =
-    read_by INop Nop ([]) 0 0 One (pos 0) refl refl alone_read fits_in_bits refl
-instruction_read (ILi rd imm) v fits_in_bits =
-    read_by (ILi rd imm) Li (codes " " ⧺ register_text rd ⧺ codes ", " ⧺ signed_decimal imm) rd 0 One imm (ap (λ t. mnemonic_text Li ++ t) (immediate_grouped Li rd imm)) refl (immediate_read rd imm v fits_in_bits) fits_in_bits refl
-instruction_read (ILih rd imm) v fits_in_bits =
-    read_by (ILih rd imm) Lih (codes " " ⧺ register_text rd ⧺ codes ", " ⧺ signed_decimal imm) rd 0 One imm (ap (λ t. mnemonic_text Lih ++ t) (immediate_grouped Lih rd imm)) refl (immediate_read rd imm v fits_in_bits) fits_in_bits refl
-instruction_read (IMov rd rs) v fits_in_bits =
-    read_by (IMov rd rs) Mov (codes " " ⧺ register_text rd ⧺ codes ", " ⧺ register_text rs) rd rs One (pos 0) (ap (λ t. mnemonic_text Mov ++ t) (pair_grouped Mov rd rs)) refl (pair_read rd rs v.0 v.1) fits_in_bits refl
-instruction_read (IAdd rd rs) v fits_in_bits =
-    read_by (IAdd rd rs) Add (codes " " ⧺ register_text rd ⧺ codes ", " ⧺ register_text rs) rd rs One (pos 0) (ap (λ t. mnemonic_text Add ++ t) (pair_grouped Add rd rs)) refl (pair_read rd rs v.0 v.1) fits_in_bits refl
-instruction_read (ISub rd rs) v fits_in_bits =
-    read_by (ISub rd rs) Sub (codes " " ⧺ register_text rd ⧺ codes ", " ⧺ register_text rs) rd rs One (pos 0) (ap (λ t. mnemonic_text Sub ++ t) (pair_grouped Sub rd rs)) refl (pair_read rd rs v.0 v.1) fits_in_bits refl
-instruction_read (IAnd rd rs) v fits_in_bits =
-    read_by (IAnd rd rs) And (codes " " ⧺ register_text rd ⧺ codes ", " ⧺ register_text rs) rd rs One (pos 0) (ap (λ t. mnemonic_text And ++ t) (pair_grouped And rd rs)) refl (pair_read rd rs v.0 v.1) fits_in_bits refl
-instruction_read (IOr rd rs) v fits_in_bits =
-    read_by (IOr rd rs) Or (codes " " ⧺ register_text rd ⧺ codes ", " ⧺ register_text rs) rd rs One (pos 0) (ap (λ t. mnemonic_text Or ++ t) (pair_grouped Or rd rs)) refl (pair_read rd rs v.0 v.1) fits_in_bits refl
-instruction_read (IXor rd rs) v fits_in_bits =
-    read_by (IXor rd rs) Xor (codes " " ⧺ register_text rd ⧺ codes ", " ⧺ register_text rs) rd rs One (pos 0) (ap (λ t. mnemonic_text Xor ++ t) (pair_grouped Xor rd rs)) refl (pair_read rd rs v.0 v.1) fits_in_bits refl
-instruction_read (IShl rd rs) v fits_in_bits =
-    read_by (IShl rd rs) Shl (codes " " ⧺ register_text rd ⧺ codes ", " ⧺ register_text rs) rd rs One (pos 0) (ap (λ t. mnemonic_text Shl ++ t) (pair_grouped Shl rd rs)) refl (pair_read rd rs v.0 v.1) fits_in_bits refl
-instruction_read (IShr rd rs) v fits_in_bits =
-    read_by (IShr rd rs) Shr (codes " " ⧺ register_text rd ⧺ codes ", " ⧺ register_text rs) rd rs One (pos 0) (ap (λ t. mnemonic_text Shr ++ t) (pair_grouped Shr rd rs)) refl (pair_read rd rs v.0 v.1) fits_in_bits refl
-instruction_read (ILoad rd rs size imm) v fits_in_bits =
-    read_by (ILoad rd rs size imm) Load (codes " " ⧺ register_text rd ⧺ codes ", " ⧺ size_text size ⧺ codes " at " ⧺ register_text rs ⧺ displacement_text imm) rd rs size imm (ap (λ t. mnemonic_text Load ++ t) (memory_grouped Load rd rs size imm)) refl (memory_read rd rs size imm v.0 v.1 fits_in_bits) fits_in_bits refl
-instruction_read (IStore rd rs size imm) v fits_in_bits =
-    read_by (IStore rd rs size imm) Store (codes " " ⧺ register_text rd ⧺ codes ", " ⧺ size_text size ⧺ codes " at " ⧺ register_text rs ⧺ displacement_text imm) rd rs size imm (ap (λ t. mnemonic_text Store ++ t) (memory_grouped Store rd rs size imm)) refl (memory_read rd rs size imm v.0 v.1 fits_in_bits) fits_in_bits refl
-instruction_read (IJmp imm) v fits_in_bits =
-    read_by (IJmp imm) Jmp (codes " " ⧺ signed_decimal imm) 0 0 One imm refl refl (jump_read imm fits_in_bits) fits_in_bits refl
-instruction_read (IJz rd imm) v fits_in_bits =
-    read_by (IJz rd imm) Jz (codes " " ⧺ register_text rd ⧺ codes ", " ⧺ signed_decimal imm) rd 0 One imm (ap (λ t. mnemonic_text Jz ++ t) (jump_if_grouped Jz rd imm)) refl (jump_if_read rd imm v fits_in_bits) fits_in_bits refl
-instruction_read (IJnz rd imm) v fits_in_bits =
-    read_by (IJnz rd imm) Jnz (codes " " ⧺ register_text rd ⧺ codes ", " ⧺ signed_decimal imm) rd 0 One imm (ap (λ t. mnemonic_text Jnz ++ t) (jump_if_grouped Jnz rd imm)) refl (jump_if_read rd imm v fits_in_bits) fits_in_bits refl
-instruction_read (IJb rd rs imm) v fits_in_bits =
-    read_by (IJb rd rs imm) Jb (codes " " ⧺ register_text rd ⧺ codes ", " ⧺ register_text rs ⧺ codes ", " ⧺ signed_decimal imm) rd rs One imm (ap (λ t. mnemonic_text Jb ++ t) (jump_below_grouped Jb rd rs imm)) refl (jump_below_read rd rs imm v.0 v.1 fits_in_bits) fits_in_bits refl
-instruction_read (IIn rd rs size imm) v fits_in_bits =
-    read_by (IIn rd rs size imm) In (codes " " ⧺ register_text rd ⧺ codes ", " ⧺ size_text size ⧺ codes " at port " ⧺ register_text rs ⧺ displacement_text imm) rd rs size imm (ap (λ t. mnemonic_text In ++ t) (port_read_grouped In rd rs size imm)) refl (port_read_read rd rs size imm v.0.0 v.0.1 v.1 fits_in_bits) fits_in_bits refl
-instruction_read (IOut rd rs size imm) v fits_in_bits =
-    read_by (IOut rd rs size imm) Out (codes " " ⧺ register_text rd ⧺ codes ", " ⧺ size_text size ⧺ codes " to port " ⧺ register_text rs ⧺ displacement_text imm) rd rs size imm (ap (λ t. mnemonic_text Out ++ t) (port_write_grouped Out rd rs size imm)) refl (port_write_read rd rs size imm v.0.0 v.0.1 v.1 fits_in_bits) fits_in_bits refl
-instruction_read (IRdmsr rd rs) v fits_in_bits =
-    read_by (IRdmsr rd rs) Rdmsr (codes " " ⧺ register_text rd ⧺ codes ", " ⧺ register_text rs) rd rs One (pos 0) (ap (λ t. mnemonic_text Rdmsr ++ t) (pair_grouped Rdmsr rd rs)) refl (pair_read rd rs v.0 v.1) fits_in_bits refl
-instruction_read (IWrmsr rd rs) v fits_in_bits =
-    read_by (IWrmsr rd rs) Wrmsr (codes " " ⧺ register_text rd ⧺ codes ", " ⧺ register_text rs) rd rs One (pos 0) (ap (λ t. mnemonic_text Wrmsr ++ t) (pair_grouped Wrmsr rd rs)) refl (pair_read rd rs v.0 v.1) fits_in_bits refl
-instruction_read (IRdtsc rd) v fits_in_bits =
-    read_by (IRdtsc rd) Rdtsc (codes " " ⧺ register_text rd) rd 0 One (pos 0) refl refl (destination_read rd v) fits_in_bits refl
-instruction_read (IVmcall rs) v fits_in_bits =
-    read_by (IVmcall rs) Vmcall (codes " " ⧺ register_text rs) 0 rs One (pos 0) refl refl (source_read rs v) fits_in_bits refl
-instruction_read IHlt v fits_in_bits =
-    read_by IHlt Hlt ([]) 0 0 One (pos 0) refl refl alone_read fits_in_bits refl
-instruction_read ISti v fits_in_bits =
-    read_by ISti Sti ([]) 0 0 One (pos 0) refl refl alone_read fits_in_bits refl
-instruction_read ICli v fits_in_bits =
-    read_by ICli Cli ([]) 0 0 One (pos 0) refl refl alone_read fits_in_bits refl
-instruction_read (ISetv rs) v fits_in_bits =
-    read_by (ISetv rs) Setv (codes " " ⧺ register_text rs) 0 rs One (pos 0) refl refl (source_read rs v) fits_in_bits refl
-instruction_read IReti v fits_in_bits =
-    read_by IReti Reti ([]) 0 0 One (pos 0) refl refl alone_read fits_in_bits refl
+pub instruction_read : (i : Instr) → IsValid i → FitsSigned w32 i.imm → InstructionRead i
+instruction_read i v fits = shape_read i v fits (shape_of i.opcode) refl

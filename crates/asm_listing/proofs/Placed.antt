@@ -1,6 +1,5 @@
 -- Where the items of a source that is read stand, and what their bytes are.
 use Rattle.std.proofs.Common.{◌≡◌, ℕ, zero, suc, ◌+◌, ◌-◌, ◌*◌, ◌%◌, ◌<◌, ◌≤◌, ℤ, pos, List, [], ◌∷◌, length, ap, sym, ◌∙◌, subst, w32, arith}
-use Rattle.std.specs.Int.{bytes_low_first, byte_at, cast_unsigned, to_le_bytes}
 use Rattle.std.specs.Int.RustNames.{FitsSigned}
 use Rattle.std.specs.List.{All, flat_map}
 use Rattle.std.proofs.lemmas.List.Elements.{All-append, All-cons, All-nil, All-replicate}
@@ -8,10 +7,7 @@ use Rattle.muen_num.specs.AccessSize.{bytes_of}
 use Rattle.muen_num.specs.declared.access.AccessSize.{AccessSize}
 use Rattle.muen_num.specs.declared.access.AccessSize.TheVariants.{One, Two, Four, Eight}
 use Rattle.muen_num.specs.declared.limits.TheConstants.{COMPONENT_FILE_MOST}
-use Rattle.muen_num.proofs.Numbers.{byte_low}
-use Rattle.guest_isa.specs.GuestIsa.{IsValid, code_of, encoding_of, fields, spelled}
-use Rattle.guest_isa.specs.declared.instr.Instr.{Instr}
-use Rattle.guest_isa.specs.declared.instr.Instr.TheVariants.{Nop, Li, Lih, Mov, Add, Sub, And, Or, Xor, Shl, Shr, Load, Store, Jmp, Jz, Jnz, Jb, In, Out, Rdmsr, Wrmsr, Rdtsc, Vmcall, Hlt, Sti, Cli, Setv, Reti}
+use Rattle.guest_isa.proofs.Spelled.{bytes_low, encoding_low}
 use Rattle.text_words.specs.Parts.{lines_of}
 use Rattle.asm_text.specs.Appended.{behind}
 use Rattle.asm_text.specs.Layout.{SymbolTable, at_start, in_source_line, layout_from}
@@ -19,7 +15,7 @@ use Rattle.asm_text.specs.Meaning.{SourceItem, instruction, data_of, zeros, byte
 use Rattle.asm_text.specs.declared.statement.Placed.{Placed}
 use Rattle.asm_text.specs.declared.statement.Statement.{Statement}
 use Rattle.asm_text.specs.declared.statement.Statement.TheVariants.{Nothing, Definition, Offset, Data, Instruction}
-use Rattle.asm_text.proofs.Accepted.{Holds, holds_then, zero_low}
+use Rattle.asm_text.proofs.Accepted.{Holds, holds_then}
 use Rattle.asm_text.proofs.Seats.{AreSeated, AreSeatedIn, IsLong, IsPassed, encoding_long, filled, in_line_holds, layout_seated, numbers_long, numbers_many}
 use Rattle.asm_listing.proofs.Accepted.{IsSound, immediate_fits, sound_with}
 use Rattle.guest_isa.specs.Words.{IsByte}
@@ -39,10 +35,6 @@ AreStanding here (item ∷ items) = IsSeat here item × All IsByte (bytes_of_ite
 
 -- ---- bytes
 
-bytes_low : (i k n : ℕ) → All IsByte (bytes_low_first i k n)
-bytes_low i zero n = All-nil IsByte
-bytes_low i (suc k) n = All-cons IsByte (byte_at i n) (bytes_low_first (suc i) k n) (byte_low i n) (bytes_low (suc i) k n)
-
 number_low : (size : AccessSize) (n : ℕ) → All IsByte (little_endian size n)
 number_low One n = bytes_low 0 1 n
 number_low Two n = bytes_low 0 2 n
@@ -52,51 +44,6 @@ number_low Eight n = bytes_low 0 8 n
 numbers_low : (size : AccessSize) (ns : List ℕ) → All IsByte (flat_map (little_endian size) ns)
 numbers_low size [] = All-nil IsByte
 numbers_low size (n ∷ ns) = All-append IsByte (little_endian size n) (flat_map (little_endian size) ns) (number_low size n) (numbers_low size ns)
-
-fields_low : (opcode rd rs size : ℕ) (z : ℤ) → opcode < 256 → rd < 16 → rs < 16 → size < 256 → All IsByte (spelled (fields opcode rd rs size z))
-fields_low opcode rd rs size z o h k s =
-    let two : rd * 16 + rs < 256 = omega arith in
-    let none : 0 < 256 = omega arith in
-    let word = to_le_bytes w32 (cast_unsigned w32 z) in
-    All-cons IsByte opcode ((rd * 16 + rs) ∷ size ∷ 0 ∷ word) o
-    (All-cons IsByte (rd * 16 + rs) (size ∷ 0 ∷ word) two (All-cons IsByte size (0 ∷ word) s (All-cons IsByte 0 word none (bytes_low 0 4 (cast_unsigned w32 z)))))
-
-code_low : (size : AccessSize) → code_of size < 256
-code_low One = omega arith
-code_low Two = omega arith
-code_low Four = omega arith
-code_low Eight = omega arith
-
-encoding_low : (i : Instr) → IsValid i → All IsByte (encoding_of i)
-unfolding encoding_of
-encoding_low Nop v = fields_low 0 0 0 0 (pos 0) (omega arith) zero_low zero_low (omega arith)
-encoding_low (Li rd imm) v = fields_low 1 rd 0 0 imm (omega arith) v zero_low (omega arith)
-encoding_low (Lih rd imm) v = fields_low 2 rd 0 0 imm (omega arith) v zero_low (omega arith)
-encoding_low (Mov rd rs) v = fields_low 3 rd rs 0 (pos 0) (omega arith) v.0 v.1 (omega arith)
-encoding_low (Add rd rs) v = fields_low 4 rd rs 0 (pos 0) (omega arith) v.0 v.1 (omega arith)
-encoding_low (Sub rd rs) v = fields_low 5 rd rs 0 (pos 0) (omega arith) v.0 v.1 (omega arith)
-encoding_low (And rd rs) v = fields_low 6 rd rs 0 (pos 0) (omega arith) v.0 v.1 (omega arith)
-encoding_low (Or rd rs) v = fields_low 7 rd rs 0 (pos 0) (omega arith) v.0 v.1 (omega arith)
-encoding_low (Xor rd rs) v = fields_low 8 rd rs 0 (pos 0) (omega arith) v.0 v.1 (omega arith)
-encoding_low (Shl rd rs) v = fields_low 9 rd rs 0 (pos 0) (omega arith) v.0 v.1 (omega arith)
-encoding_low (Shr rd rs) v = fields_low 10 rd rs 0 (pos 0) (omega arith) v.0 v.1 (omega arith)
-encoding_low (Load rd rs size imm) v = fields_low 11 rd rs (code_of size) imm (omega arith) v.0 v.1 (code_low size)
-encoding_low (Store rd rs size imm) v = fields_low 12 rd rs (code_of size) imm (omega arith) v.0 v.1 (code_low size)
-encoding_low (Jmp imm) v = fields_low 13 0 0 0 imm (omega arith) zero_low zero_low (omega arith)
-encoding_low (Jz rd imm) v = fields_low 14 rd 0 0 imm (omega arith) v zero_low (omega arith)
-encoding_low (Jnz rd imm) v = fields_low 15 rd 0 0 imm (omega arith) v zero_low (omega arith)
-encoding_low (Jb rd rs imm) v = fields_low 16 rd rs 0 imm (omega arith) v.0 v.1 (omega arith)
-encoding_low (In rd rs size imm) v = fields_low 17 rd rs (code_of size) imm (omega arith) v.0.0 v.0.1 (code_low size)
-encoding_low (Out rd rs size imm) v = fields_low 18 rd rs (code_of size) imm (omega arith) v.0.0 v.0.1 (code_low size)
-encoding_low (Rdmsr rd rs) v = fields_low 19 rd rs 0 (pos 0) (omega arith) v.0 v.1 (omega arith)
-encoding_low (Wrmsr rd rs) v = fields_low 20 rd rs 0 (pos 0) (omega arith) v.0 v.1 (omega arith)
-encoding_low (Rdtsc rd) v = fields_low 21 rd 0 0 (pos 0) (omega arith) v zero_low (omega arith)
-encoding_low (Vmcall rs) v = fields_low 22 0 rs 0 (pos 0) (omega arith) zero_low v (omega arith)
-encoding_low Hlt v = fields_low 23 0 0 0 (pos 0) (omega arith) zero_low zero_low (omega arith)
-encoding_low Sti v = fields_low 24 0 0 0 (pos 0) (omega arith) zero_low zero_low (omega arith)
-encoding_low Cli v = fields_low 25 0 0 0 (pos 0) (omega arith) zero_low zero_low (omega arith)
-encoding_low (Setv rs) v = fields_low 26 0 rs 0 (pos 0) (omega arith) zero_low v (omega arith)
-encoding_low Reti v = fields_low 27 0 0 0 (pos 0) (omega arith) zero_low zero_low (omega arith)
 
 -- ---- what statements come to
 
@@ -116,7 +63,7 @@ item_placed names here (Data left size values) h =
     (tt, numbers_low size ns, ap (λ n. here + n) (numbers_long size ns ∙ ap (λ n. n * bytes_of size) many))
 item_placed names here (Instruction o) h =
     holds_then (FitsSigned w32) (IsPlaced here (here + 8)) (immediate_of names here o) _ (immediate_fits names here o) λ z fits.
-    let sound = sound_with o.mnemonic o.operands.rd o.operands.rs o.operands.size z h.1.rd h.1.rs h.1.size fits in
+    let sound = sound_with o.opcode o.operands.rd o.operands.rs o.operands.size z h.1.rd h.1.rs fits in
     ((h.0, sound), encoding_low (instruction_of o z) sound.valid, ap (λ n. here + n) (encoding_long (instruction_of o z)))
 
 pub items_standing : (names : SymbolTable) (lines : List Placed) (here : ℕ) → AreSeated here lines → Holds (AreStanding here) (items_of names lines)

@@ -1,4 +1,4 @@
--- What stands behind a mnemonic reads as it was printed, for each shape.
+-- What stands behind an instruction's word reads as it was printed, for each shape.
 use Rattle.std.proofs.Common.{◌≡◌, ℕ, ◌<◌, ℤ, pos, List, [], ◌∷◌, length, Result, Ok, refl, ap, sym, subst, ◌∙◌, w32}
 use Rattle.std.specs.Prelude.{codes}
 use Rattle.std.specs.Fmt.{signed_decimal}
@@ -14,8 +14,8 @@ use Rattle.asm_text.specs.Tokens.{Tokens, end_with, token, tokens_of}
 use Rattle.asm_text.specs.declared.fault.LineError.{LineError}
 use Rattle.asm_text.specs.declared.fault.Want.{Want}
 use Rattle.asm_text.specs.declared.fault.Want.TheVariants.{At, To, Port as PortWant}
-use Rattle.asm_text.specs.declared.mnemonic.Shape.{Shape}
-use Rattle.asm_text.specs.declared.mnemonic.Shape.TheVariants.{Alone, Immediate, Pair, Memory, PortRead, PortWrite, Destination, Source, Jump, JumpIf, JumpBelow}
+use Rattle.guest_isa.specs.declared.opcode.Shape.{Shape}
+use Rattle.guest_isa.specs.declared.opcode.Shape.TheVariants.{Alone, Immediate, High, Pair, Memory, PortRead, PortWrite, Destination, Source, Jump, JumpIf, JumpBelow}
 use Rattle.asm_text.specs.declared.statement.Operands.{Operands}
 use Rattle.asm_text.specs.declared.statement.Value.{Value}
 use Rattle.asm_listing.specs.Source.{displacement_text, register_text, size_text}
@@ -97,6 +97,11 @@ pub immediate_read : (rd : ℕ) (imm : ℤ) → rd < 16 → FitsSigned w32 imm
     → OperandsRead Immediate (tokens_of (codes " " ⧺ register_text rd ⧺ codes ", " ⧺ signed_decimal imm)) rd 0 One imm
 unfolding operands_of
 immediate_read rd imm h fits = immediate_at Immediate (λ ts. refl) rd imm h fits
+
+pub high_read : (rd : ℕ) (imm : ℤ) → rd < 16 → FitsSigned w32 imm
+    → OperandsRead High (tokens_of (codes " " ⧺ register_text rd ⧺ codes ", " ⧺ signed_decimal imm)) rd 0 One imm
+unfolding operands_of
+high_read rd imm h fits = immediate_at High (λ ts. refl) rd imm h fits
 
 pub jump_if_read : (rd : ℕ) (imm : ℤ) → rd < 16 → FitsSigned w32 imm
     → OperandsRead JumpIf (tokens_of (codes " " ⧺ register_text rd ⧺ codes ", " ⧺ signed_decimal imm)) rd 0 One imm

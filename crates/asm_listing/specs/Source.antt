@@ -5,51 +5,12 @@ use Rattle.std.specs.List.{flat_map}
 use Rattle.hex.specs.Hex.{encode_lower}
 use Rattle.muen_num.specs.declared.access.AccessSize.{AccessSize}
 use Rattle.muen_num.specs.declared.access.AccessSize.TheVariants.{One, Two, Four, Eight}
-use Rattle.guest_isa.specs.GuestIsa.{decode_of}
+use Rattle.guest_isa.specs.GuestIsa.{decode_of, shape_of, word_of}
 use Rattle.guest_isa.specs.declared.instr.Instr.{Instr}
-use Rattle.guest_isa.specs.declared.instr.Instr.TheVariants.{Nop as INop, Li as ILi, Lih as ILih, Mov as IMov, Add as IAdd, Sub as ISub, And as IAnd, Or as IOr, Xor as IXor, Shl as IShl, Shr as IShr, Load as ILoad, Store as IStore, Jmp as IJmp, Jz as IJz, Jnz as IJnz, Jb as IJb, In as IIn, Out as IOut, Rdmsr as IRdmsr, Wrmsr as IWrmsr, Rdtsc as IRdtsc, Vmcall as IVmcall, Hlt as IHlt, Sti as ISti, Cli as ICli, Setv as ISetv, Reti as IReti}
-use Rattle.asm_text.specs.Mnemonics.{mnemonic_text, shape_of}
-use Rattle.asm_text.specs.declared.mnemonic.Mnemonic.{Mnemonic}
-use Rattle.asm_text.specs.declared.mnemonic.Mnemonic.TheVariants.{Nop, Li, Lih, Mov, Add, Sub, And, Or, Xor, Shl, Shr, Load, Store, Jmp, Jz, Jnz, Jb, In, Out, Rdmsr, Wrmsr, Rdtsc, Vmcall, Hlt, Sti, Cli, Setv, Reti}
-use Rattle.asm_text.specs.declared.mnemonic.Shape.{Shape}
-use Rattle.asm_text.specs.declared.mnemonic.Shape.TheVariants.{Alone, Immediate, Pair, Memory, PortRead, PortWrite, Destination, Source, Jump, JumpIf, JumpBelow}
-use Rattle.asm_listing.specs.declared.parts.Parts.{Parts}
+use Rattle.guest_isa.specs.declared.opcode.Shape.{Shape}
+use Rattle.guest_isa.specs.declared.opcode.Shape.TheVariants.{Alone, Immediate, High, Pair, Memory, PortRead, PortWrite, Destination, Source, Jump, JumpIf, JumpBelow}
 
 -- ---- instructions
-
-abbrev pub parts : Mnemonic → ℕ → ℕ → AccessSize → ℤ → Parts
-parts mnemonic rd rs size imm = record { mnemonic = mnemonic; rd = rd; rs = rs; size = size; imm = imm }
-
--- its mnemonic, and what stands behind that: 0 and one byte for what it doesn't name
-abbrev pub parts_of : Instr → Parts
-parts_of INop = parts Nop 0 0 One (pos 0)
-parts_of (ILi rd imm) = parts Li rd 0 One imm
-parts_of (ILih rd imm) = parts Lih rd 0 One imm
-parts_of (IMov rd rs) = parts Mov rd rs One (pos 0)
-parts_of (IAdd rd rs) = parts Add rd rs One (pos 0)
-parts_of (ISub rd rs) = parts Sub rd rs One (pos 0)
-parts_of (IAnd rd rs) = parts And rd rs One (pos 0)
-parts_of (IOr rd rs) = parts Or rd rs One (pos 0)
-parts_of (IXor rd rs) = parts Xor rd rs One (pos 0)
-parts_of (IShl rd rs) = parts Shl rd rs One (pos 0)
-parts_of (IShr rd rs) = parts Shr rd rs One (pos 0)
-parts_of (ILoad rd rs size imm) = parts Load rd rs size imm
-parts_of (IStore rd rs size imm) = parts Store rd rs size imm
-parts_of (IJmp imm) = parts Jmp 0 0 One imm
-parts_of (IJz rd imm) = parts Jz rd 0 One imm
-parts_of (IJnz rd imm) = parts Jnz rd 0 One imm
-parts_of (IJb rd rs imm) = parts Jb rd rs One imm
-parts_of (IIn rd rs size imm) = parts In rd rs size imm
-parts_of (IOut rd rs size imm) = parts Out rd rs size imm
-parts_of (IRdmsr rd rs) = parts Rdmsr rd rs One (pos 0)
-parts_of (IWrmsr rd rs) = parts Wrmsr rd rs One (pos 0)
-parts_of (IRdtsc rd) = parts Rdtsc rd 0 One (pos 0)
-parts_of (IVmcall rs) = parts Vmcall 0 rs One (pos 0)
-parts_of IHlt = parts Hlt 0 0 One (pos 0)
-parts_of ISti = parts Sti 0 0 One (pos 0)
-parts_of ICli = parts Cli 0 0 One (pos 0)
-parts_of (ISetv rs) = parts Setv 0 rs One (pos 0)
-parts_of IReti = parts Reti 0 0 One (pos 0)
 
 abbrev pub register_text : ℕ → List ℕ
 register_text r = codes "r" ++ decimal r
@@ -66,30 +27,28 @@ displacement_text (pos zero) = []
 displacement_text (pos (suc n)) = codes " + " ++ decimal (suc n)
 displacement_text (negsuc n) = codes " - " ++ decimal (suc n)
 
--- what stands behind a mnemonic of this shape
-abbrev pub operands_text : Shape → Parts → List ℕ
-operands_text Alone p = []
-operands_text Immediate p = codes " " ++ register_text p.rd ++ codes ", " ++ signed_decimal p.imm
-operands_text Pair p = codes " " ++ register_text p.rd ++ codes ", " ++ register_text p.rs
-operands_text Memory p =
-    codes " " ++ register_text p.rd ++ codes ", " ++ size_text p.size ++ codes " at " ++ register_text p.rs ++ displacement_text p.imm
-operands_text PortRead p =
-    codes " " ++ register_text p.rd ++ codes ", " ++ size_text p.size ++ codes " at port " ++ register_text p.rs ++ displacement_text p.imm
-operands_text PortWrite p =
-    codes " " ++ register_text p.rd ++ codes ", " ++ size_text p.size ++ codes " to port " ++ register_text p.rs ++ displacement_text p.imm
-operands_text Destination p = codes " " ++ register_text p.rd
-operands_text Source p = codes " " ++ register_text p.rs
-operands_text Jump p = codes " " ++ signed_decimal p.imm
-operands_text JumpIf p = codes " " ++ register_text p.rd ++ codes ", " ++ signed_decimal p.imm
-operands_text JumpBelow p =
-    codes " " ++ register_text p.rd ++ codes ", " ++ register_text p.rs ++ codes ", " ++ signed_decimal p.imm
-
-abbrev pub parts_text : Parts → List ℕ
-parts_text p = mnemonic_text p.mnemonic ++ operands_text (shape_of p.mnemonic) p
+-- what stands behind a word of this shape
+abbrev pub operands_text : Shape → Instr → List ℕ
+operands_text Alone i = []
+operands_text Immediate i = codes " " ++ register_text i.rd ++ codes ", " ++ signed_decimal i.imm
+operands_text High i = codes " " ++ register_text i.rd ++ codes ", " ++ signed_decimal i.imm
+operands_text Pair i = codes " " ++ register_text i.rd ++ codes ", " ++ register_text i.rs
+operands_text Memory i =
+    codes " " ++ register_text i.rd ++ codes ", " ++ size_text i.size ++ codes " at " ++ register_text i.rs ++ displacement_text i.imm
+operands_text PortRead i =
+    codes " " ++ register_text i.rd ++ codes ", " ++ size_text i.size ++ codes " at port " ++ register_text i.rs ++ displacement_text i.imm
+operands_text PortWrite i =
+    codes " " ++ register_text i.rd ++ codes ", " ++ size_text i.size ++ codes " to port " ++ register_text i.rs ++ displacement_text i.imm
+operands_text Destination i = codes " " ++ register_text i.rd
+operands_text Source i = codes " " ++ register_text i.rs
+operands_text Jump i = codes " " ++ signed_decimal i.imm
+operands_text JumpIf i = codes " " ++ register_text i.rd ++ codes ", " ++ signed_decimal i.imm
+operands_text JumpBelow i =
+    codes " " ++ register_text i.rd ++ codes ", " ++ register_text i.rs ++ codes ", " ++ signed_decimal i.imm
 
 -- an instruction, as the table of guests prints it
 unfoldable pub instruction_text : Instr → List ℕ
-instruction_text i = parts_text (parts_of i)
+instruction_text i = word_of i.opcode ++ operands_text (shape_of i.opcode) i
 
 -- ---- data
 

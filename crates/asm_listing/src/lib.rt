@@ -3,7 +3,6 @@
 
 mod laws;
 mod listing;
-mod parts;
 mod source;
 mod spelling;
 

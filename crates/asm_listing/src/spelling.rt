@@ -4,12 +4,9 @@ ghost use Rattle.std.specs.Prelude.{◌≡◌, ◌+◌, ◌*◌, ◌≤◌, ◌�
 ghost use Rattle.std.specs.Fmt.{signed_decimal};
 ghost use Rattle.std.specs.List.{flat_map};
 ghost use Rattle.hex.specs.Hex.{encode_lower};
-ghost use Rattle.asm_text.specs.Mnemonics.{mnemonic_text};
-ghost use Rattle.asm_listing.specs.Source.{byte_text, chunk_text, data_text, displacement_text, instruction_in, instruction_text, operands_text, parts_text, register_text, size_text};
+ghost use Rattle.asm_listing.specs.Source.{byte_text, chunk_text, data_text, displacement_text, instruction_in, instruction_text, operands_text, register_text, size_text};
 
-use crate::parts::{Parts, parts_of};
-use asm_text::{Mnemonic, Shape};
-use guest_isa::{Instr, decode};
+use guest_isa::{Instr, Shape, decode};
 use itoa::Buffer;
 use muen_num::AccessSize;
 use muen_num::text::{append, append_decimal8, append_decimal32};
@@ -84,68 +81,51 @@ fn append_immediate(out: &mut [u8], at: usize, rd: u8, imm: i32) -> usize
 }
 
 // `rd, SIZE`, the words behind, and `rs + imm`.
-fn append_access(out: &mut [u8], at: usize, p: &Parts, words: &[u8]) -> usize
+fn append_access(out: &mut [u8], at: usize, i: &Instr, words: &[u8]) -> usize
     requires room { at + 40 ≤ length out.old }
     requires short { length words.now ≤ 9 }
     ensures end { result ≤ at + 40 }
-    ensures text { take result out.new ≡ take at out.old ++ (codes " " ++ register_text p.now.rd ++ codes ", " ++ size_text p.now.size ++ words.now ++ register_text p.now.rs ++ displacement_text p.now.imm) }
+    ensures text { take result out.new ≡ take at out.old ++ (codes " " ++ register_text i.now.rd ++ codes ", " ++ size_text i.now.size ++ words.now ++ register_text i.now.rs ++ displacement_text i.now.imm) }
 {
     let at = append(out, at, b" ");
-    let at = append_register(out, at, p.rd);
+    let at = append_register(out, at, i.rd);
     let at = append(out, at, b", ");
-    let at = append_size(out, at, p.size);
+    let at = append_size(out, at, i.size);
     let at = append(out, at, words);
-    let at = append_register(out, at, p.rs);
-    append_displacement(out, at, p.imm)
+    let at = append_register(out, at, i.rs);
+    append_displacement(out, at, i.imm)
 }
 
-fn append_operands(out: &mut [u8], at: usize, shape: Shape, p: &Parts) -> usize
+fn append_operands(out: &mut [u8], at: usize, shape: Shape, i: &Instr) -> usize
     requires { at + 40 ≤ length out.old }
     ensures end { result ≤ at + 40 }
-    ensures text { take result out.new ≡ take at out.old ++ operands_text shape p.now }
+    ensures text { take result out.new ≡ take at out.old ++ operands_text shape i.now }
 {
     match shape {
         Shape::Alone => at,
-        Shape::Immediate | Shape::JumpIf => append_immediate(out, at, p.rd, p.imm),
-        Shape::Pair => append_pair(out, at, p.rd, p.rs),
-        Shape::Memory => append_access(out, at, p, b" at "),
-        Shape::PortRead => append_access(out, at, p, b" at port "),
-        Shape::PortWrite => append_access(out, at, p, b" to port "),
+        Shape::Immediate | Shape::High | Shape::JumpIf => append_immediate(out, at, i.rd, i.imm),
+        Shape::Pair => append_pair(out, at, i.rd, i.rs),
+        Shape::Memory => append_access(out, at, i, b" at "),
+        Shape::PortRead => append_access(out, at, i, b" at port "),
+        Shape::PortWrite => append_access(out, at, i, b" to port "),
         Shape::Destination => {
             let at = append(out, at, b" ");
-            append_register(out, at, p.rd)
+            append_register(out, at, i.rd)
         }
         Shape::Source => {
             let at = append(out, at, b" ");
-            append_register(out, at, p.rs)
+            append_register(out, at, i.rs)
         }
         Shape::Jump => {
             let at = append(out, at, b" ");
-            append_signed(out, at, p.imm)
+            append_signed(out, at, i.imm)
         }
         Shape::JumpBelow => {
-            let at = append_pair(out, at, p.rd, p.rs);
+            let at = append_pair(out, at, i.rd, i.rs);
             let at = append(out, at, b", ");
-            append_signed(out, at, p.imm)
+            append_signed(out, at, i.imm)
         }
     }
-}
-
-fn append_parts(out: &mut [u8], at: usize, p: &Parts) -> usize
-    requires { at + 46 ≤ length out.old }
-    ensures end { result ≤ at + 46 }
-    ensures text { take result out.new ≡ take at out.old ++ parts_text p.now }
-{
-    let at = append_mnemonic(out, at, p.mnemonic);
-    append_operands(out, at, p.mnemonic.shape(), p)
-}
-
-fn append_mnemonic(out: &mut [u8], at: usize, mnemonic: Mnemonic) -> usize
-    requires { at + 6 ≤ length out.old }
-    ensures end { result ≤ at + 6 }
-    ensures text { take result out.new ≡ take at out.old ++ mnemonic_text mnemonic }
-{
-    append(out, at, mnemonic.as_str().as_bytes())
 }
 
 #[tactic(auto, unfolding(crate::specs::Source::instruction_text))]
@@ -154,7 +134,8 @@ fn append_instruction(out: &mut [u8], at: usize, i: &Instr) -> usize
     ensures end { result ≤ at + 46 }
     ensures text { take result out.new ≡ take at out.old ++ instruction_text i.now }
 {
-    append_parts(out, at, &parts_of(i))
+    let at = append(out, at, i.opcode.word().as_bytes());
+    append_operands(out, at, i.opcode.shape(), i)
 }
 
 // ---- data

@@ -1,4 +1,4 @@
--- What holds of a line that is read: registers are below 16, and a port's access is of at most four bytes.
+-- What holds of a line that is read: registers are below 16.
 use Rattle.std.proofs.Common.{◌≡◌, ℕ, ◌<◌, Bool, true, false, List, Option, Some, None, Result, Ok, Err, refl, arith}
 use Rattle.std.specs.Prelude.{if◌then◌else◌, codes, nat_lt, option_and_then}
 use Rattle.std.specs.Result.{result_ok}
@@ -6,19 +6,18 @@ use Rattle.std.specs.Str.{bytes_eq}
 use Rattle.std.proofs.lemmas.Bool.{ltb-true}
 use Rattle.muen_num.specs.declared.access.AccessSize.{AccessSize}
 use Rattle.muen_num.specs.declared.access.AccessSize.TheVariants.{One, Two, Four, Eight}
-use Rattle.guest_isa.specs.GuestIsa.{IsSmall}
+use Rattle.guest_isa.specs.GuestIsa.{opcode_with, shape_of}
 use Rattle.text_words.specs.Numbers.{decimal}
 use Rattle.text_words.specs.Steps.{◌>>=◌, ◌>>◌}
-use Rattle.asm_text.specs.Mnemonics.{shape_of}
 use Rattle.asm_text.specs.Reading.{at_end, below_jump, comma, data_line, definition, directive, displacement, found, immediate as immediate_operands, instruction, integer, keyword, label, source_line_of, memory, name_or_wanted, number, offset_line, operands_of, pair, place, port, register_token, size, small, statement, value, values, worded}
 use Rattle.asm_text.specs.Tokens.{Tokens, end_with, token}
-use Rattle.asm_text.specs.Words.{behind, if_below, data_size_of, mnemonic_of}
+use Rattle.asm_text.specs.Words.{behind, if_below, data_size_of}
 use Rattle.asm_text.specs.declared.fault.LineError.{LineError}
 use Rattle.asm_text.specs.declared.fault.Want.{Want}
 use Rattle.asm_text.specs.declared.fault.Want.TheVariants.{Register, At, To}
-use Rattle.asm_text.specs.declared.mnemonic.Mnemonic.{Mnemonic}
-use Rattle.asm_text.specs.declared.mnemonic.Shape.{Shape}
-use Rattle.asm_text.specs.declared.mnemonic.Shape.TheVariants.{Alone, Immediate, Pair, Memory, PortRead, PortWrite, Destination, Source, Jump, JumpIf, JumpBelow}
+use Rattle.guest_isa.specs.declared.opcode.Opcode.{Opcode}
+use Rattle.guest_isa.specs.declared.opcode.Shape.{Shape}
+use Rattle.guest_isa.specs.declared.opcode.Shape.TheVariants.{Alone, Immediate, High, Pair, Memory, PortRead, PortWrite, Destination, Source, Jump, JumpIf, JumpBelow}
 use Rattle.asm_text.specs.declared.statement.Operands.{Operands}
 use Rattle.asm_text.specs.declared.statement.SourceLine.{SourceLine}
 use Rattle.asm_text.specs.declared.statement.Statement.{Statement}
@@ -59,16 +58,10 @@ either P false x y h k = k
 
 -- ---- operands
 
-abbrev pub SizeFits : Shape → AccessSize → Type 0
-SizeFits PortRead size = IsSmall size
-SizeFits PortWrite size = IsSmall size
-SizeFits _ size = Unit {0}
-
--- registers are below 16, and an access to a port is of at most four bytes
-pub record AreFit (shape : Shape) (o : Operands) : Type 0 where
+-- registers are below 16
+pub record AreFit (o : Operands) : Type 0 where
   pub rd : o.rd < 16
   pub rs : o.rs < 16
-  pub size : SizeFits shape o.size
 
 -- register 0 is one of them
 pub zero_low : 0 < 16
@@ -112,85 +105,79 @@ place_low ts =
     after LowPlace (displacement x.1) _ λ y.
     h
 
-module _ (shape : Shape) where
-  abbrev FitFirst : Operands × Tokens → Type 0
-  FitFirst x = AreFit shape x.0
+abbrev FitFirst : Operands × Tokens → Type 0
+FitFirst x = AreFit x.0
 
-fit : {shape : Shape} {o : Operands} → o.rd < 16 → o.rs < 16 → SizeFits shape o.size → AreFit shape o
-fit h k s = record { rd = h; rs = k; size = s }
+fit : {o : Operands} → o.rd < 16 → o.rs < 16 → AreFit o
+fit h k = record { rd = h; rs = k }
 
-immediate_fit : (shape : Shape) → SizeFits shape One → (ts : Tokens) → Holds (FitFirst shape) (immediate_operands ts)
+immediate_fit : (ts : Tokens) → Holds FitFirst (immediate_operands ts)
 unfolding immediate_operands
-immediate_fit shape s ts =
-    holds_then LowFirst (FitFirst shape) (register_token ts) _ (register_low ts) λ x h.
-    after (FitFirst shape) (comma x.1) _ λ ts.
-    after (FitFirst shape) (value ts) _ λ y.
-    fit h zero_low s
+immediate_fit ts =
+    holds_then LowFirst FitFirst (register_token ts) _ (register_low ts) λ x h.
+    after FitFirst (comma x.1) _ λ ts.
+    after FitFirst (value ts) _ λ y.
+    fit h zero_low
 
-below_fit : (ts : Tokens) → Holds (FitFirst JumpBelow) (below_jump ts)
+below_fit : (ts : Tokens) → Holds FitFirst (below_jump ts)
 unfolding below_jump
 below_fit ts =
-    holds_then LowPair (FitFirst JumpBelow) (pair ts) _ (pair_low ts) λ x h.
-    after (FitFirst JumpBelow) (comma x.2) _ λ ts.
-    after (FitFirst JumpBelow) (value ts) _ λ y.
-    fit h.0 h.1 tt
+    holds_then LowPair FitFirst (pair ts) _ (pair_low ts) λ x h.
+    after FitFirst (comma x.2) _ λ ts.
+    after FitFirst (value ts) _ λ y.
+    fit h.0 h.1
 
-memory_fit : (ts : Tokens) → Holds (FitFirst Memory) (memory ts)
+memory_fit : (ts : Tokens) → Holds FitFirst (memory ts)
 unfolding memory
 memory_fit ts =
-    holds_then LowFirst (FitFirst Memory) (register_token ts) _ (register_low ts) λ x h.
-    after (FitFirst Memory) (comma x.1) _ λ ts.
-    after (FitFirst Memory) (size ts) _ λ n.
-    after (FitFirst Memory) (keyword (codes "at") At n.1) _ λ ts.
-    holds_then LowPlace (FitFirst Memory) (place ts) _ (place_low ts) λ y k.
-    fit h k tt
+    holds_then LowFirst FitFirst (register_token ts) _ (register_low ts) λ x h.
+    after FitFirst (comma x.1) _ λ ts.
+    after FitFirst (size ts) _ λ n.
+    after FitFirst (keyword (codes "at") At n.1) _ λ ts.
+    holds_then LowPlace FitFirst (place ts) _ (place_low ts) λ y k.
+    fit h k
 
-small_is : {B : Type 0} (Q : B → Type 0) (left : ℕ) (n : AccessSize) (r : Result B LineError) → (IsSmall n → Holds Q r) → Holds Q (small left n >> r)
-small_is Q left One r k = k tt
-small_is Q left Two r k = k tt
-small_is Q left Four r k = k tt
-small_is Q left Eight r k = tt
-
-port_fit : (shape : Shape) → ((n : AccessSize) → IsSmall n → SizeFits shape n) → (text : List ℕ) (want : Want) (ts : Tokens) → Holds (FitFirst shape) (port text want ts)
+port_fit : (text : List ℕ) (want : Want) (ts : Tokens) → Holds FitFirst (port text want ts)
 unfolding port
-port_fit shape s text want ts =
-    holds_then LowFirst (FitFirst shape) (register_token ts) _ (register_low ts) λ x h.
-    after (FitFirst shape) (comma x.1) _ λ at.
-    after (FitFirst shape) (size at) _ λ n.
-    small_is (FitFirst shape) _ n.0 _ λ few.
-    after (FitFirst shape) (keyword text want n.1) _ λ ts.
-    after (FitFirst shape) (keyword (codes "port") _ ts) _ λ ts.
-    holds_then LowPlace (FitFirst shape) (place ts) _ (place_low ts) λ y k.
-    fit h k (s n.0 few)
+port_fit text want ts =
+    holds_then LowFirst FitFirst (register_token ts) _ (register_low ts) λ x h.
+    after FitFirst (comma x.1) _ λ at.
+    after FitFirst (size at) _ λ n.
+    after_test FitFirst (small _ n.0) _
+    (after FitFirst (keyword text want n.1) _ λ ts.
+    after FitFirst (keyword (codes "port") _ ts) _ λ ts.
+    holds_then LowPlace FitFirst (place ts) _ (place_low ts) λ y k.
+    fit h k)
 
-operands_fit : (shape : Shape) (ts : Tokens) → Holds (FitFirst shape) (operands_of shape ts)
+operands_fit : (shape : Shape) (ts : Tokens) → Holds FitFirst (operands_of shape ts)
 unfolding operands_of
-operands_fit Alone ts = fit zero_low zero_low tt
-operands_fit Immediate ts = immediate_fit Immediate tt ts
-operands_fit Pair ts = holds_then LowPair (FitFirst Pair) (pair ts) _ (pair_low ts) λ x h. fit h.0 h.1 tt
+operands_fit Alone ts = fit zero_low zero_low
+operands_fit Immediate ts = immediate_fit ts
+operands_fit High ts = immediate_fit ts
+operands_fit Pair ts = holds_then LowPair FitFirst (pair ts) _ (pair_low ts) λ x h. fit h.0 h.1
 operands_fit Memory ts = memory_fit ts
-operands_fit PortRead ts = port_fit PortRead (λ n few. few) (codes "at") At ts
-operands_fit PortWrite ts = port_fit PortWrite (λ n few. few) (codes "to") To ts
-operands_fit Destination ts = holds_then LowFirst (FitFirst Destination) (register_token ts) _ (register_low ts) λ x h. fit h zero_low tt
-operands_fit Source ts = holds_then LowFirst (FitFirst Source) (register_token ts) _ (register_low ts) λ x h. fit zero_low h tt
-operands_fit Jump ts = after (FitFirst Jump) (value ts) _ λ y. fit zero_low zero_low tt
-operands_fit JumpIf ts = immediate_fit JumpIf tt ts
+operands_fit PortRead ts = port_fit (codes "at") At ts
+operands_fit PortWrite ts = port_fit (codes "to") To ts
+operands_fit Destination ts = holds_then LowFirst FitFirst (register_token ts) _ (register_low ts) λ x h. fit h zero_low
+operands_fit Source ts = holds_then LowFirst FitFirst (register_token ts) _ (register_low ts) λ x h. fit zero_low h
+operands_fit Jump ts = after FitFirst (value ts) _ λ y. fit zero_low zero_low
+operands_fit JumpIf ts = immediate_fit ts
 operands_fit JumpBelow ts = below_fit ts
 
 -- ---- lines
 
 -- what an instruction names is fit for it
 abbrev pub IsFit : Statement → Type 0
-IsFit (Instruction o) = AreFit (shape_of o.mnemonic) o.operands
+IsFit (Instruction o) = AreFit o.operands
 IsFit _ = Unit {0}
 
-instruction_fit : (left : ℕ) (m : Mnemonic) (ts : Tokens) → Holds IsFit (instruction left m ts)
+instruction_fit : (left : ℕ) (o : Opcode) (ts : Tokens) → Holds IsFit (instruction left o ts)
 unfolding instruction
-instruction_fit left m ts =
-    holds_then (FitFirst (shape_of m)) IsFit (operands_of (shape_of m) ts) _ (operands_fit (shape_of m) ts) λ x h.
+instruction_fit left o ts =
+    holds_then FitFirst IsFit (operands_of (shape_of o) ts) _ (operands_fit (shape_of o) ts) λ x h.
     after_test IsFit (at_end x.1) _ h
 
-directive_fit : (left : ℕ) (word : List ℕ) (ts : Tokens) (o : Option AccessSize) (p : Option Mnemonic) → Holds IsFit (directive left word ts o p)
+directive_fit : (left : ℕ) (word : List ℕ) (ts : Tokens) (o : Option AccessSize) (p : Option Opcode) → Holds IsFit (directive left word ts o p)
 unfolding data_line
 directive_fit left word ts (Some n) p = after IsFit (values _ ts) _ λ vs. tt
 directive_fit left word ts None (Some m) = instruction_fit left m ts
@@ -202,8 +189,8 @@ offset_fit left ts = after IsFit (number ts) _ λ x. after_test IsFit (at_end x.
 
 worded_fit : (left : ℕ) (word : List ℕ) (ts : Tokens) → Holds IsFit (worded left word ts)
 worded_fit left word ts =
-    either (Holds IsFit) (bytes_eq word (codes ".at")) (offset_line left ts) (directive left word ts (data_size_of word) (mnemonic_of word))
-    (offset_fit left ts) (directive_fit left word ts (data_size_of word) (mnemonic_of word))
+    either (Holds IsFit) (bytes_eq word (codes ".at")) (offset_line left ts) (directive left word ts (data_size_of word) (opcode_with word))
+    (offset_fit left ts) (directive_fit left word ts (data_size_of word) (opcode_with word))
 
 definition_fit : (left : ℕ) (word : List ℕ) (ts : Tokens) → Holds IsFit (definition left word ts)
 unfolding definition

@@ -10,14 +10,14 @@ use Rattle.muen_num.specs.AccessSize.{bytes_of}
 use Rattle.muen_num.specs.declared.access.AccessSize.{AccessSize}
 use Rattle.muen_num.specs.declared.access.AccessSize.TheVariants.{One, Two, Four, Eight}
 use Rattle.muen_num.specs.declared.limits.TheConstants.{COMPONENT_FILE_MOST}
-use Rattle.guest_isa.specs.GuestIsa.{IsValid, encoding_of}
+use Rattle.guest_isa.specs.GuestIsa.{encoding_of}
 use Rattle.guest_isa.specs.declared.instr.Instr.{Instr}
+use Rattle.guest_isa.proofs.Spelled.{valid_with}
 use Rattle.text_words.specs.Parts.{lines_of}
 use Rattle.text_words.specs.Steps.{◌>>=◌, mapped}
 use Rattle.asm_text.specs.Appended.{appended, behind, of_numbers, FollowFrom, IsFit as IsFitOperation, IsFitAt}
 use Rattle.asm_text.specs.Layout.{Layout, SymbolTable, LayoutState, after_line, at_start, fault_in, in_source_line, labelled, layout_from, source_line_at, meaning_of, continued_at, named, stated, with_name}
 use Rattle.asm_text.specs.Meaning.{SourceItem, assembled, bytes_of_item, bytes_of_items, immediate_of, instruction_of, assembled_item_of, items_of, little_endian, number_of, numbers_of, source_items}
-use Rattle.asm_text.specs.Mnemonics.{instruction_with, shape_of}
 use Rattle.asm_text.specs.Reading.{source_line_of, wanted}
 use Rattle.asm_text.specs.Tokens.{tokens_of}
 use Rattle.asm_text.specs.declared.fault.LineError.{LineError}
@@ -25,8 +25,6 @@ use Rattle.asm_text.specs.declared.fault.LineError.TheVariants.{Wanted, NoMemory
 use Rattle.asm_text.specs.declared.fault.SourceFault.{SourceFault}
 use Rattle.asm_text.specs.declared.fault.SourceFault.TheVariants.{NoMemory as SourceMemory}
 use Rattle.asm_text.specs.declared.fault.Want.TheVariants.{Ahead, Aligned, NewName, Room}
-use Rattle.asm_text.specs.declared.mnemonic.Mnemonic.{Mnemonic}
-use Rattle.asm_text.specs.declared.mnemonic.Mnemonic.TheVariants.{Nop, Li, Lih, Mov, Add, Sub, And, Or, Xor, Shl, Shr, Load, Store, Jmp, Jz, Jnz, Jb, In, Out, Rdmsr, Wrmsr, Rdtsc, Vmcall, Hlt, Sti, Cli, Setv, Reti}
 use Rattle.asm_text.specs.declared.statement.Label.{Label}
 use Rattle.asm_text.specs.declared.statement.Meaning.{Meaning}
 use Rattle.asm_text.specs.declared.statement.Operation.{Operation}
@@ -35,7 +33,7 @@ use Rattle.asm_text.specs.declared.statement.SourceLine.{SourceLine}
 use Rattle.asm_text.specs.declared.statement.Statement.{Statement}
 use Rattle.asm_text.specs.declared.statement.Statement.TheVariants.{Nothing, Definition, Offset, Data, Instruction}
 use Rattle.asm_text.specs.declared.statement.Value.{Value}
-use Rattle.asm_text.proofs.Accepted.{AreFit, Holds, IsFit, IsFitLine, SizeFits, after, holds_at, holds_then, line_fit}
+use Rattle.asm_text.proofs.Accepted.{AreFit, Holds, IsFit, IsFitLine, after, holds_at, holds_then, line_fit}
 
 -- ---- lines
 
@@ -132,38 +130,8 @@ layout_seated (text ∷ texts) s n room =
 
 -- ---- an instruction of the table
 
-valid_with : (m : Mnemonic) (rd rs : ℕ) (size : AccessSize) (z : ℤ) → rd < 16 → rs < 16 → SizeFits (shape_of m) size → IsValid (instruction_with m rd rs size z)
-valid_with Nop rd rs size z h k s = tt
-valid_with Li rd rs size z h k s = h
-valid_with Lih rd rs size z h k s = h
-valid_with Mov rd rs size z h k s = (h, k)
-valid_with Add rd rs size z h k s = (h, k)
-valid_with Sub rd rs size z h k s = (h, k)
-valid_with And rd rs size z h k s = (h, k)
-valid_with Or rd rs size z h k s = (h, k)
-valid_with Xor rd rs size z h k s = (h, k)
-valid_with Shl rd rs size z h k s = (h, k)
-valid_with Shr rd rs size z h k s = (h, k)
-valid_with Load rd rs size z h k s = (h, k)
-valid_with Store rd rs size z h k s = (h, k)
-valid_with Jmp rd rs size z h k s = tt
-valid_with Jz rd rs size z h k s = h
-valid_with Jnz rd rs size z h k s = h
-valid_with Jb rd rs size z h k s = (h, k)
-valid_with In rd rs size z h k s = ((h, k), s)
-valid_with Out rd rs size z h k s = ((h, k), s)
-valid_with Rdmsr rd rs size z h k s = (h, k)
-valid_with Wrmsr rd rs size z h k s = (h, k)
-valid_with Rdtsc rd rs size z h k s = h
-valid_with Vmcall rd rs size z h k s = k
-valid_with Hlt rd rs size z h k s = tt
-valid_with Sti rd rs size z h k s = tt
-valid_with Cli rd rs size z h k s = tt
-valid_with Setv rd rs size z h k s = k
-valid_with Reti rd rs size z h k s = tt
-
-fit_operation : (o : Operation) → AreFit (shape_of o.mnemonic) o.operands → IsFitOperation o
-fit_operation o h z = valid_with o.mnemonic o.operands.rd o.operands.rs o.operands.size z h.rd h.rs h.size
+fit_operation : (o : Operation) → AreFit o.operands → IsFitOperation o
+fit_operation o h z = valid_with o.opcode o.operands.rd o.operands.rs o.operands.size z h.rd h.rs
 
 -- ---- how many bytes
 

@@ -2,7 +2,6 @@ pub mod Appended
 pub mod FaultTexts
 pub mod Layout
 pub mod Meaning
-pub mod Mnemonics
 pub mod Placing
 pub mod Ranges
 pub mod Reading

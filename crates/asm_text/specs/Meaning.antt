@@ -5,20 +5,19 @@ use Rattle.std.specs.List.{flat_map}
 use Rattle.muen_num.specs.AccessSize.{bytes_of}
 use Rattle.muen_num.specs.declared.access.AccessSize.{AccessSize}
 use Rattle.muen_num.specs.declared.access.AccessSize.TheVariants.{One, Two, Four, Eight}
-use Rattle.guest_isa.specs.GuestIsa.{encoding_of}
+use Rattle.guest_isa.specs.GuestIsa.{encoding_of, instruction_with, shape_of}
 use Rattle.guest_isa.specs.declared.instr.Instr.{Instr}
+use Rattle.guest_isa.specs.declared.opcode.Shape.{Shape}
+use Rattle.guest_isa.specs.declared.opcode.Shape.TheVariants.{High, Jump, JumpIf, JumpBelow}
 use Rattle.text_words.specs.Steps.{◌>>=◌}
 use Rattle.text_words.specs.Parts.{lines_of}
 use Rattle.asm_text.specs.Layout.{SymbolTable, meaning_of, layout_from, at_start, in_source_line}
-use Rattle.asm_text.specs.Mnemonics.{instruction_with}
 use Rattle.asm_text.specs.Reading.{ok_or_wanted, wanted}
 use Rattle.asm_text.specs.declared.fault.LineError.{LineError}
 use Rattle.asm_text.specs.declared.fault.SourceFault.{SourceFault}
 use Rattle.asm_text.specs.declared.fault.Want.{Want}
 use Rattle.asm_text.specs.declared.fault.Want.TheVariants.{KnownName, Range, Near, Target}
 use Rattle.asm_text.specs.declared.meaning.Sum.{Sum}
-use Rattle.asm_text.specs.declared.mnemonic.Mnemonic.{Mnemonic}
-use Rattle.asm_text.specs.declared.mnemonic.Mnemonic.TheVariants.{Jmp, Jz, Jnz, Jb, Lih}
 use Rattle.asm_text.specs.declared.statement.Atom.{Atom}
 use Rattle.asm_text.specs.declared.statement.Atom.TheVariants.{Number as NumberAtom, Name as NameAtom}
 use Rattle.asm_text.specs.declared.statement.Integer.{Integer}
@@ -78,14 +77,6 @@ residue bits (negsuc n) = 2 ^ bits - (n + 1)
 
 -- ---- instructions
 
--- a jump has its distance for an immediate
-abbrev pub is_jump : Mnemonic → Bool
-is_jump Jmp = true
-is_jump Jz = true
-is_jump Jnz = true
-is_jump Jb = true
-is_jump _ = false
-
 -- from an instruction to a label where one remains, as it is said where none does
 abbrev pub distance_by : ℤ → ℕ → ℕ → ℤ → Result ℤ LineError
 distance_by (pos zero) here left n = Ok n
@@ -93,34 +84,31 @@ distance_by (pos (suc zero)) here left n = Ok (n -ℤ pos here)
 distance_by (pos (suc (suc labels))) here left n = wanted left Target
 distance_by (negsuc labels) here left n = wanted left Target
 
--- the 32 bits of an immediate, signed or unsigned
-abbrev pub is_wide : Mnemonic → Bool
-is_wide Lih = true
-is_wide _ = false
-
 abbrev pub if_fits : {X : Type 0} → Bool → ℕ → Want → X → Result X LineError
 if_fits true left want x = Ok x
 if_fits false left want x = wanted left want
 
--- the immediate of an instruction that begins here
+-- a jump has its distance for an immediate
 abbrev pub jump_by : ℕ → ℕ → Sum → Result ℤ LineError
 jump_by here left s = do
   d ← distance_by s.labels here left s.number
   if_fits (fits_signed 32 d) left Near d
 
-abbrev pub immediate_by : Mnemonic → ℕ → ℕ → Sum → Result ℤ LineError
-immediate_by m here left s =
-    if is_wide m then if_fits (fits_in_bits 32 s.number) left Range (cast_signed w32 (residue 32 s.number))
-    else if is_jump m then jump_by here left s
-    else if_fits (fits_signed 32 s.number) left Range s.number
+-- the immediate of an instruction of this shape that begins here
+abbrev pub immediate_by : Shape → ℕ → ℕ → Sum → Result ℤ LineError
+immediate_by High here left s = if_fits (fits_in_bits 32 s.number) left Range (cast_signed w32 (residue 32 s.number))
+immediate_by Jump here left s = jump_by here left s
+immediate_by JumpIf here left s = jump_by here left s
+immediate_by JumpBelow here left s = jump_by here left s
+immediate_by _ here left s = if_fits (fits_signed 32 s.number) left Range s.number
 
 unfoldable pub immediate_of : SymbolTable → ℕ → Operation → Result ℤ LineError
 immediate_of names here o = do
   s ← sum_of names o.operands.value.terms
-  immediate_by o.mnemonic here o.operands.value.left s
+  immediate_by (shape_of o.opcode) here o.operands.value.left s
 
 abbrev pub instruction_of : Operation → ℤ → Instr
-instruction_of o imm = instruction_with o.mnemonic o.operands.rd o.operands.rs o.operands.size imm
+instruction_of o imm = instruction_with o.opcode o.operands.rd o.operands.rs o.operands.size imm
 
 -- ---- data
 

@@ -4,17 +4,17 @@ use Rattle.std.specs.Char.{is_ascii_digit}
 use Rattle.std.specs.Str.{bytes_eq}
 use Rattle.muen_num.specs.declared.access.AccessSize.{AccessSize}
 use Rattle.muen_num.specs.declared.access.AccessSize.TheVariants.{One, Two, Four, Eight}
+use Rattle.guest_isa.specs.GuestIsa.{opcode_with, shape_of}
+use Rattle.guest_isa.specs.declared.opcode.Opcode.{Opcode}
+use Rattle.guest_isa.specs.declared.opcode.Shape.{Shape}
+use Rattle.guest_isa.specs.declared.opcode.Shape.TheVariants.{Alone, Immediate, High, Pair, Memory, PortRead, PortWrite, Destination, Source, Jump, JumpIf, JumpBelow}
 use Rattle.text_words.specs.Steps.{◌>>=◌, ◌>>◌}
-use Rattle.asm_text.specs.Mnemonics.{shape_of}
 use Rattle.asm_text.specs.Tokens.{Tokens, end_with, token}
-use Rattle.asm_text.specs.Words.{register_of, number_in, symbol_of, mnemonic_of, data_size_of, size_of, size_unit}
+use Rattle.asm_text.specs.Words.{register_of, number_in, symbol_of, data_size_of, size_of, size_unit}
 use Rattle.asm_text.specs.declared.fault.LineError.{LineError}
 use Rattle.asm_text.specs.declared.fault.LineError.TheVariants.{Wanted}
 use Rattle.asm_text.specs.declared.fault.Want.{Want}
 use Rattle.asm_text.specs.declared.fault.Want.TheVariants.{Mnemonic as MnemonicWant, Register, Size, Comma, At, To, Port, Number, Term as TermWant, Name as NameWant, End}
-use Rattle.asm_text.specs.declared.mnemonic.Mnemonic.{Mnemonic}
-use Rattle.asm_text.specs.declared.mnemonic.Shape.{Shape}
-use Rattle.asm_text.specs.declared.mnemonic.Shape.TheVariants.{Alone, Immediate, Pair, Memory, PortRead, PortWrite, Destination, Source, Jump, JumpIf, JumpBelow}
 use Rattle.asm_text.specs.declared.statement.Atom.{Atom}
 use Rattle.asm_text.specs.declared.statement.Atom.TheVariants.{Number as NumberAtom, Name as NameAtom}
 use Rattle.asm_text.specs.declared.statement.Term.{Term}
@@ -226,10 +226,11 @@ below_jump ts = do
   (imm, ts) ← value ts
   Ok (operands rd rs One imm, ts)
 
--- what stands behind a mnemonic of this shape
+-- what stands behind a word of this shape
 unfoldable pub operands_of : Shape → Tokens → Result (Operands × Tokens) LineError
 operands_of Alone ts = Ok (operands 0 0 One no_value, ts)
 operands_of Immediate ts = immediate ts
+operands_of High ts = immediate ts
 operands_of Pair ts = do
   (rd, rs, ts) ← pair ts
   Ok (operands rd rs One no_value, ts)
@@ -251,11 +252,11 @@ operands_of JumpBelow ts = below_jump ts
 -- ---- statements
 
 -- an instruction up to the end of the line
-unfoldable pub instruction : ℕ → Mnemonic → Tokens → Result Statement LineError
-instruction left mnemonic ts = do
-  (with, ts) ← operands_of (shape_of mnemonic) ts
+unfoldable pub instruction : ℕ → Opcode → Tokens → Result Statement LineError
+instruction left opcode ts = do
+  (with, ts) ← operands_of (shape_of opcode) ts
   at_end ts
-  Ok (Instruction (record { left = left; mnemonic = mnemonic; operands = with }))
+  Ok (Instruction (record { left = left; opcode = opcode; operands = with }))
 
 -- data up to the end of the line: no more values than tokens
 unfoldable pub data_line : ℕ → AccessSize → Tokens → Result Statement LineError
@@ -300,14 +301,14 @@ definition left word ts = do
   Ok (Definition left name n)
 
 -- the word of a statement, and what stands behind it
-abbrev pub directive : ℕ → List ℕ → Tokens → Option AccessSize → Option Mnemonic → Result Statement LineError
-directive left word ts (Some n) mnemonic = data_line left n ts
-directive left word ts None (Some mnemonic) = instruction left mnemonic ts
+abbrev pub directive : ℕ → List ℕ → Tokens → Option AccessSize → Option Opcode → Result Statement LineError
+directive left word ts (Some n) opcode = data_line left n ts
+directive left word ts None (Some opcode) = instruction left opcode ts
 directive left word ts None None = wanted left MnemonicWant
 
 abbrev pub worded : ℕ → List ℕ → Tokens → Result Statement LineError
 worded left word ts =
-    if bytes_eq word (codes ".at") then offset_line left ts else directive left word ts (data_size_of word) (mnemonic_of word)
+    if bytes_eq word (codes ".at") then offset_line left ts else directive left word ts (data_size_of word) (opcode_with word)
 
 -- a statement, or nothing
 unfoldable pub statement : Tokens → Result Statement LineError

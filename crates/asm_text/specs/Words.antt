@@ -1,7 +1,6 @@
 -- What a word spells.
 use Rattle.std.specs.Prelude.{ℕ, ◌==◌, ◌||◌, nat_lt, List, take, drop, length, codes, slice_index, Option, Some, None, option_and_then, if◌then◌else◌}
 use Rattle.std.specs.Char.{is_ascii_alphabetic}
-use Rattle.std.specs.List.{find}
 use Rattle.std.specs.Option.{option_or}
 use Rattle.std.specs.Result.{result_ok}
 use Rattle.std.specs.Str.{bytes_eq}
@@ -10,9 +9,6 @@ use Rattle.muen_num.specs.declared.access.AccessSize.{AccessSize}
 use Rattle.muen_num.specs.declared.access.AccessSize.TheVariants.{One, Two, Four, Eight}
 use Rattle.text_words.specs.Numbers.{decimal}
 use Rattle.text_words.specs.Groups.{based, groups_of, number_of_groups}
-use Rattle.asm_text.specs.Mnemonics.{mnemonic_text}
-use Rattle.asm_text.specs.declared.mnemonic.Mnemonic.{Mnemonic}
-use Rattle.asm_text.specs.declared.mnemonic.TheConstants.{MNEMONICS}
 
 -- what stands behind a beginning, where a word has it
 abbrev pub behind : List ℕ → List ℕ → Option (List ℕ)
@@ -37,10 +33,6 @@ number_in word = by_mark (behind (codes "0x") word) (option_or (based word) (res
 abbrev pub symbol_of : List ℕ → Option (List ℕ)
 symbol_of word =
     if is_ascii_alphabetic (slice_index word 0) || (slice_index word 0 == 95) then name_of word else None
-
--- the mnemonic that a word is
-abbrev pub mnemonic_of : List ℕ → Option Mnemonic
-mnemonic_of word = find (λ m. bytes_eq (mnemonic_text m) word) MNEMONICS
 
 -- data of 1, 2, 4 or 8 bytes
 abbrev pub data_size_of : List ℕ → Option AccessSize

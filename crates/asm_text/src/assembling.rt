@@ -9,9 +9,8 @@ ghost use Rattle.asm_text.specs.Meaning.{assembled, bytes_of_items, assembled_it
 use crate::fault::{LineError, SourceFault};
 use crate::layout::{Layout, fault_in, layout_of};
 use crate::meaning::{immediate_of, number_of};
-use crate::mnemonic::instruction_with;
 use crate::statement::{Meaning, Operation, Placed, Statement, Value};
-use guest_isa::encode;
+use guest_isa::{Instr, encode};
 use muen_num::{AccessSize, Name, NoMemory};
 use std::alloc::Global;
 use std::collections::BTreeMap;
@@ -59,7 +58,7 @@ fn put_instruction(
 {
     let imm = immediate_of(names, here, operation)?;
     let with = &operation.operands;
-    let instruction = instruction_with(operation.mnemonic, with.rd, with.rs, with.size, imm);
+    let instruction = Instr::new(operation.opcode, with.rd, with.rs, with.size, imm);
     out.extend_from_slice(&encode(&instruction))?;
     Ok(())
 }

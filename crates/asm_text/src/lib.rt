@@ -5,7 +5,6 @@ mod assembling;
 mod fault;
 mod layout;
 mod meaning;
-mod mnemonic;
 mod reading;
 mod statement;
 mod tokens;
@@ -13,5 +12,4 @@ mod words;
 
 pub use assembling::assemble;
 pub use fault::{LineError, SourceFault, Want};
-pub use mnemonic::{Mnemonic, Shape};
 pub use words::number_in;

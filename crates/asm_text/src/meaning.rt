@@ -1,12 +1,13 @@
 //! What a statement comes to, where each name is known.
 ghost use Rattle.std.specs.Prelude.{◌≡◌, ◌≤◌, ◌<◌, ◌*◌, ◌^◌, IfOk, IfSome, pos, true};
+ghost use Rattle.std.specs.Int.{w32, cast_signed};
 ghost use Rattle.muen_num.specs.AccessSize.{bytes_of};
-ghost use Rattle.asm_text.specs.Meaning.{size_bits, distance_by, fits_in_bits, fits_signed, immediate_by, if_fits, immediate_of, integer_of, is_jump, is_wide, number_of, residue, signed, sum_of, sum_of_atom, sum_of_meaning};
+ghost use Rattle.asm_text.specs.Meaning.{size_bits, distance_by, fits_in_bits, fits_signed, immediate_by, if_fits, immediate_of, integer_of, number_of, residue, signed, sum_of, sum_of_atom, sum_of_meaning};
 ghost use Rattle.asm_text.specs.Ranges.{IsMagnitude, IsSmallSum, IsSum};
 
 use crate::fault::{LineError, Want};
-use crate::mnemonic::Mnemonic;
 use crate::statement::{Atom, Integer, Meaning, Operation, Term, Value};
+use guest_isa::Shape;
 use muen_num::{AccessSize, Name};
 use std::collections::BTreeMap;
 
@@ -129,21 +130,6 @@ fn residue(bits: u32, n: i128) -> u64
 
 // ---- instructions
 
-fn is_jump(mnemonic: Mnemonic) -> bool
-    ensures { result ≡ is_jump mnemonic }
-{
-    matches!(
-        mnemonic,
-        Mnemonic::Jmp | Mnemonic::Jz | Mnemonic::Jnz | Mnemonic::Jb
-    )
-}
-
-fn is_wide(mnemonic: Mnemonic) -> bool
-    ensures { result ≡ is_wide mnemonic }
-{
-    matches!(mnemonic, Mnemonic::Lih)
-}
-
 // From an instruction to a label where one remains, as it is said where none does.
 fn distance(sum: Sum, here: u64, left: usize) -> Result<i128, LineError>
     requires { IsSum sum }
@@ -170,24 +156,32 @@ fn in_32_bits(n: i128, left: usize, want: Want) -> Result<i32, LineError>
     }
 }
 
-// The immediate that a sum is.
-fn immediate_by(mnemonic: Mnemonic, here: u64, left: usize, sum: Sum) -> Result<i32, LineError>
-    requires { IsSum sum }
-    ensures { result ≡ immediate_by mnemonic here left sum }
+// The number, where it fits 32 bits with its sign or without.
+fn in_either(n: i128, left: usize) -> Result<i32, LineError>
+    ensures { result ≡ if_fits (fits_in_bits 32 n) left Want.Range (cast_signed w32 (residue 32 n)) }
 {
-    if is_wide(mnemonic) {
-        if !fits(32, sum.number) {
-            return Err(LineError::Wanted {
-                left,
-                want: Want::Range,
-            });
+    if fits(32, n) {
+        Ok((residue(32, n) as u32).cast_signed())
+    } else {
+        Err(LineError::Wanted {
+            left,
+            want: Want::Range,
+        })
+    }
+}
+
+// The immediate that a sum is, behind a word of this shape.
+fn immediate_by(shape: Shape, here: u64, left: usize, sum: Sum) -> Result<i32, LineError>
+    requires { IsSum sum }
+    ensures { result ≡ immediate_by shape here left sum }
+{
+    match shape {
+        Shape::High => in_either(sum.number, left),
+        Shape::Jump | Shape::JumpIf | Shape::JumpBelow => {
+            in_32_bits(distance(sum, here, left)?, left, Want::Near)
         }
-        return Ok((residue(32, sum.number) as u32).cast_signed());
+        _ => in_32_bits(sum.number, left, Want::Range),
     }
-    if is_jump(mnemonic) {
-        return in_32_bits(distance(sum, here, left)?, left, Want::Near);
-    }
-    in_32_bits(sum.number, left, Want::Range)
 }
 
 /// The immediate of an instruction that begins here.
@@ -201,7 +195,7 @@ pub(crate) fn immediate_of(
 {
     let value = &operation.operands.value;
     let sum = sum_of(names, value.terms.items())?;
-    immediate_by(operation.mnemonic, here, value.left, sum)
+    immediate_by(operation.opcode.shape(), here, value.left, sum)
 }
 
 // ---- data

@@ -7,12 +7,12 @@ ghost use Rattle.text_words.specs.Steps.{mapped};
 ghost use Rattle.asm_text.specs.Tokens.{tokens_of};
 
 use crate::fault::{LineError, Want};
-use crate::mnemonic::{Mnemonic, Shape};
 use crate::statement::{Integer, Label, Operands, Operation, SourceLine, Statement, Term, Value};
 use crate::tokens::{Token, first_token};
 use crate::words::{
     atom_of, data_size_of, number_in, register_of, sign_of, size_of, size_unit, symbol_of,
 };
+use guest_isa::{Opcode, Shape};
 use muen_num::{AccessSize, Name, Seq};
 use std::alloc::Global;
 
@@ -368,14 +368,14 @@ fn registers(alloc: Global, rd: u8, rs: u8) -> Operands
     }
 }
 
-// What stands behind a mnemonic of this shape.
+// What stands behind a word of this shape.
 #[tactic(auto, unfolding(crate::specs::Reading::operands_of))]
 fn operands_of(alloc: Global, shape: Shape, line: &[u8]) -> Result<(Operands, &[u8]), LineError>
     ensures { Answers LineError.NoMemory (operands_of shape (tokens_of line.now)) (told result) }
 {
     match shape {
         Shape::Alone => Ok((registers(alloc, 0, 0), line)),
-        Shape::Immediate | Shape::JumpIf => immediate(alloc, line),
+        Shape::Immediate | Shape::High | Shape::JumpIf => immediate(alloc, line),
         Shape::Pair => {
             let (rd, rs, rest) = pair(line)?;
             Ok((registers(alloc, rd, rs), rest))
@@ -414,16 +414,16 @@ fn operands_of(alloc: Global, shape: Shape, line: &[u8]) -> Result<(Operands, &[
 fn instruction(
     alloc: Global,
     left: usize,
-    mnemonic: Mnemonic,
+    opcode: Opcode,
     line: &[u8],
 ) -> Result<Statement, LineError>
-    ensures { Answers LineError.NoMemory (instruction left mnemonic (tokens_of line.now)) result }
+    ensures { Answers LineError.NoMemory (instruction left opcode (tokens_of line.now)) result }
 {
-    let (operands, rest) = operands_of(alloc, mnemonic.shape(), line)?;
+    let (operands, rest) = operands_of(alloc, opcode.shape(), line)?;
     at_end(rest)?;
     Ok(Statement::Instruction(Operation {
         left,
-        mnemonic,
+        opcode,
         operands,
     }))
 }
@@ -505,8 +505,8 @@ fn worded(alloc: Global, left: usize, word: &[u8], line: &[u8]) -> Result<Statem
     }
     match data_size_of(word) {
         Some(size) => data_line(alloc, left, size, line),
-        None => match Mnemonic::of(word) {
-            Some(mnemonic) => instruction(alloc, left, mnemonic, line),
+        None => match Opcode::with(word) {
+            Some(opcode) => instruction(alloc, left, opcode, line),
             None => Err(LineError::Wanted {
                 left,
                 want: Want::Mnemonic,

@@ -1,5 +1,5 @@
 //! What a line of a source says.
-use crate::mnemonic::Mnemonic;
+use guest_isa::Opcode;
 use muen_num::{AccessSize, Name, Seq};
 
 /// A number, or a name for one.
@@ -40,7 +40,7 @@ pub struct Value {
     pub terms: Seq<Term>,
 }
 
-/// What stands behind a mnemonic: 0, one byte and no terms for what its shape hasn't.
+/// What stands behind an instruction's word: 0, one byte and no terms for what its shape hasn't.
 #[derive(Debug, Drop)]
 pub struct Operands {
     pub rd: u8,
@@ -53,7 +53,7 @@ pub struct Operands {
 #[derive(Debug, Drop)]
 pub struct Operation {
     pub left: usize,
-    pub mnemonic: Mnemonic,
+    pub opcode: Opcode,
     pub operands: Operands,
 }
 

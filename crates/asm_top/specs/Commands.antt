@@ -6,12 +6,12 @@ use Rattle.asm_text.specs.Words.{number_in}
 use Rattle.asm_top.specs.declared.limits.TheConstants.{SOURCE_MOST}
 
 pub data Command : Type 0 where
-  -- a source, by the name of its file: its bytes are printed in hexadecimal digits
-  hex : List ℕ → Command
+  -- a source, by the name of its file, and a file of names before it, if one is named: its bytes are printed in hexadecimal digits
+  hex : Option (List ℕ) → List ℕ → Command
   -- the same, as a listing with addresses from this one on
-  lines : List ℕ → ℕ → Command
-  -- a source, and a file under whose name its bytes are written
-  bin : List ℕ → List ℕ → Command
+  lines : Option (List ℕ) → List ℕ → ℕ → Command
+  -- the same, and a file under whose name its bytes are written
+  bin : Option (List ℕ) → List ℕ → List ℕ → Command
   -- a file, of whose bytes a source is printed
   text : List ℕ → Command
 
@@ -24,22 +24,33 @@ abbrev pub command_of : List (List ℕ) → Option Command
 command_of [] = None
 command_of (word ∷ []) = None
 command_of (word ∷ a ∷ []) =
-    if bytes_eq word (codes "hex") then Some (hex a)
+    if bytes_eq word (codes "hex") then Some (hex None a)
     else (if bytes_eq word (codes "text") then Some (text a) else None)
 command_of (word ∷ a ∷ b ∷ []) =
-    if bytes_eq word (codes "lines") then option_map (lines a) (base_of b)
-    else (if bytes_eq word (codes "bin") then (if bytes_eq a b then None else Some (bin a b)) else None)
-command_of (word ∷ a ∷ b ∷ c ∷ rest) = None
+    if bytes_eq word (codes "hex") then Some (hex (Some a) b)
+    else (if bytes_eq word (codes "lines") then option_map (lines None a) (base_of b)
+    else (if bytes_eq word (codes "bin") then (if bytes_eq a b then None else Some (bin None a b)) else None))
+command_of (word ∷ a ∷ b ∷ c ∷ []) =
+    if bytes_eq word (codes "lines") then option_map (lines (Some a) b) (base_of c)
+    else (if bytes_eq word (codes "bin") then (if bytes_eq a c then None else (if bytes_eq b c then None else Some (bin (Some a) b c))) else None)
+command_of (word ∷ a ∷ b ∷ c ∷ d ∷ rest) = None
 
--- the file that a command reads, and how many bytes it may have
+-- the file of names that a command reads first, if there is one
+abbrev pub names_of : Command → Option (List ℕ)
+names_of (hex names source) = names
+names_of (lines names source base) = names
+names_of (bin names source file) = names
+names_of (text file) = None
+
+-- the file that it reads then, and how many bytes it may have
 abbrev pub input_file_of : Command → List ℕ
-input_file_of (hex source) = source
-input_file_of (lines source base) = source
-input_file_of (bin source file) = source
+input_file_of (hex names source) = source
+input_file_of (lines names source base) = source
+input_file_of (bin names source file) = source
 input_file_of (text file) = file
 
 abbrev pub most_of : Command → ℕ
-most_of (hex source) = SOURCE_MOST
-most_of (lines source base) = SOURCE_MOST
-most_of (bin source file) = SOURCE_MOST
+most_of (hex names source) = SOURCE_MOST
+most_of (lines names source base) = SOURCE_MOST
+most_of (bin names source file) = SOURCE_MOST
 most_of (text file) = COMPONENT_FILE_MOST

@@ -7,8 +7,8 @@ use Rattle.muen_outside.specs.Store.{Reading, Store}
 use Rattle.muen_outside.specs.Looks.{WriteLeaves}
 use Rattle.muen_outside.specs.declared.files.FileError.{FileError}
 use Rattle.muen_outside.specs.declared.files.FileError.TheVariants.{Failed as WriteFailed, NoMemory as WriteMemory}
-use Rattle.asm_top.specs.Calls.{Comes, Ends}
-use Rattle.asm_top.specs.Commands.{Command, input_file_of, most_of}
+use Rattle.asm_top.specs.Calls.{Ends, IsCallOf}
+use Rattle.asm_top.specs.Commands.{Command}
 use Rattle.asm_top.specs.Parsed.{Reported, status_of}
 use Rattle.asm_top.specs.declared.report.CommandError.{CommandError}
 use Rattle.asm_top.specs.declared.report.CommandError.TheVariants.{Usage, FileFault, OutputFault, NoMemory}
@@ -31,24 +31,19 @@ WritesTo name bytes held held' old new (Err FileFault) = Wrote name bytes (Err W
 WritesTo name bytes held held' old new (Err NoMemory) = Wrote name bytes (Err WriteMemory) held held' old new
 WritesTo name bytes held held' old new (Err _) = ⊥
 
--- the one look of a command
-abbrev pub look_of : Command → Result Reading FileError → Look
-look_of c got = look (input_file_of c) (most_of c) got
-
 -- what a call finds and leaves whose command ends so
 abbrev pub ends_with : History → History → SinkState → SinkState → Result (Unit {0}) CommandError → SinkState → SinkState → Ends
 ends_with old new out out' outcome err err' =
     record { before = old; after = new; out = out; out' = out'; err = err; err' = err'; status = status_of outcome }
 
--- what a command has done with files and with the output, that it ends so: however the end is reported, it is what comes of what
--- the file gave
+-- what a command has done with files and with the output, that it ends so: however the end is reported, it is a call of this command
 pub record ComesTo (c : Command) (held held' : Option Store) (old new : History) (out out' : SinkState) (outcome : Result (Unit {0}) CommandError) : Type 0 where
-  pub got : Result Reading FileError
+  pub looks : List Look
   pub writes : List Write
-  pub history : new ≡ went old (look_of c got ∷ []) writes
-  pub told : IfSome held (λ m. ShowAll m (look_of c got ∷ []))
+  pub history : new ≡ went old looks writes
+  pub told : IfSome held (λ m. ShowAll m looks)
   pub left : HeldAfter writes held held'
-  pub comes : (err err' : SinkState) → Reported err err' outcome → Comes (ends_with old new out out' outcome err err') (looked old (look_of c got ∷ [])) c got
+  pub comes : (err err' : SinkState) → Reported err err' outcome → IsCallOf (Some c) (ends_with old new out out' outcome err err')
 
 -- .. and of words that ask for no command
 pub record IsUsage (held held' : Option Store) (old new : History) (out out' : SinkState) (outcome : Result (Unit {0}) CommandError) : Type 0 where

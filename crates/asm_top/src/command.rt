@@ -11,12 +11,23 @@ use muen_num::limits::GUEST_END;
 pub(crate) enum Command<'a> {
     /// The words have no command's form.
     Usage,
-    /// A source's bytes are printed in hexadecimal digits.
-    Hex(&'a str),
-    /// A source's bytes are printed as a listing.
-    Lines { source: &'a str, base: u64 },
-    /// A source's bytes are written.
-    Bin { source: &'a str, file: &'a str },
+    /// A source's bytes are printed in hexadecimal digits. A file of names stands before it, if one is named.
+    Hex {
+        names: Option<&'a str>,
+        source: &'a str,
+    },
+    /// The same bytes are printed as a listing.
+    Lines {
+        names: Option<&'a str>,
+        source: &'a str,
+        base: u64,
+    },
+    /// They are written.
+    Bin {
+        names: Option<&'a str>,
+        source: &'a str,
+        file: &'a str,
+    },
     /// A source of a file's bytes is printed.
     Text(&'a str),
 }
@@ -35,7 +46,10 @@ impl<'a> Command<'a> {
         ensures { asked result ≡ command_of (word.now ∷ name.now ∷ []) }
     {
         if word == "hex" {
-            return Command::Hex(name);
+            return Command::Hex {
+                names: None,
+                source: name,
+            };
         }
         if word == "text" {
             return Command::Text(name);
@@ -44,19 +58,54 @@ impl<'a> Command<'a> {
     }
 
     // .. of a word, a name, and another name or an address.
-    fn of_two(word: &str, source: &'a str, second: &'a str) -> Command<'a>
-        ensures { asked result ≡ command_of (word.now ∷ source.now ∷ second.now ∷ []) }
+    fn of_two(word: &str, first: &'a str, second: &'a str) -> Command<'a>
+        ensures { asked result ≡ command_of (word.now ∷ first.now ∷ second.now ∷ []) }
     {
+        if word == "hex" {
+            return Command::Hex {
+                names: Some(first),
+                source: second,
+            };
+        }
         if word == "lines" {
             return match base_of(second) {
-                Some(base) => Command::Lines { source, base },
+                Some(base) => Command::Lines {
+                    names: None,
+                    source: first,
+                    base,
+                },
                 None => Command::Usage,
             };
         }
-        if word == "bin" && source != second {
+        if word == "bin" && first != second {
             return Command::Bin {
-                source,
+                names: None,
+                source: first,
                 file: second,
+            };
+        }
+        Command::Usage
+    }
+
+    // .. of a word, a file of names, a source, and another name or an address.
+    fn of_three(word: &str, names: &'a str, source: &'a str, third: &'a str) -> Command<'a>
+        ensures { asked result ≡ command_of (word.now ∷ names.now ∷ source.now ∷ third.now ∷ []) }
+    {
+        if word == "lines" {
+            return match base_of(third) {
+                Some(base) => Command::Lines {
+                    names: Some(names),
+                    source,
+                    base,
+                },
+                None => Command::Usage,
+            };
+        }
+        if word == "bin" && names != third && source != third {
+            return Command::Bin {
+                names: Some(names),
+                source,
+                file: third,
             };
         }
         Command::Usage
@@ -68,9 +117,15 @@ impl<'a> Command<'a> {
     {
         match words {
             [word, name] => Command::of_one(word.as_str(), name.as_str()),
-            [word, source, second] => {
-                Command::of_two(word.as_str(), source.as_str(), second.as_str())
+            [word, first, second] => {
+                Command::of_two(word.as_str(), first.as_str(), second.as_str())
             }
+            [word, names, source, third] => Command::of_three(
+                word.as_str(),
+                names.as_str(),
+                source.as_str(),
+                third.as_str(),
+            ),
             _ => Command::Usage,
         }
     }

@@ -7,6 +7,7 @@ ghost use Rattle.asm_top.specs.Calls.{IsCall, ends};
 
 mod command;
 mod limits;
+mod reading;
 mod report;
 mod status;
 mod work;
@@ -20,16 +21,17 @@ use std::alloc::Global;
 /// `hex SOURCE` reads a source and puts its bytes to `out` in hexadecimal digits, with a line feed behind
 /// them. `lines SOURCE BASE` puts them as a listing, with addresses from BASE on, which is a number below
 /// 2^48. `bin SOURCE FILE` writes them under the name FILE, which is another, in one call of `files`.
-/// `text FILE` reads a file of any bytes and puts a source of them. On every status but 0 one line that
+/// Before SOURCE may stand NAMES, another file, which is read first: the bytes are those of both texts, one after
+/// the other, with a line feed between them. `text FILE` reads a file of any bytes and puts a source of them. On every status but 0 one line that
 /// begins with `muen_asm: ` is put to `err`; a fault of `err` changes no status.
 ///
 /// | Status | Comes | Line |
 /// |---|---|---|
 /// | 0 | the text was put, or the bytes were written | |
 /// | 1 | the words are none of the forms | `usage: ..` |
-/// | 2 | the source is refused | `line LINE, column COLUMN: WHY` |
-/// | 3 | the file isn't there, or is longer than 16 MiB (SOURCE) or 64 MiB (FILE of `text`) | `missing file NAME`, `file NAME has LENGTH bytes` |
-/// | 4 | the look at `files` failed; or the write, and what stands under its name may have changed | `file fault` |
+/// | 2 | the source is refused | `line LINE, column COLUMN: WHY`; with NAMES `file NAME, line ..`, of the file whose line it is |
+/// | 3 | a file isn't there, or is longer than 16 MiB (NAMES, SOURCE) or 64 MiB (FILE of `text`) | `missing file NAME`, `file NAME has LENGTH bytes` |
+/// | 4 | a look at `files` failed; or the write, and what stands under its name may have changed | `file fault` |
 /// | 7 | a call on `out` failed; a front of the text was put | `output fault` |
 /// | 8 | memory was refused, and nothing was put; where that was for the write, what stands under its name may have changed | `out of memory` |
 pub fn muen_asm<F: Files, S: Sink, E: Sink>(
@@ -39,10 +41,10 @@ pub fn muen_asm<F: Files, S: Sink, E: Sink>(
     out: &mut S,
     err: &mut E,
 ) -> Status
-    // One look at the file that the words name, and exactly what is answered to what it gave: a text, a write, or the
-    // reason why not; each failed call, and refused memory, with its status.
+    // One look at each file that the words name to be read, and exactly what is answered to what they gave: a text, a write,
+    // or the reason why not; each failed call, and refused memory, with its status.
     ensures call { IsCall (map string_bytes words.now) (ends (F.history files.old) (F.history files.new) (S.state out.old) (S.state out.new) (E.state err.old) (E.state err.new) result) }
-    // What files tell of what they hold agrees with that look, and changes as the write has it.
+    // What files tell of what they hold agrees with these looks, and changes as the write has it.
     ensures agrees { IfSome (F.held files.old) (λ m. ShowAll m (looks_since (F.history files.old) (F.history files.new))) }
     ensures held { HeldAfter (writes_since (F.history files.old) (F.history files.new)) (F.held files.old) (F.held files.new) }
 {

@@ -6,7 +6,7 @@ ghost use Rattle.asm_top.specs.Calls.{assembler_error_line, usage_text};
 ghost use Rattle.asm_top.specs.Parsed.{Reported, error_text, status_of};
 
 use crate::status::Status;
-use asm_text::SourceFault;
+use asm_text::{SourceFault, Want};
 use itoa::Buffer;
 use muen_num::Pieces;
 use muen_outside::{Sink, SinkFault, put_pieces};
@@ -22,6 +22,13 @@ pub(crate) enum CommandError<'a> {
     TooLong(&'a str, u64),
     /// The source is refused.
     Refused(SourceFault),
+    /// A source behind names is refused: at this place of the file of this name.
+    RefusedIn {
+        file: &'a str,
+        line: u64,
+        column: u64,
+        want: Want,
+    },
     /// A call on files failed.
     FileFault,
     /// A front of the text was printed, and the output failed.
@@ -35,7 +42,7 @@ pub(crate) enum CommandError<'a> {
 fn usage() -> &'static str
     ensures { result.now ≡ usage_text }
 {
-    "usage: hex SOURCE, lines SOURCE BASE, bin SOURCE FILE, text FILE"
+    "usage: hex SOURCE, lines SOURCE BASE, bin SOURCE FILE, text FILE, hex NAMES SOURCE, lines NAMES SOURCE BASE, bin NAMES SOURCE FILE"
 }
 
 // The text of an error in pieces.
@@ -50,6 +57,26 @@ fn pieces<'a>(error: CommandError<'a>, one: &'a mut Buffer, two: &'a mut Buffer)
             ("file ", name, " has ", length, " bytes").into()
         }
         CommandError::Refused(fault) => fault.pieces(one, two),
+        CommandError::RefusedIn {
+            file,
+            line,
+            column,
+            want,
+        } => {
+            let line = one.format(line);
+            let column = two.format(column);
+            (
+                "file ",
+                file,
+                ", line ",
+                line,
+                ", column ",
+                column,
+                ": ",
+                want.as_str(),
+            )
+                .into()
+        }
         CommandError::FileFault => "file fault".into(),
         CommandError::OutputFault => "output fault".into(),
         CommandError::NoMemory => "out of memory".into(),
@@ -85,7 +112,7 @@ pub(crate) fn status(outcome: Result<(), CommandError<'_>>) -> Status
         Err(CommandError::Missing(_) | CommandError::TooLong(_, _)) => Status::FileMissing,
         Err(CommandError::Refused(SourceFault::NoMemory) | CommandError::NoMemory) =>
             Status::NoMemory,
-        Err(CommandError::Refused(_)) => Status::SourceRefused,
+        Err(CommandError::Refused(_) | CommandError::RefusedIn { .. }) => Status::SourceRefused,
         Err(CommandError::FileFault) => Status::FileFault,
         Err(CommandError::OutputFault) => Status::OutputFault,
     }

@@ -1,64 +1,22 @@
-//! The commands: a file is read, and what follows from it is put or written.
-ghost use Rattle.std.specs.Prelude.{◌≡◌, IfErr, IfOk, IfSome, Ok, map, string_bytes};
+//! The commands: what follows from the files that were read is put or written.
+ghost use Rattle.std.specs.Prelude.{◌≡◌, IfSome, map, option_map, string_bytes};
 ghost use Rattle.asm_listing.specs.Listing.{listing_of};
 ghost use Rattle.asm_listing.specs.Source.{source_of};
 ghost use Rattle.muen_outside.specs.Looks.{HeldAfter, ShowAll, looks_since, writes_since};
 ghost use Rattle.muen_outside.specs.States.{SinkState};
-ghost use Rattle.muen_outside.specs.Store.{whole};
 ghost use Rattle.asm_top.specs.Answers.{hex_text};
 ghost use Rattle.asm_top.specs.Calls.{IsCall, ends};
 ghost use Rattle.asm_top.specs.Commands.{bin, command_of, hex, lines, text};
 ghost use Rattle.asm_top.specs.Outcomes.{ComesOf, ComesTo, PutsTo, WritesTo};
-ghost use Rattle.asm_top.specs.Reads.{NotAssembled, SourceNotRead, Saw, SawSource};
 
 use crate::command::Command;
-use crate::limits::SOURCE_MOST;
+use crate::reading::{read, read_source};
 use crate::report::{CommandError, report, status};
 use crate::status::Status;
 use asm_listing::{put_listing, put_source};
-use asm_text::{SourceFault, assemble};
-use muen_num::Seq;
 use muen_num::limits::COMPONENT_FILE_MOST;
-use muen_outside::{Buffer, FileError, Files, Found, Sink, SinkFault, put_pieces};
+use muen_outside::{Buffer, FileError, Files, Sink, SinkFault, put_pieces};
 use std::alloc::Global;
-
-// The bytes of a file, in one look.
-fn read<'a, F: Files>(
-    alloc: Global,
-    name: &'a str,
-    most: usize,
-    files: &mut F,
-) -> Result<Seq<u8>, CommandError<'a>>
-    ensures ok { IfOk result (λ bytes. Saw name.now most (Ok (whole bytes)) (F.held files.old) (F.history files.old) (F.history files.new)) }
-    ensures err { IfErr result (SourceNotRead name.now most (F.held files.old) (F.history files.old) (F.history files.new)) }
-    ensures held { F.held files.new ≡ F.held files.old }
-{
-    match files.read(alloc, name, most) {
-        Ok(Found::Bytes(bytes)) => Ok(bytes),
-        Ok(Found::Missing) => Err(CommandError::Missing(name)),
-        Ok(Found::TooLong(n)) => Err(CommandError::TooLong(name, n)),
-        Err(FileError::Failed) => Err(CommandError::FileFault),
-        Err(FileError::NoMemory) => Err(CommandError::NoMemory),
-    }
-}
-
-// The bytes that the source of this file says.
-fn read_source<'a, F: Files>(
-    alloc: Global,
-    source: &'a str,
-    files: &mut F,
-) -> Result<Vec<u8>, CommandError<'a>>
-    ensures ok { IfOk result (λ v. SawSource source.now (F.held files.old) (F.history files.old) (F.history files.new) (Ok v.items)) }
-    ensures err { IfErr result (NotAssembled source.now (F.held files.old) (F.history files.old) (F.history files.new)) }
-    ensures held { F.held files.new ≡ F.held files.old }
-{
-    let text = read(alloc, source, SOURCE_MOST, files)?;
-    match assemble(alloc, text.items()) {
-        Ok(bytes) => Ok(bytes),
-        Err(SourceFault::NoMemory) => Err(CommandError::NoMemory),
-        Err(fault) => Err(CommandError::Refused(fault)),
-    }
-}
 
 // Puts the bytes in hexadecimal digits, and a line feed behind them.
 fn put_hex<'a, S: Sink>(alloc: Global, bytes: &[u8], out: &mut S) -> Result<(), CommandError<'a>>
@@ -123,13 +81,14 @@ fn write_bytes<'a, F: Files>(
 // Prints a source's bytes in hexadecimal digits.
 fn print_hex<'a, F: Files, S: Sink>(
     alloc: Global,
+    names: Option<&'a str>,
     source: &'a str,
     files: &mut F,
     out: &mut S,
 ) -> Result<(), CommandError<'a>>
-    ensures { ComesTo (hex source.now) (F.held files.old) (F.held files.new) (F.history files.old) (F.history files.new) (S.state out.old) (S.state out.new) result }
+    ensures { ComesTo (hex (option_map (λ name. name.now) names.entry) source.now) (F.held files.old) (F.held files.new) (F.history files.old) (F.history files.new) (S.state out.old) (S.state out.new) result }
 {
-    match read_source(alloc, source, files) {
+    match read_source(alloc, names, source, files) {
         Ok(bytes) => put_hex(alloc, &bytes, out),
         Err(error) => Err(error),
     }
@@ -138,14 +97,15 @@ fn print_hex<'a, F: Files, S: Sink>(
 // Prints a source's bytes as a listing, with addresses from this one on.
 fn print_lines<'a, F: Files, S: Sink>(
     alloc: Global,
+    names: Option<&'a str>,
     source: &'a str,
     base: u64,
     files: &mut F,
     out: &mut S,
 ) -> Result<(), CommandError<'a>>
-    ensures { ComesTo (lines source.now base) (F.held files.old) (F.held files.new) (F.history files.old) (F.history files.new) (S.state out.old) (S.state out.new) result }
+    ensures { ComesTo (lines (option_map (λ name. name.now) names.entry) source.now base) (F.held files.old) (F.held files.new) (F.history files.old) (F.history files.new) (S.state out.old) (S.state out.new) result }
 {
-    match read_source(alloc, source, files) {
+    match read_source(alloc, names, source, files) {
         Ok(bytes) => put_lines(alloc, base, &bytes, out),
         Err(error) => Err(error),
     }
@@ -154,13 +114,14 @@ fn print_lines<'a, F: Files, S: Sink>(
 // Writes a source's bytes under a file's name.
 fn write_bin<'a, F: Files>(
     alloc: Global,
+    names: Option<&'a str>,
     source: &'a str,
     file: &'a str,
     files: &mut F,
 ) -> Result<(), CommandError<'a>>
-    ensures { (out : SinkState) → ComesTo (bin source.now file.now) (F.held files.old) (F.held files.new) (F.history files.old) (F.history files.new) out out result }
+    ensures { (out : SinkState) → ComesTo (bin (option_map (λ name. name.now) names.entry) source.now file.now) (F.held files.old) (F.held files.new) (F.history files.old) (F.history files.new) out out result }
 {
-    match read_source(alloc, source, files) {
+    match read_source(alloc, names, source, files) {
         Ok(bytes) => write_bytes(alloc, file, &bytes, files),
         Err(error) => Err(error),
     }
@@ -193,9 +154,17 @@ fn work<'a, F: Files, S: Sink>(
 {
     match Command::parse(words) {
         Command::Usage => Err(CommandError::Usage),
-        Command::Hex(source) => print_hex(alloc, source, files, out),
-        Command::Lines { source, base } => print_lines(alloc, source, base, files, out),
-        Command::Bin { source, file } => write_bin(alloc, source, file, files),
+        Command::Hex { names, source } => print_hex(alloc, names, source, files, out),
+        Command::Lines {
+            names,
+            source,
+            base,
+        } => print_lines(alloc, names, source, base, files, out),
+        Command::Bin {
+            names,
+            source,
+            file,
+        } => write_bin(alloc, names, source, file, files),
         Command::Text(file) => print_text(alloc, file, files, out),
     }
 }

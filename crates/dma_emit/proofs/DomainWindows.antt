@@ -1,6 +1,6 @@
 -- The windows of the domains of a placed policy: tables can be emitted for them.
-use Rattle.std.proofs.Common.{◌≡◌, inl, inr, ℕ, ◌+◌, ◌%◌, ◌<◌, ◌≤◌, All, true, List, get_or, length, Some, None, refl, sym, ap, ◌∙◌, subst, arith}
-use Rattle.std.specs.Prelude.{◌&&◌, nat_le, option_map, slice_get, slice_index}
+use Rattle.std.proofs.Common.{◌≡◌, inl, inr, ℕ, ◌+◌, ◌%◌, ◌<◌, ◌≤◌, All, true, List, get_or, Some, None, refl, sym, ap, ◌∙◌, subst, arith}
+use Rattle.std.specs.Prelude.{◌&&◌, nat_le, option_map, slice_index}
 use Rattle.std.specs.List.{AllPairs, filter_map, find, list_all, position_or_len}
 use Rattle.std.specs.List.Sorted.{IsPermutation}
 use Rattle.std.specs.Option.{option_map_or}
@@ -11,21 +11,17 @@ use Rattle.std.proofs.lemmas.List.Sorted.{All-permutation}
 use Rattle.dma_emit.specs.Domains.{is_lower_window, mapped, region_address_of, region_mapped, windows_of}
 use Rattle.dma_emit.specs.Ready.{AreDomainWindows, HaveDifferentGuests, IsForDevices}
 use Rattle.dma_emit.proofs.DomainRules.{IsDomain, IsWindow, domains_kept}
-use Rattle.dma_emit.proofs.Found.{all_made, beside_at, found_at, pairs_made, position_found}
-use Rattle.std.proofs.lemmas.Option.{slice_get_within}
-use Rattle.dma_emit.proofs.PlacesThere.{addresses_long}
+use Rattle.dma_emit.proofs.Found.{all_made, found_at, pairs_made, position_found}
 use Rattle.dma_emit.proofs.Ranges.{AreTwo as AreApart, ascending, two_moved}
 use Rattle.ept_emit.specs.Entries.{IsEmittable}
 use Rattle.ept_emit.specs.Pages.{guest_range_of}
 use Rattle.ept_emit.specs.declared.window.GuestRange.{GuestRange}
 use Rattle.ept_emit.specs.declared.window.Window.{Window}
 use Rattle.expand_kernel.proofs.Ordered.{in_order_permutes}
-use Rattle.expand_kernel.specs.thing.Region.{Region}
-use Rattle.muen_num.specs.declared.limits.TheConstants.{PAGE, PHYSICAL_END}
+use Rattle.muen_num.specs.declared.limits.TheConstants.{PAGE}
 use Rattle.muen_num.proofs.Lists.{found_among}
 use Rattle.muen_num.proofs.Pairs.{pairs_mapped}
 use Rattle.policy_lawful.specs.Domains.{domain_extent, region_size}
-use Rattle.policy_lawful.specs.Ranges.{in_a_block}
 use Rattle.policy_lawful.specs.Resolution.{source_of}
 use Rattle.policy_lawful.specs.Rules.{are_apart, is_alignment, is_fixed, is_laid, is_page_size}
 use Rattle.muen_num.specs.Numbers.{is_page_aligned}
@@ -35,11 +31,8 @@ use Rattle.policy_lawful.specs.source.Domain.{Domain}
 use Rattle.policy_lawful.specs.source.Mapping.{Mapping}
 use Rattle.policy_lawful.specs.source.Region.{Region as SourceRegion}
 use Rattle.region_alloc.specs.Placed.{IsPlaced, Placement}
-use Rattle.region_alloc.proofs.Lowest.{ends_well}
-use Rattle.region_alloc.proofs.OwnRegions.{region_at}
-use Rattle.span_emit.proofs.DeviceSpans.{some_block}
+use Rattle.region_alloc.proofs.AddressesFit.{AreAt, region_fits}
 use Rattle.span_emit.proofs.Placed.{IsPlaced as IsLaidOut, is_placed}
-use Rattle.expand_kernel.specs.ByIndex.{own_region}
 
 -- two windows share no address
 abbrev pub AreTwo : Window → Window → Type 0
@@ -64,30 +57,13 @@ module _ (x : Placement) (placed : IsPlaced x) where
 
   -- ---- where a region lies
 
-  record IsAt (address size : ℕ) : Type 0 where
-    aligned : address % PAGE ≡ 0
-    low : address + size ≤ PHYSICAL_END
-
   place_is : (name : List ℕ) (r : SourceRegion) → find (λ r. bytes_eq r.name name) x.expanded.lawful.memory ≡ Some r → region_address_of x name ≡ get_or x.addresses (position_or_len (λ r. bytes_eq r.name name) x.expanded.lawful.memory) 0
   place_is name r e = ap (λ o. option_map_or (slice_index x.addresses) o 0) (position_found (λ r. bytes_eq r.name name) x.expanded.lawful.memory r e)
 
-  number_there : (n : ℕ) (r : SourceRegion) → slice_get x.expanded.lawful.memory n ≡ Some r → n < length x.addresses
-  number_there n r e =
-      let within = slice_get_within x.expanded.lawful.memory n r e in
-      let long = addresses_long x placed in
-      omega arith
-
-  is_at : (name : List ℕ) (r : SourceRegion) → find (λ r. bytes_eq r.name name) x.expanded.lawful.memory ≡ Some r → IsAt (region_address_of x name) r.size
+  is_at : (name : List ℕ) (r : SourceRegion) → find (λ r. bytes_eq r.name name) x.expanded.lawful.memory ≡ Some r → AreAt (region_address_of x name) r.size
   is_at name r e =
-      let n = position_or_len (λ r. bytes_eq r.name name) x.expanded.lawful.memory in
-      let blocks = x.expanded.lawful.memory_blocks in
-      let at = region_at x placed n r (found_at (λ r. bytes_eq r.name name) x.expanded.lawful.memory r e) in
-      let inside : in_a_block blocks (get_or x.addresses n 0) r.size ≡ true = beside_at (λ (r : Region) address. in_a_block blocks address r.size ≡ true) x.expanded.regions x.addresses n (own_region r) placed.inside at in
-      let block = some_block ends_well blocks (get_or x.addresses n 0) r.size laid_out.ends inside in
-      let high = block.high in
-      let end = block.holds in
-      let there = number_there n r (found_at (λ r. bytes_eq r.name name) x.expanded.lawful.memory r e) in
-      subst (λ a. IsAt a r.size) (sym (place_is name r e)) (record { aligned = laid_out.aligned n 0 there; low = omega arith })
+      subst (λ a. AreAt a r.size) (sym (place_is name r e))
+      (region_fits x placed (position_or_len (λ r. bytes_eq r.name name) x.expanded.lawful.memory) r (found_at (λ r. bytes_eq r.name name) x.expanded.lawful.memory r e))
 
   -- ---- a window
 
@@ -124,10 +100,10 @@ module _ (x : Placement) (placed : IsPlaced x) where
         some = pages.some;
         guest = aligned;
         size = pages.whole;
-        address = at.aligned;
+        address = at.whole;
         end = omega arith;
-        address_end = at.low;
-        aligned = at.aligned ∙ sym aligned;
+        address_end = at.end;
+        aligned = at.whole ∙ sym aligned;
       })
 
   for_devices : (m : Mapping) (w : Window) → IsWindow (source_of x.expanded.lawful) m → mapped x m ≡ Some w → IsForDevices w

@@ -1,5 +1,5 @@
 -- The domains of a placed policy are such that tables can be emitted for them.
-use Rattle.std.proofs.Common.{◌≡◌, inl, inr, ℕ, ◌+◌, ◌*◌, ◌/◌, ◌<◌, ◌≤◌, ◌^◌, All, true, false, not, List, [], ◌∷◌, get_or, length, map, Option, Some, None, refl, sym, ap, ◌∙◌, arith}
+use Rattle.std.proofs.Common.{◌≡◌, inl, inr, ℕ, ◌+◌, ◌*◌, ◌/◌, ◌<◌, ◌≤◌, ◌^◌, All, true, false, not, List, [], ◌∷◌, get_or, length, map, Option, Some, None, refl, sym, ap, ◌∙◌, subst, arith}
 use Rattle.std.specs.Prelude.{◌==◌, if◌then◌else◌, option_map, option_and_then}
 use Rattle.std.specs.List.{AllPairs, cons_option, filter_map, find, flat_map, list_any, sum_by}
 use Rattle.std.specs.List.Sorted.{IsPermutation}
@@ -22,14 +22,14 @@ use Rattle.dma_emit.proofs.Found.{all_made, fewer_made, pairs_made}
 use Rattle.dma_emit.proofs.Layouts.{few_buses}
 use Rattle.dma_emit.proofs.Lists.{listed}
 use Rattle.dma_emit.proofs.PlacesThere.{position_within}
-use Rattle.dma_emit.proofs.TotalSize.{first_bytes, regions_bytes}
+use Rattle.dma_emit.proofs.TotalSize.{memory_bytes, regions_bytes, whole_bytes}
 use Rattle.ept_emit.specs.Pages.{ept_pages, guest_range_of, ranges_of}
 use Rattle.ept_emit.specs.declared.window.GuestRange.{GuestRange}
 use Rattle.ept_emit.specs.declared.window.Window.{Window}
 use Rattle.expand_kernel.proofs.Ordered.{in_order_permutes}
 use Rattle.muen_num.specs.Range.{numbers_below}
 use Rattle.muen_num.specs.Search.{unless}
-use Rattle.muen_num.specs.declared.limits.TheConstants.{BDF_FUNCTIONS, MOST_DOMAINS, MOST_REGIONS, PAGE}
+use Rattle.muen_num.specs.declared.limits.TheConstants.{BDF_FUNCTIONS, MOST_BLOCK_BYTES, MOST_DOMAINS, MOST_REGIONS, PAGE}
 use Rattle.muen_num.proofs.FirstPair.{pairs_at}
 use Rattle.muen_num.proofs.Lists.{sum_by-map, all_passing}
 use Rattle.muen_num.proofs.Pairs.{pairs_unmapped, pairs_mapped}
@@ -46,7 +46,6 @@ use Rattle.policy_lawful.specs.source.Domain.{Domain}
 use Rattle.policy_lawful.specs.source.Mapping.{Mapping}
 use Rattle.policy_lawful.specs.source.Region.{Region}
 use Rattle.policy_lawful.specs.source.Source.{Source}
-use Rattle.region_alloc.proofs.OwnRegions.{regions_are}
 use Rattle.region_alloc.specs.Placed.{IsPlaced, Placement}
 use Rattle.span_emit.proofs.PairLaws.{pairs_weaker}
 
@@ -217,8 +216,7 @@ module _ (x : Placement) (placed : IsPlaced x) where
   few_weights =
       let once = sum_found (λ (l : Listed). l.name) (λ (r : Region). r.name) (λ (r : Region). tables_for r.size) (listed_regions p) memory (regions_once p (rules_of placed.lawful).rule_23) in
       let same = listed_are in
-      let all = regions_are x placed in
-      let bytes = first_bytes memory all.0 x.expanded.regions all.1 (regions_bytes x.expanded.lawful.memory_blocks x.expanded.lawful.devices x.expanded.regions x.addresses (laid_out x placed)) in
+      let bytes = memory_bytes p (subst (λ rs. sum_by whole_bytes rs ≤ MOST_BLOCK_BYTES) placed.expansion.regions (regions_bytes x.expanded.lawful.memory_blocks x.expanded.lawful.devices x.expanded.regions x.addresses (laid_out x placed))) in
       let many = (limits_kept p (rules_of placed.lawful).rule_20).regions in
       let few : length memory ≤ MOST_REGIONS = omega arith in
       let sum = weights memory in

@@ -1,7 +1,7 @@
 -- What is found in a list, and where it stands.
-use Rattle.std.proofs.Common.{◌≡◌, inl, inr, ℕ, zero, suc, ◌+◌, ◌≤◌, All, Bool, true, false, cond, not, List, [], ◌∷◌, length, get_or, Option, Some, None, refl, sym, ap, ◌∙◌, subst, arith}
+use Rattle.std.proofs.Common.{◌≡◌, inl, inr, ℕ, suc, ◌+◌, ◌≤◌, All, Bool, true, false, cond, not, List, [], ◌∷◌, length, Option, Some, None, refl, sym, ap, ◌∙◌, arith}
 use Rattle.std.specs.Prelude.{position, slice_get}
-use Rattle.std.specs.List.{AllPairs, AllZip, cons_option, filter_map, find, position_or_len}
+use Rattle.std.specs.List.{AllPairs, cons_option, filter_map, find, position_or_len}
 use Rattle.std.proofs.lemmas.Bool.{lt-ltb}
 use Rattle.std.proofs.lemmas.List.Elements.{All-cons, All-head, All-nil, All-tail}
 use Rattle.std.proofs.lemmas.List.Kept.{AllPairs-cons}
@@ -69,10 +69,3 @@ fewer_made f [] = omega arith
 fewer_made f (x ∷ xs) =
     let rest = fewer_made f xs in
     elim (f x) as (λ o. length (cons_option o (filter_map f xs)) ≤ length (x ∷ xs)) [ None ↦ omega arith | Some y ↦ omega arith ]
-
--- of lists beside each other
-pub beside_at : {X : Type 0} (R : X → ℕ → Type 0) (xs : List X) (ys : List ℕ) (i : ℕ) (x : X) → AllZip R xs ys → slice_get xs i ≡ Some x → R x (get_or ys i 0)
-beside_at R [] ys i x h e = absurd (cc)
-beside_at R (y ∷ xs) [] i x h e = absurd h
-beside_at R (y ∷ xs) (p ∷ ys) zero x h e = let same : y ≡ x = cc in subst (λ z. R z p) same h.0
-beside_at R (y ∷ xs) (p ∷ ys) (suc i) x h e = beside_at R xs ys i x h.1 e

@@ -21,4 +21,4 @@ pub mod Declared
 pub mod Extents
 pub mod FileMade
 pub mod Ranges
-pub use Rattle.expand_kernel.proofs.ByKind
+pub use Rattle.region_alloc.proofs.OwnRegions

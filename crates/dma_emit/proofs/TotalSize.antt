@@ -1,6 +1,6 @@
 -- The regions of a placed policy's memory have no more bytes than its blocks.
-use Rattle.std.proofs.Common.{◌≡◌, ℕ, ◌+◌, ◌*◌, ◌/◌, ◌<◌, ◌≤◌, true, All, List, [], ◌∷◌, ◌++◌, length, map, refl, ap, ◌∙◌, arith}
-use Rattle.std.specs.List.{AllPairs, enumerate_from, sum_by, zip}
+use Rattle.std.proofs.Common.{◌≡◌, ℕ, ◌+◌, ◌*◌, ◌/◌, ◌<◌, ◌≤◌, true, All, List, [], ◌∷◌, ◌++◌, length, map, refl, arith}
+use Rattle.std.specs.List.{AllPairs, enumerate_from, flat_map, sum_by, zip}
 use Rattle.std.specs.List.Sorted.{IsPermutation}
 use Rattle.std.proofs.lemmas.List.Elements.{All-weaker}
 use Rattle.std.proofs.lemmas.List.Sorted.{All-permutation, sum_by-IsPermutation}
@@ -8,19 +8,20 @@ use Rattle.std.proofs.lemmas.List.Sums.{sum_by-append, sum_by-cons}
 use Rattle.dma_emit.proofs.Ranges.{ascending, before}
 use Rattle.expand_kernel.specs.Ordered.{in_order}
 use Rattle.expand_kernel.proofs.Ordered.{in_order_permutes}
+use Rattle.expand_kernel.specs.Regions.{kernel_regions_of, region_of, regions_of}
 use Rattle.expand_kernel.specs.thing.Region.{Region}
 use Rattle.span_emit.specs.parts.SpanPart.{SpanPart}
 use Rattle.muen_num.proofs.Lists.{sum_by-map}
 use Rattle.muen_num.specs.declared.limits.TheConstants.{MOST_BLOCK_BYTES, PAGE}
+use Rattle.policy_lawful.specs.Thing.{Item, channel_item, component_by, placed_items, provided_items, region_item}
 use Rattle.policy_lawful.specs.source.Block.{Block}
 use Rattle.policy_lawful.specs.source.Device.{Device}
-use Rattle.policy_lawful.specs.source.Region.{Region as SourceRegion}
+use Rattle.policy_lawful.specs.source.Source.{Source}
 use Rattle.span_emit.specs.Spans.{region_span, region_spans}
 use Rattle.span_emit.proofs.Placed.{IsPlaced}
 use Rattle.span_emit.proofs.RegionSpans.{AreApart, IsRegionSpan, as_many, region_spans_apart, region_spans_are}
 use Rattle.span_emit.proofs.Room.{in_blocks}
 use Rattle.policy_lawful.specs.Ranges.{in_a_block}
-use Rattle.expand_kernel.specs.ByIndex.{own_region}
 
 -- ---- spans that are apart
 
@@ -61,9 +62,15 @@ regions_bytes blocks devices rs ps h =
     let most = h.block_bytes in
     omega arith
 
--- of those that stand first
-pub first_bytes : (ms : List SourceRegion) (rest rs : List Region) → rs ≡ map own_region ms ++ rest → sum_by whole_bytes rs ≤ MOST_BLOCK_BYTES → sum_by (λ m. PAGE * (m.size / PAGE)) ms ≤ MOST_BLOCK_BYTES
-first_bytes ms rest rs is few =
-    let all = ap (sum_by whole_bytes) is ∙ sum_by-append whole_bytes (map own_region ms) rest in
-    let own = sum_by-map whole_bytes own_region ms in
-    omega arith
+-- of those of memory
+pub memory_bytes : (p : Source) → sum_by whole_bytes (regions_of p) ≤ MOST_BLOCK_BYTES → sum_by (λ m. PAGE * (m.size / PAGE)) p.memory ≤ MOST_BLOCK_BYTES
+unfolding regions_of placed_items
+memory_bytes p few =
+    let bytes : Item → ℕ = λ i. PAGE * (i.size / PAGE) in
+    let own = map region_item p.memory in
+    let channels = map channel_item p.channels in
+    let all = sum_by-append whole_bytes (map region_of (placed_items p)) (flat_map (kernel_regions_of p) p.subjects) in
+    let placed = sum_by-map whole_bytes region_of (placed_items p) in
+    let two = sum_by-append bytes (own ++ channels) (flat_map (λ s. provided_items s.name (component_by p s.component)) p.subjects) in
+    let one = sum_by-append bytes own channels in
+    omega (arith, few, all, placed, two, one, sum_by-map bytes region_item p.memory)

@@ -8,5 +8,4 @@ pub mod MadeFor
 pub mod Reached
 pub mod Ready
 pub use Rattle.muen_num.specs.declared.access
-pub use Rattle.expand_kernel.specs.ByIndex
 pub use Rattle.expand_kernel.specs.Regions

@@ -15,7 +15,7 @@ use crate::file::{DmaDevice, DmaFile, MARK, MOST_DMA_PAGES};
 use crate::writing::put_device;
 use binary_form::reading::{bad, byte_of, bytes_upto, gap_of, name_of, tag_of, u32_of, u64_of};
 use binary_form::{Field, FormError, FormFault};
-use image_pack::{Item, items_of};
+use image_pack::{Item, items_of, new_name_of};
 use muen_num::limits::{MOST_DEVICES, PAGE, PHYSICAL_END};
 use muen_num::{Name, Seq};
 use std::alloc::{AllocError, Global};
@@ -76,27 +76,6 @@ fn count_of(bytes: &[u8]) -> Result<(u8, &[u8]), FormError>
         return Err(bad(bytes, Field::Count));
     }
     Ok((count, rest))
-}
-
-fn is_listed(names: &[Name], name: &Name) -> bool
-    ensures { result ≡ is_listed_name names.now name.now }
-{
-    names.iter().any(|other| other == name)
-}
-
-// A name that isn't one of these.
-fn new_name_of<'a>(names: &[Name], bytes: &'a [u8]) -> Result<(Name, &'a [u8]), FormError>
-    ensures { Gives (λ x. (x.0, x.1.now)) result ((only (λ n. not (is_listed_name names.now n)) Field.Name name).read bytes.now) }
-{
-    match name_of(bytes) {
-        Ok((name, rest)) => {
-            if is_listed(names, &name) {
-                return Err(bad(bytes, Field::Name));
-            }
-            Ok((name, rest))
-        }
-        Err(error) => Err(error),
-    }
 }
 
 impl Item for DmaDevice {

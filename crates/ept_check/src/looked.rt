@@ -1,9 +1,10 @@
 //! Which tables were entered.
-ghost use Rattle.std.specs.Prelude.{◌≡◌, length, MatchOption};
-ghost use Rattle.phys_mem.specs.Frames.{IsFirst, IsRising, NoneBelow};
+ghost use Rattle.std.specs.Prelude.{◌≡◌};
+ghost use Rattle.phys_mem.specs.Frames.{IsRising};
 ghost use Rattle.muen_num.specs.Numbers.{is_among};
 
 use muen_num::NoMemory;
+use phys_mem::index_of;
 use std::alloc::Global;
 
 /// What came of entering a table.
@@ -24,23 +25,12 @@ pub(crate) struct Looked {
     pub(crate) entered: Vec<bool>,
 }
 
-// The index of a number among numbers that rise.
-fn find(numbers: &[u64], number: u64) -> Option<usize>
-    requires { IsRising numbers.now }
-    ensures { MatchOption result (NoneBelow numbers.now number (length numbers.now)) (IsFirst numbers.now number) }
-{
-    match numbers.binary_search(&number) {
-        Ok(i) => Some(i),
-        Err(_) => None,
-    }
-}
-
 /// Whether the page is declared to be a table.
 pub(crate) fn is_table(pages: &[u64], page: u64) -> bool
     requires { IsRising pages.now }
     ensures { result ≡ is_among pages.now page }
 {
-    find(pages, page).is_some()
+    index_of(pages, page).is_some()
 }
 
 impl Looked {
@@ -68,7 +58,7 @@ impl Looked {
         ensures enters { Enters pages.now self.old self.new page result }
         ensures long { vec_len self.new.entered ≡ length pages.now }
     {
-        let Some(i) = find(pages, page) else {
+        let Some(i) = index_of(pages, page) else {
             return Entering::Outside;
         };
         if self.entered[i] {

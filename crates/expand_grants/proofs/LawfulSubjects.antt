@@ -18,6 +18,7 @@ use Rattle.expand_grants.proofs.EntriesOnce.{entries_once}
 use Rattle.expand_grants.proofs.MsrsFit.{msrs_fit}
 use Rattle.expand_grants.proofs.NumbersFit.{all_channel_ends_fit, all_sources_fit, all_targets_fit, all_uses_fit}
 use Rattle.expand_grants.proofs.PortsByIndex.{ports_by_index, ports_fit}
+use Rattle.expand_grants.proofs.GrantedWindows.{views_named, windows_numbered}
 use Rattle.expand_grants.proofs.WindowsInOrder.{guests_differ}
 
 module _ (r : Resolution) (q : IsResolved r) (lawful : IsLawful (source_of r)) where
@@ -39,6 +40,8 @@ module _ (r : Resolution) (q : IsResolved r) (lawful : IsLawful (source_of r)) w
       let in_range = passes_at (subject_in_range r) r.subjects k s (parts_in_range r q.in_range).subjects at in
       record {
         guests = guests_differ r k s q (rules_of lawful).rule_4 (rules_of lawful).rule_5 at in_range;
+        windows = windows_numbered r q k s at;
+        named = views_named r q k s at;
         ports = ports_by_index r s q in_range;
         msrs = passes_at (λ s. list_all fits_msrs s.msrs) r.subjects k s (msrs_fit r (rules_of lawful).rule_11) at;
         sources = passes_at fits_sources r.subjects k s (all_sources_fit r q (rules_of lawful).rule_14 (rules_of lawful).rule_15) at;

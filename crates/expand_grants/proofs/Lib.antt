@@ -5,11 +5,14 @@ pub mod EntriesOnce
 pub mod FirstByIndex
 pub mod GrantedMsrs
 pub mod GrantedOnce
+pub mod GrantedWindows
 pub mod LawfulSubjects
 pub mod Mapped
 pub mod MsrsFit
+pub mod Numbers
 pub mod NumbersFit
 pub mod Ordered
+pub mod Pieces
 pub mod PortsByIndex
 pub mod ReadersByIndex
 pub mod RoutesByIndex

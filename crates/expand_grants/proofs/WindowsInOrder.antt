@@ -1,5 +1,5 @@
 -- The windows of a subject by guest address: no two have the same.
-use Rattle.std.proofs.Common.{◌≡◌, ℕ, zero, suc, ◌+◌, ◌<◌, Bool, true, false, List, [], ◌∷◌, length, get_or, map, Some, None, sym, ap, ◌∙◌, arith}
+use Rattle.std.proofs.Common.{◌≡◌, ℕ, zero, suc, ◌+◌, ◌<◌, Bool, true, false, All, List, [], ◌∷◌, length, get_or, map, Some, None, sym, ap, ◌∙◌, arith}
 use Rattle.std.specs.Prelude.{◌==◌, ◌||◌, nat_le, slice_get}
 use Rattle.std.specs.List.{AllByRecursion, AllPairs, IsDistinct, list_all}
 use Rattle.std.specs.List.Sorted.{IsNonDecreasingBy, IsPermutation}
@@ -21,11 +21,11 @@ use Rattle.policy_lawful.proofs.KeptAddresses.{addresses_kept}
 use Rattle.policy_lawful.specs.Views.{view_extent, views_of}
 use Rattle.policy_lawful.specs.declared.view.View.{View}
 use Rattle.policy_lawful.proofs.ExtentsByIndex.{extents_by_index}
-use Rattle.expand_grants.specs.Grants.{is_lower_view}
-use Rattle.expand_grants.specs.Kept.{same_guest}
+use Rattle.expand_grants.specs.Kept.{is_lower_view, same_guest}
+use Rattle.expand_grants.specs.Numbered.{IsNamed}
 use Rattle.expand_grants.specs.Ordered.{in_order}
 use Rattle.expand_grants.proofs.Elements.{none_there}
-use Rattle.expand_grants.proofs.Ordered.{ordered_is}
+use Rattle.expand_grants.proofs.Ordered.{All-in_order, ordered_is}
 
 -- ---- elements of which no two are the same
 
@@ -59,6 +59,10 @@ sorted_is xs ys distinct moved rising =
     let apart = pairs_of same_guest ys (IsDistinct-IsPermutation same_guest (λ a b. equal_turned a.guest b.guest) xs ys moved distinct) in
     sym (ordered_is is_lower_view xs ys moved
     (λ i j d l m. lower (get_or ys i d).guest (get_or ys j d).guest (rising i j d (omega (arith, l)) m) (apart i j d l m)))
+
+-- and is named as before
+pub named_in_order : (r : Resolution) (xs : List View) → All (λ v. IsNamed r v v.shows) xs → All (λ v. IsNamed r v v.shows) (in_order is_lower_view xs)
+named_in_order r xs h = All-in_order is_lower_view (λ v. IsNamed r v v.shows) xs h
 
 -- ---- windows of a lawful policy
 

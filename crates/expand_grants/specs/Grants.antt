@@ -16,14 +16,26 @@ use Rattle.policy_lawful.specs.source.Device.{Device}
 use Rattle.policy_lawful.specs.source.Irq.{Irq}
 use Rattle.policy_lawful.specs.source.SourceWay.{SourceWay}
 use Rattle.policy_lawful.specs.source.SourceWay.TheVariants.{Call as SourceCall, Trap as SourceTrap}
-use Rattle.policy_lawful.specs.Views.{views_of}
-use Rattle.policy_lawful.specs.declared.view.View.{View}
+use Rattle.expand_grants.specs.declared.granted.GrantedWindow.{GrantedWindow}
+use Rattle.policy_lawful.specs.Thing.{Thing}
+use Rattle.policy_lawful.specs.Things.{thing_index}
+use Rattle.policy_lawful.specs.Windows.{Window, windows_of}
+use Rattle.policy_lawful.specs.source.Source.{Source}
+use Rattle.policy_lawful.specs.source.Subject.{Subject as NamedSubject}
 
--- ---- views
+-- ---- windows
+
+-- a window, with the number of what it shows
+abbrev pub numbered_window : Source → Window Thing → GrantedWindow
+numbered_window p w = record { guest = w.guest; size = w.size; rights = w.rights; thing = thing_index p w.thing }
 
 -- by guest address
-abbrev pub is_lower_view : View → View → Bool
-is_lower_view a b = nat_le a.guest b.guest
+abbrev pub is_lower : Window Thing → Window Thing → Bool
+is_lower a b = nat_le a.guest b.guest
+
+-- the windows of a subject, by guest address
+abbrev pub granted_windows : Source → NamedSubject → List GrantedWindow
+granted_windows p s = map (numbered_window p) (in_order is_lower (windows_of p s))
 
 -- ---- events
 
@@ -47,7 +59,7 @@ entry_raised r entries way = option_map (raised_named r) (find (λ e. is_way way
 
 pub record AreGrantsOf (r : Resolution) (s : Subject) (g : Grants) : Type 0 where
   -- its windows, by guest address
-  pub views : g.views ≡ in_order is_lower_view (views_of r s)
+  pub windows : g.windows ≡ granted_windows (source_of r) (subject_named r s)
   pub ports : g.ports ≡ port_ranges_of (source_of r) (subject_named r s)
   pub msrs : g.msrs ≡ map msr_grant s.msrs
   -- for each way the event that the policy has for it

@@ -14,7 +14,7 @@ use crate::interrupts::all_routes;
 use crate::msrs::msr_grants;
 use crate::ports::port_ranges;
 use crate::reached::{Reached, all_readers, all_targets};
-use crate::windows::in_order;
+use crate::windows::windows_of;
 use muen_num::{NoMemory, Seq};
 use policy_lawful::resolved::Subject;
 use policy_lawful::{Lawful, Resolved};
@@ -37,7 +37,7 @@ fn of_subject(
     ensures { IfOk result (AreGrantsOf policy.now subject.now) }
 {
     Ok(Grants {
-        views: in_order(alloc, policy.views(index))?,
+        windows: windows_of(alloc, policy, subject.name, policy.views(index))?,
         ports: port_ranges(alloc, policy.devices(), subject.devices.items())?,
         msrs: msr_grants(alloc, subject.msrs.items())?,
         events: entries_of(alloc, policy, targets, readers, index, subject)?,

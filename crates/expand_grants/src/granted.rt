@@ -1,6 +1,6 @@
 //! What is granted to a subject, and routes of interrupts.
 use muen_num::{EventMode, Seq};
-use policy_lawful::{MsrGrant, PortRange, View};
+use policy_lawful::{MsrGrant, PortRange, Rights, ThingIndex};
 
 /// The way in which a subject raises an event.
 #[derive(Clone, Copy, Debug)]
@@ -34,11 +34,23 @@ pub struct Route {
     pub vector: u8,
 }
 
+/// A window that is granted to a subject: `size` bytes from the guest address `guest` on show the
+/// whole of a thing.
+#[derive(Clone, Copy, Debug)]
+pub struct GrantedWindow {
+    pub guest: u64,
+    /// In bytes.
+    pub size: u64,
+    pub rights: Rights,
+    /// The number of what it shows.
+    pub thing: ThingIndex,
+}
+
 /// What is granted to a subject.
 #[derive(Debug, Drop)]
 pub struct Grants {
     /// Its windows, by guest address.
-    pub views: Seq<View>,
+    pub windows: Seq<GrantedWindow>,
     pub ports: Seq<PortRange>,
     pub msrs: Seq<MsrGrant>,
     /// The events that it raises, each way once.

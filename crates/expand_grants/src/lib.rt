@@ -13,4 +13,4 @@ mod reached;
 mod windows;
 
 pub use expand::{grants, routes};
-pub use granted::{EventEntry, Grants, Route, Way};
+pub use granted::{EventEntry, GrantedWindow, Grants, Route, Way};

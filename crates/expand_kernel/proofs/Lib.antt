@@ -1,11 +1,12 @@
 pub use Rattle.expand_grants.proofs.Counted
 pub use Rattle.expand_grants.proofs.LawfulSubjects
+pub use Rattle.expand_grants.proofs.GrantedWindows
+pub use Rattle.expand_grants.proofs.Numbers
 pub use Rattle.expand_grants.proofs.Ordered
+pub use Rattle.expand_grants.proofs.Pieces
 pub use Rattle.ept_emit.proofs.PageCounts
 pub use Rattle.expand_grants.proofs.GrantedMsrs
-pub mod BroughtByIndex
-pub mod ByKind
-pub mod GrantedViews
+pub mod GrantedRanges
 pub mod InTurn
 pub mod LowestFirst
 pub mod Numbering

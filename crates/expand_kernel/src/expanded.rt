@@ -1,6 +1,7 @@
 //! Lawful policies with all that follows from them but addresses.
-ghost use Rattle.std.specs.Prelude.{◌≡◌, map, IfOk};
+ghost use Rattle.std.specs.Prelude.{◌≡◌, ◌≤◌, length, map, IfOk};
 ghost use Rattle.expand_grants.specs.Grants.{AreGrants, AreRoutes};
+ghost use Rattle.expand_kernel.specs.ByIndex.{kernel_first};
 ghost use Rattle.expand_kernel.specs.Expansion.{HaveNames, IsExpanded};
 ghost use Rattle.expand_kernel.specs.Regions.{regions_of};
 ghost use Rattle.policy_lawful.specs.Lawful.{IsLawful};
@@ -9,6 +10,7 @@ ghost use Rattle.policy_lawful.specs.Things.{region_of_thing};
 
 use crate::kernel::of_kernel;
 use expand_grants::{Grants, Route, grants, routes};
+use muen_num::limits::KERNEL_REGIONS;
 use muen_num::{NoMemory, Seq};
 use policy_lawful::thing::Region;
 use policy_lawful::{Lawful, Thing};
@@ -61,6 +63,16 @@ impl Expanded {
         ensures expanded { IsExpanded self.now }
     {
         self.regions.items()
+    }
+
+    /// The number of the first region that the kernel has for the subject at an index, of five: its
+    /// state page, EPT tables, I/O bitmaps, MSR bitmap and MSR area. Those of all subjects are the last.
+    pub fn kernel_first(&self, subject: usize) -> usize
+        requires { subject ≤ length self.now.lawful.subjects }
+        ensures { result ≡ kernel_first self.now.lawful subject }
+    {
+        let behind = self.lawful().resolved().subjects().len() - subject;
+        self.regions().len() - KERNEL_REGIONS * behind
     }
 
     /// What is granted to each subject.

@@ -2,7 +2,7 @@
 ghost use Rattle.std.specs.Prelude.{◌≡◌, ◌≤◌, ◌+◌, ◌^◌, length, map, true, IfOk};
 ghost use Rattle.std.specs.List.{All};
 ghost use Rattle.ept_emit.specs.Pages.{ept_pages};
-ghost use Rattle.expand_kernel.specs.ByIndex.{CanMap, kernel_for_each, view_range, view_ranges};
+ghost use Rattle.expand_kernel.specs.ByIndex.{CanMap, kernel_for_each, granted_range, granted_ranges};
 ghost use Rattle.expand_kernel.specs.Expansion.{HaveNames};
 ghost use Rattle.expand_kernel.specs.Regions.{anywhere, kernel_order, kernel_region};
 ghost use Rattle.muen_num.specs.Naming.{is_name};
@@ -10,10 +10,9 @@ ghost use Rattle.muen_num.specs.declared.limits.TheConstants.{KERNEL_REGIONS};
 ghost use Rattle.policy_lawful.specs.declared.thing.RegionKind.TheVariants.{Kernel};
 
 use ept_emit::{GuestRange, pages};
-use expand_grants::Grants;
+use expand_grants::{GrantedWindow, Grants};
 use muen_num::limits::{KERNEL_REGIONS, PAGE};
 use muen_num::{Name, NoMemory, Tag, TagPart};
-use policy_lawful::View;
 use policy_lawful::resolved::Subject;
 use policy_lawful::thing::{Region, RegionKind};
 use std::alloc::{AllocError, Global};
@@ -54,31 +53,34 @@ impl KernelRegion {
     }
 }
 
-// The guest addresses of a view.
-fn guest_range(view: &View) -> GuestRange
-    ensures { result ≡ view_range view.now }
+// The guest addresses of a window.
+fn guest_range(window: &GrantedWindow) -> GuestRange
+    ensures { result ≡ granted_range window.now }
 {
     GuestRange {
-        guest: view.guest,
-        size: view.size,
+        guest: window.guest,
+        size: window.size,
     }
 }
 
-// The guest addresses of views, in their order: how many pages tables take follows from these.
-fn guest_ranges(alloc: Global, views: &[View]) -> Result<Vec<GuestRange>, AllocError>
-    ensures { IfOk result (λ v. v.items ≡ view_ranges views.now) }
+// The guest addresses of windows, in their order: how many pages tables take follows from these.
+fn guest_ranges(alloc: Global, windows: &[GrantedWindow]) -> Result<Vec<GuestRange>, AllocError>
+    ensures { IfOk result (λ v. v.items ≡ granted_ranges windows.now) }
 {
-    views.iter().map(|view| guest_range(view)).collect(alloc)
+    windows
+        .iter()
+        .map(|window| guest_range(window))
+        .collect(alloc)
 }
 
-// How many pages the tables of these views take.
+// How many pages the tables of these windows take.
 #[tactic(auto, using(crate::proofs::TablePages::few_pages))]
-fn table_pages(alloc: Global, views: &[View]) -> Result<u64, NoMemory>
-    requires { CanMap views.now }
-    ensures value { IfOk result (λ n. n ≡ ept_pages (view_ranges views.now)) }
+fn table_pages(alloc: Global, windows: &[GrantedWindow]) -> Result<u64, NoMemory>
+    requires { CanMap windows.now }
+    ensures value { IfOk result (λ n. n ≡ ept_pages (granted_ranges windows.now)) }
     ensures most { IfOk result (λ n. n ≤ 2 ^ 28) }
 {
-    let ranges = guest_ranges(alloc, views)?;
+    let ranges = guest_ranges(alloc, windows)?;
     Ok(pages(&ranges))
 }
 
@@ -127,14 +129,14 @@ pub(crate) fn of_kernel(
     subjects: &[Subject],
     grants: &[Grants],
 ) -> Result<Vec<Region>, NoMemory>
-    requires views { All (λ g. CanMap g.views) grants.now }
+    requires windows { All (λ g. CanMap g.windows) grants.now }
     requires as_many { length subjects.now ≡ length grants.now }
     ensures regions { IfOk result (λ v. v.items ≡ kernel_for_each subjects.now grants.now) }
     ensures named { IfOk result (λ _. HaveNames subjects.now) }
 {
     let mut regions = Vec::new(alloc);
     for (subject, granted) in subjects.iter().zip(grants) {
-        let pages = table_pages(alloc, granted.views.items())?;
+        let pages = table_pages(alloc, granted.windows.items())?;
         let more = kernel_regions(alloc, subject.name, pages)?;
         regions.extend_from_slice(&more)?;
     }

@@ -4,7 +4,7 @@
 mod expanded;
 mod kernel;
 
-pub use expand_grants::Grants;
+pub use expand_grants::{GrantedWindow, Grants};
 pub use expanded::{Expanded, expand};
 pub use kernel::KernelRegion;
 pub use policy_lawful::thing::{Region, RegionKind};

@@ -5,9 +5,9 @@ use Rattle.std.specs.Int.{w32, cast_unsigned}
 use Rattle.std.specs.List.{flat_map, list_all}
 use Rattle.std.proofs.lemmas.Bool.{and_from, and_parts, lt-ltb, ltb-true}
 use Rattle.std.proofs.lemmas.List.Folds.{list_all-append}
-use Rattle.guest_isa.specs.GuestIsa.{encoding_of}
+use Rattle.guest_isa.specs.GuestIsa.{encoding_of, instruction_with, row_of}
 use Rattle.guest_isa.specs.declared.instr.Instr.{Instr}
-use Rattle.guest_isa.specs.declared.instr.Instr.TheVariants.{Nop, Li, Add, Load, Store, Jmp, In, Vmcall, Sti, Setv, Reti}
+use Rattle.guest_isa.specs.declared.opcode.Opcode.TheVariants.{Nop, Li, Add, Load, Store, Jmp, In, Vmcall, Sti, Setv, Reti}
 use Rattle.hex.specs.Hex.{IsBytes}
 use Rattle.muen_num.specs.declared.access.AccessSize.TheVariants.{One, Eight}
 use Rattle.generated_system.specs.System.{code_of, polling}
@@ -25,8 +25,8 @@ four_low a b c d =
     (and_from (is_byte (c % 256)) (list_all is_byte (d % 256 ∷ [])) (low c)
     (and_from (is_byte (d % 256)) true (low d) refl)))
 
-first_bytes : (m : ℤ) → list_all is_byte (encoding_of (Li 1 m)) ≡ true
-unfolding encoding_of
+first_bytes : (m : ℤ) → list_all is_byte (encoding_of (instruction_with Li 1 0 One m)) ≡ true
+unfolding encoding_of row_of
 first_bytes m =
     let word : ℕ = cast_unsigned w32 m in
     four_low word (word / 256) (word / 256 ^ 2) (word / 256 ^ 3)
@@ -34,15 +34,15 @@ first_bytes m =
 -- what follows the first instruction
 abbrev later : ℕ → List Instr
 later i =
-    Li 2 (pos 6295552) ∷ Li 3 (pos 6291456) ∷ Li 4 (pos 1) ∷ Li 5 (pos 4194304) ∷ Setv 5 ∷ Sti ∷ Load 6 2 Eight (pos 0) ∷ Add 1 6 ∷ Store 1 3 Eight (pos 0) ∷ Vmcall 4
-    ∷ polling i ∷ Jmp (negsuc 39) ∷ replicate 27 Nop ++ (Add 7 4 ∷ Reti ∷ [])
+    (instruction_with Li 2 0 One (pos 6295552)) ∷ (instruction_with Li 3 0 One (pos 6291456)) ∷ (instruction_with Li 4 0 One (pos 1)) ∷ (instruction_with Li 5 0 One (pos 4194304)) ∷ (instruction_with Setv 0 5 One (pos 0)) ∷ (instruction_with Sti 0 0 One (pos 0)) ∷ (instruction_with Load 6 2 Eight (pos 0)) ∷ (instruction_with Add 1 6 One (pos 0)) ∷ (instruction_with Store 1 3 Eight (pos 0)) ∷ (instruction_with Vmcall 0 4 One (pos 0))
+    ∷ polling i ∷ (instruction_with Jmp 0 0 One (negsuc 39)) ∷ replicate 27 (instruction_with Nop 0 0 One (pos 0)) ++ ((instruction_with Add 7 4 One (pos 0)) ∷ (instruction_with Reti 0 0 One (pos 0)) ∷ [])
 
 later_bytes : (i : ℕ) → list_all is_byte (flat_map encoding_of (later i)) ≡ true
-unfolding encoding_of
+unfolding encoding_of row_of
 later_bytes i =
     elim (i == 0) as (λ b. list_all is_byte (flat_map encoding_of (
-    Li 2 (pos 6295552) ∷ Li 3 (pos 6291456) ∷ Li 4 (pos 1) ∷ Li 5 (pos 4194304) ∷ Setv 5 ∷ Sti ∷ Load 6 2 Eight (pos 0) ∷ Add 1 6 ∷ Store 1 3 Eight (pos 0) ∷ Vmcall 4
-    ∷ (if b then In 9 0 One (pos 16) else Nop) ∷ Jmp (negsuc 39) ∷ replicate 27 Nop ++ (Add 7 4 ∷ Reti ∷ []))) ≡ true) [ true ↦ refl | false ↦ refl ]
+    (instruction_with Li 2 0 One (pos 6295552)) ∷ (instruction_with Li 3 0 One (pos 6291456)) ∷ (instruction_with Li 4 0 One (pos 1)) ∷ (instruction_with Li 5 0 One (pos 4194304)) ∷ (instruction_with Setv 0 5 One (pos 0)) ∷ (instruction_with Sti 0 0 One (pos 0)) ∷ (instruction_with Load 6 2 Eight (pos 0)) ∷ (instruction_with Add 1 6 One (pos 0)) ∷ (instruction_with Store 1 3 Eight (pos 0)) ∷ (instruction_with Vmcall 0 4 One (pos 0))
+    ∷ (if b then (instruction_with In 9 0 One (pos 16)) else (instruction_with Nop 0 0 One (pos 0))) ∷ (instruction_with Jmp 0 0 One (negsuc 39)) ∷ replicate 27 (instruction_with Nop 0 0 One (pos 0)) ++ ((instruction_with Add 7 4 One (pos 0)) ∷ (instruction_with Reti 0 0 One (pos 0)) ∷ []))) ≡ true) [ true ↦ refl | false ↦ refl ]
 
 bytes_from : (xs : List ℕ) → list_all is_byte xs ≡ true → IsBytes xs
 bytes_from [] h i = omega arith
@@ -52,13 +52,13 @@ bytes_from (x ∷ xs) h (suc i) = let parts = and_parts (is_byte x) (list_all is
 pub code_bytes : (n i : ℕ) → IsBytes (code_of n i)
 unfolding code_of
 code_bytes n i =
-    bytes_from (encoding_of (Li 1 (pos (n + i))) ++ flat_map encoding_of (later i))
-    (list_all-append is_byte (encoding_of (Li 1 (pos (n + i)))) (flat_map encoding_of (later i))
-    ∙ and_from (list_all is_byte (encoding_of (Li 1 (pos (n + i))))) (list_all is_byte (flat_map encoding_of (later i))) (first_bytes (pos (n + i))) (later_bytes i))
+    bytes_from (encoding_of (instruction_with Li 1 0 One (pos (n + i))) ++ flat_map encoding_of (later i))
+    (list_all-append is_byte (encoding_of (instruction_with Li 1 0 One (pos (n + i)))) (flat_map encoding_of (later i))
+    ∙ and_from (list_all is_byte (encoding_of (instruction_with Li 1 0 One (pos (n + i))))) (list_all is_byte (flat_map encoding_of (later i))) (first_bytes (pos (n + i))) (later_bytes i))
 
 pub code_length : (n i : ℕ) → length (code_of n i) ≡ 336
-unfolding code_of encoding_of
+unfolding code_of encoding_of row_of
 code_length n i =
-    elim (i == 0) as (λ b. length (flat_map encoding_of (Li 1 (pos (n + i)) ∷
-    Li 2 (pos 6295552) ∷ Li 3 (pos 6291456) ∷ Li 4 (pos 1) ∷ Li 5 (pos 4194304) ∷ Setv 5 ∷ Sti ∷ Load 6 2 Eight (pos 0) ∷ Add 1 6 ∷ Store 1 3 Eight (pos 0) ∷ Vmcall 4
-    ∷ (if b then In 9 0 One (pos 16) else Nop) ∷ Jmp (negsuc 39) ∷ replicate 27 Nop ++ (Add 7 4 ∷ Reti ∷ []))) ≡ 336) [ true ↦ refl | false ↦ refl ]
+    elim (i == 0) as (λ b. length (flat_map encoding_of ((instruction_with Li 1 0 One (pos (n + i))) ∷
+    (instruction_with Li 2 0 One (pos 6295552)) ∷ (instruction_with Li 3 0 One (pos 6291456)) ∷ (instruction_with Li 4 0 One (pos 1)) ∷ (instruction_with Li 5 0 One (pos 4194304)) ∷ (instruction_with Setv 0 5 One (pos 0)) ∷ (instruction_with Sti 0 0 One (pos 0)) ∷ (instruction_with Load 6 2 Eight (pos 0)) ∷ (instruction_with Add 1 6 One (pos 0)) ∷ (instruction_with Store 1 3 Eight (pos 0)) ∷ (instruction_with Vmcall 0 4 One (pos 0))
+    ∷ (if b then (instruction_with In 9 0 One (pos 16)) else (instruction_with Nop 0 0 One (pos 0))) ∷ (instruction_with Jmp 0 0 One (negsuc 39)) ∷ replicate 27 (instruction_with Nop 0 0 One (pos 0)) ++ ((instruction_with Add 7 4 One (pos 0)) ∷ (instruction_with Reti 0 0 One (pos 0)) ∷ []))) ≡ 336) [ true ↦ refl | false ↦ refl ]

@@ -1,7 +1,7 @@
 -- The generated system at small numbers, against answers that were worked out by hand.
 use Rattle.std.proofs.Common.{◌≡◌, ◌++◌, [], ◌∷◌, refl}
 use Rattle.std.specs.Prelude.{codes, replicate}
-use Rattle.guest_isa.specs.GuestIsa.{encoding_of}
+use Rattle.guest_isa.specs.GuestIsa.{encoding_of, row_of}
 use Rattle.record_text.specs.DeviceRecord.{irq_input, port_input}
 use Rattle.generated_system.specs.Record.{inputs_at, order_at}
 use Rattle.generated_system.specs.System.{code_of, cpus_for, first_ticks_for, one_before}
@@ -23,7 +23,7 @@ code_of_the_first : code_of 1 0
     ∷ replicate 216 0
     ++ (4 ∷ 116 ∷ 0 ∷ 0 ∷ 0 ∷ 0 ∷ 0 ∷ 0
     ∷ 27 ∷ 0 ∷ 0 ∷ 0 ∷ 0 ∷ 0 ∷ 0 ∷ 0 ∷ [])
-unfolding code_of encoding_of
+unfolding code_of encoding_of row_of
 code_of_the_first = refl
 
 -- ---- number 6: three CPUs, whose first subjects have seven of eight ticks; number 7: four, and one

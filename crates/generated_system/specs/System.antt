@@ -1,9 +1,9 @@
 -- The system that `load` makes of a number (this project's own): subjects in a ring, each with a channel to the next.
 use Rattle.std.specs.Prelude.{ℕ, ◌+◌, ◌-◌, ◌*◌, ◌/◌, ◌%◌, ◌==◌, pos, negsuc, List, [], ◌∷◌, ◌++◌, map, replicate, codes, decimal, Some, None, if◌then◌else◌}
 use Rattle.std.specs.List.{flat_map}
-use Rattle.guest_isa.specs.GuestIsa.{encoding_of}
+use Rattle.guest_isa.specs.GuestIsa.{encoding_of, instruction_with}
 use Rattle.guest_isa.specs.declared.instr.Instr.{Instr}
-use Rattle.guest_isa.specs.declared.instr.Instr.TheVariants.{Nop, Li, Add, Load, Store, Jmp, In, Vmcall, Sti, Setv, Reti}
+use Rattle.guest_isa.specs.declared.opcode.Opcode.TheVariants.{Nop, Li, Add, Load, Store, Jmp, In, Vmcall, Sti, Setv, Reti}
 use Rattle.muen_num.specs.Range.{numbers_below}
 use Rattle.muen_num.specs.declared.access.AccessSize.TheVariants.{One, Eight}
 use Rattle.muen_num.specs.declared.limits.TheConstants.{PAGE}
@@ -72,27 +72,27 @@ read_address = 6295552
 
 -- the first subject reads the device's port; the others do nothing
 abbrev pub polling : ℕ → Instr
-polling i = if i == 0 then In 9 0 One (pos 16) else Nop
+polling i = if i == 0 then (instruction_with In 9 0 One (pos 16)) else (instruction_with Nop 0 0 One (pos 0))
 
 -- goes round, and writes on what came together with its own number; a call tells the next subject. Behind that the handlers
 -- of vector 40, which counts, and of vector 41
 abbrev pub program : ℕ → ℕ → List Instr
 program n i =
-    Li 1 (pos (n + i))
-    ∷ Li 2 (pos read_address)
-    ∷ Li 3 (pos written_address)
-    ∷ Li 4 (pos 1)
-    ∷ Li 5 (pos code_address)
-    ∷ Setv 5
-    ∷ Sti
-    ∷ Load 6 2 Eight (pos 0)
-    ∷ Add 1 6
-    ∷ Store 1 3 Eight (pos 0)
-    ∷ Vmcall 4
+    (instruction_with Li 1 0 One (pos (n + i)))
+    ∷ (instruction_with Li 2 0 One (pos read_address))
+    ∷ (instruction_with Li 3 0 One (pos written_address))
+    ∷ (instruction_with Li 4 0 One (pos 1))
+    ∷ (instruction_with Li 5 0 One (pos code_address))
+    ∷ (instruction_with Setv 0 5 One (pos 0))
+    ∷ (instruction_with Sti 0 0 One (pos 0))
+    ∷ (instruction_with Load 6 2 Eight (pos 0))
+    ∷ (instruction_with Add 1 6 One (pos 0))
+    ∷ (instruction_with Store 1 3 Eight (pos 0))
+    ∷ (instruction_with Vmcall 0 4 One (pos 0))
     ∷ polling i
-    ∷ Jmp (negsuc 39)
-    ∷ replicate 27 Nop
-    ++ (Add 7 4 ∷ Reti ∷ [])
+    ∷ (instruction_with Jmp 0 0 One (negsuc 39))
+    ∷ replicate 27 (instruction_with Nop 0 0 One (pos 0))
+    ++ ((instruction_with Add 7 4 One (pos 0)) ∷ (instruction_with Reti 0 0 One (pos 0)) ∷ [])
 
 -- the bytes of its instructions, in order
 unfoldable pub code_of : ℕ → ℕ → List ℕ

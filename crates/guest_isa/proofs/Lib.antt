@@ -1,4 +1,5 @@
 mod Examples
+mod Rows
 pub mod Spelled
 pub mod Alike
 pub mod StateLaws

@@ -1,145 +1,78 @@
--- The instruction of eight bytes is spelled by these bytes and no others.
-use Rattle.std.proofs.Common.{◌≡◌, ◌∙◌, ℕ, zero, suc, ◌+◌, ◌*◌, ◌/◌, ◌%◌, ◌^◌, ◌<◌, ◌==◌, ◌||◌, Bool, true, false, List, [], ◌∷◌, length, get_or, Option, Some, None, refl, sym, ap, arith, if◌then◌else◌}
-use Rattle.std.specs.Prelude.{option_and_then}
-use Rattle.std.specs.Int.{w32, cast_signed, cast_unsigned, from_le_bytes, to_le_bytes}
-use Rattle.std.proofs.lemmas.Bool.{and_parts, eqb-true}
+-- The instruction of eight bytes is spelled by these bytes and no others, and what spells an instruction decodes to it.
+use Rattle.std.proofs.Common.{◌≡◌, ◌∙◌, ℕ, zero, suc, ◌+◌, ◌*◌, ◌/◌, ◌%◌, ◌^◌, ◌<◌, ◌==◌, Bool, true, false, List, [], ◌∷◌, length, get_or, Option, Some, None, ℤ, pos, negsuc, refl, sym, ap, w32, to_z-of_z, arith}
+use Rattle.std.specs.Prelude.{◌&&◌, ◌||◌, if◌then◌else◌, nat_le, option_and_then}
+use Rattle.std.specs.Int.{bytes_low_first, byte_at, cast_signed, cast_unsigned, from_le_bytes, to_le_bytes}
+use Rattle.std.specs.Int.RustNames.{FitsSigned}
+use Rattle.std.specs.List.{All}
+use Rattle.std.specs.Ordering.{int_eq}
+use Rattle.std.proofs.lemmas.Bool.{and_from, and_parts, eqb-true}
+use Rattle.std.proofs.lemmas.Bool.Decides.{Decides-int_eq}
 use Rattle.std.proofs.lemmas.Int.{of_z-to_z}
-use Rattle.std.proofs.lemmas.Nat.{le_bytes_4}
+use Rattle.std.proofs.lemmas.List.Elements.{All-cons, All-nil}
+use Rattle.std.proofs.lemmas.Option.{same_Some}
+use Rattle.std.proofs.lemmas.Nat.{from_le_bytes-to_le_bytes_4, le_bytes_4}
+use Rattle.muen_num.specs.AccessSize.{bytes_of}
 use Rattle.muen_num.specs.declared.access.AccessSize.{AccessSize}
 use Rattle.muen_num.specs.declared.access.AccessSize.TheVariants.{One, Two, Four, Eight}
+use Rattle.muen_num.proofs.Numbers.{byte_low}
+use Rattle.guest_isa.specs.declared.opcode.Opcode.{Opcode}
+use Rattle.guest_isa.specs.declared.opcode.Shape.{Shape}
+use Rattle.guest_isa.specs.declared.opcode.Shape.TheVariants.{Alone}
 use Rattle.guest_isa.specs.declared.spelling.Fields.{Fields}
-use Rattle.guest_isa.specs.declared.spelling.Named.{Named}
 use Rattle.guest_isa.specs.declared.instr.Instr.{Instr}
-use Rattle.guest_isa.specs.declared.instr.Instr.TheVariants.{Nop, Li, Lih, Mov, Add, Sub, And, Or, Xor, Shl, Shr, Load, Store, Jmp, Jz, Jnz, Jb, In, Out, Rdmsr, Wrmsr, Rdtsc, Vmcall, Hlt, Sti, Cli, Setv, Reti}
-use Rattle.guest_isa.specs.GuestIsa.{fields_of, fields_for, are_unset, row, sized_row, port_row, imm_of, none, rd_imm, rd_rs, rd_alone, rs_alone, access, imm_alone, rd_rs_imm, instruction_of, system_instruction_of, spelled, encoding_of, code_of, AreSpelled}
+use Rattle.guest_isa.specs.GuestIsa.{AreSpelled, IsValid, code_of, decode_of, encoding_of, fields_for, fields_of, in_row, instr, instruction_by, instruction_of, instruction_with, is_in_row, named, named_by, number_of, opcode_at, shape_of, size_of, spelled}
+use Rattle.guest_isa.specs.Words.{IsByte}
+use Rattle.guest_isa.proofs.Rows.{number_back, number_low, opcode_back}
 
--- the instruction, if there is one, has these fields
-abbrev IsFor : Fields → Option Instr → Type 0
-IsFor f None = Unit {0}
-IsFor f (Some i) = fields_for i ≡ f
+-- ---- instructions with the fields that their rows name
 
--- ---- the fields of an instruction are those of its row
+kept_low : (t : Bool) (r : ℕ) → r < 16 → (if t then r else 0) < 16
+kept_low true r h = h
+kept_low false r h = omega arith
 
-keep : Bool → ℕ → ℕ
-keep true x = x
-keep false x = 0
+kept : (t : Bool) (r : ℕ) → (t || ((if t then r else 0) == 0)) ≡ true
+kept true r = refl
+kept false r = refl
 
--- through its reading as a signed number
-keep_imm : Bool → ℕ → ℕ
-keep_imm true x = cast_unsigned w32 (cast_signed w32 x)
-keep_imm false x = 0
+kept_imm : (t : Bool) (z : ℤ) → (t || int_eq (if t then z else pos 0) (pos 0)) ≡ true
+kept_imm true z = refl
+kept_imm false z = refl
 
--- the named fields of a row with this opcode and size code
-named_of : ℕ → ℕ → Fields → Named → Fields
-named_of opcode size f n = record {
-  opcode = opcode;
-  rd = keep n.rd f.rd;
-  rs = keep n.rs f.rs;
-  size = size;
-  zero = 0;
-  imm = keep_imm n.imm f.imm;
-}
+one_byte : (shape : Shape) → nat_le 1 (named shape).most ≡ true
+one_byte Alone = refl
+one_byte _ = refl
 
-kept : (t : Bool) (x : ℕ) → (t || (x == 0)) ≡ true → keep t x ≡ x
-unfolding keep
-kept true x e = refl
-kept false x e = sym (eqb-true x 0 e)
+kept_size : (size : AccessSize) (most : ℕ) → nat_le 1 most ≡ true → nat_le (bytes_of (if nat_le (bytes_of size) most then size else One)) most ≡ true
+kept_size size most one = by (nat_le (bytes_of size) most) refl
+  where
+    by : (t : Bool) → nat_le (bytes_of size) most ≡ t → nat_le (bytes_of (if t then size else One)) most ≡ true
+    by true e = e
+    by false e = one
 
-kept_imm : (t : Bool) (x : ℕ) → x < 2 ^ 32 → (t || (x == 0)) ≡ true → keep_imm t x ≡ x
-unfolding keep_imm
-kept_imm true x low e = of_z-to_z w32 x low
-kept_imm false x low e = sym (eqb-true x 0 e)
+pub valid_with : (o : Opcode) (rd rs : ℕ) (size : AccessSize) (z : ℤ) → rd < 16 → rs < 16 → IsValid (instruction_with o rd rs size z)
+valid_with o rd rs size z h k =
+    let n = named_by o in
+    (kept_low n.rd rd h, kept_low n.rs rs k, and_from _ _ (and_from _ _ (and_from _ _ (kept n.rd rd) (kept n.rs rs)) (kept_imm n.imm z)) (kept_size size n.most (one_byte (shape_of o))))
 
--- a row that passed its test has all its fields
-all_named : (f : Fields) (n : Named) (opcode size : ℕ) → f.imm < 2 ^ 32 → f.opcode ≡ opcode → f.size ≡ size → are_unset f n ≡ true → named_of opcode size f n ≡ f
-unfolding named_of
-all_named f n opcode size low o s e =
-    let four = and_parts _ (f.zero == 0) e in
-    let three = and_parts _ (n.imm || (f.imm == 0)) four.0 in
-    let two = and_parts _ (n.size || (f.size == 0)) three.0 in
-    let one = and_parts (n.rd || (f.rd == 0)) (n.rs || (f.rs == 0)) two.0 in
-    λ i. record {
-      opcode = sym o i;
-      rd = kept n.rd f.rd one.0 i;
-      rs = kept n.rs f.rs one.1 i;
-      size = sym s i;
-      zero = sym (eqb-true f.zero 0 four.1) i;
-      imm = kept_imm n.imm f.imm low three.1 i;
-    }
+own_register : (t : Bool) (r : ℕ) → (t || (r == 0)) ≡ true → (if t then r else 0) ≡ r
+own_register true r e = refl
+own_register false r e = sym (eqb-true r 0 e)
 
-size_unset : (f : Fields) (n : Named) → n.size ≡ false → are_unset f n ≡ true → f.size ≡ 0
-size_unset f n named e =
-    let four = and_parts _ (f.zero == 0) e in
-    let three = and_parts _ (n.imm || (f.imm == 0)) four.0 in
-    let two = and_parts _ (n.size || (f.size == 0)) three.0 in
-    eqb-true f.size 0 (rw named at two.1)
+int_zero : (z : ℤ) → int_eq z (pos 0) ≡ true → z ≡ pos 0
+int_zero z e = (Decides-int_eq z (pos 0)).0 e
 
--- ---- rows
+own_imm : (t : Bool) (z : ℤ) → (t || int_eq z (pos 0)) ≡ true → (if t then z else pos 0) ≡ z
+own_imm true z e = refl
+own_imm false z e = sym (int_zero z e)
 
-pub at_test : {A : Type 0} (P : A → Type 0) (t : Bool) {x y : A} → (t ≡ true → P x) → P y → P (if t then x else y)
-at_test P true held other = held refl
-at_test P false held other = other
-
-module _ (f : Fields) (low : f.imm < 2 ^ 32) where
-  of_row : (n : Named) (opcode : ℕ) (i : Instr) → n.size ≡ false → fields_for i ≡ named_of opcode 0 f n → (f.opcode == opcode) ≡ true → IsFor f (row f n i)
-  of_row n opcode i named same e =
-      at_test (IsFor f) (are_unset f n) (λ unset. same ∙ all_named f n opcode 0 low (eqb-true f.opcode opcode e) (size_unset f n named unset) unset) tt
-
-  of_size : (n : Named) (opcode : ℕ) (i : AccessSize → Instr) (size : AccessSize) → fields_for (i size) ≡ named_of opcode (code_of size) f n → (f.opcode == opcode) ≡ true → (f.size == code_of size) ≡ true → IsFor f (row f n (i size))
-  of_size n opcode i size same e s =
-      at_test (IsFor f) (are_unset f n) (λ unset. same ∙ all_named f n opcode (code_of size) low (eqb-true f.opcode opcode e) (eqb-true f.size (code_of size) s) unset) tt
-
-  of_sized_row : (n : Named) (opcode : ℕ) (i : AccessSize → Instr) → ((size : AccessSize) → fields_for (i size) ≡ named_of opcode (code_of size) f n) → (f.opcode == opcode) ≡ true → IsFor f (sized_row f n i)
-  of_sized_row n opcode i same e =
-      let P = λ (o : Option AccessSize). IsFor f (option_and_then (λ size. row f n (i size)) o) in
-      let of = λ (size : AccessSize) (s : (f.size == code_of size) ≡ true). of_size n opcode i size (same size) e s in
-      at_test P (f.size == 0) (of One) (at_test P (f.size == 1) (of Two) (at_test P (f.size == 2) (of Four) (at_test P (f.size == 3) (of Eight) tt)))
-
-  of_port_row : (n : Named) (opcode : ℕ) (i : AccessSize → Instr) → ((size : AccessSize) → fields_for (i size) ≡ named_of opcode (code_of size) f n) → (f.opcode == opcode) ≡ true → IsFor f (port_row f n i)
-  of_port_row n opcode i same e =
-      let P = λ (o : Option AccessSize). IsFor f (option_and_then (λ size. row f n (i size)) o) in
-      let of = λ (size : AccessSize) (s : (f.size == code_of size) ≡ true). of_size n opcode i size (same size) e s in
-      at_test P (f.size == 0) (of One) (at_test P (f.size == 1) (of Two) (at_test P (f.size == 2) (of Four) tt))
-
-  of_system_instruction : IsFor f (system_instruction_of f)
-  unfolding named_of keep keep_imm
-  of_system_instruction =
-      let P = IsFor f in
-      let o = λ (opcode : ℕ). f.opcode == opcode in
-      at_test P (o 17) (of_port_row access 17 (λ size. In f.rd f.rs size (imm_of f)) (λ _. refl))
-      (at_test P (o 18) (of_port_row access 18 (λ size. Out f.rd f.rs size (imm_of f)) (λ _. refl))
-      (at_test P (o 19) (of_row rd_rs 19 (Rdmsr f.rd f.rs) refl refl)
-      (at_test P (o 20) (of_row rd_rs 20 (Wrmsr f.rd f.rs) refl refl)
-      (at_test P (o 21) (of_row rd_alone 21 (Rdtsc f.rd) refl refl)
-      (at_test P (o 22) (of_row rs_alone 22 (Vmcall f.rs) refl refl)
-      (at_test P (o 23) (of_row none 23 Hlt refl refl)
-      (at_test P (o 24) (of_row none 24 Sti refl refl)
-      (at_test P (o 25) (of_row none 25 Cli refl refl)
-      (at_test P (o 26) (of_row rs_alone 26 (Setv f.rs) refl refl)
-      (at_test P (o 27) (of_row none 27 Reti refl refl) tt))))))))))
-
-  of_instruction : IsFor f (instruction_of f)
-  unfolding named_of keep keep_imm
-  of_instruction =
-      let P = IsFor f in
-      let o = λ (opcode : ℕ). f.opcode == opcode in
-      at_test P (o 0) (of_row none 0 Nop refl refl)
-      (at_test P (o 1) (of_row rd_imm 1 (Li f.rd (imm_of f)) refl refl)
-      (at_test P (o 2) (of_row rd_imm 2 (Lih f.rd (imm_of f)) refl refl)
-      (at_test P (o 3) (of_row rd_rs 3 (Mov f.rd f.rs) refl refl)
-      (at_test P (o 4) (of_row rd_rs 4 (Add f.rd f.rs) refl refl)
-      (at_test P (o 5) (of_row rd_rs 5 (Sub f.rd f.rs) refl refl)
-      (at_test P (o 6) (of_row rd_rs 6 (And f.rd f.rs) refl refl)
-      (at_test P (o 7) (of_row rd_rs 7 (Or f.rd f.rs) refl refl)
-      (at_test P (o 8) (of_row rd_rs 8 (Xor f.rd f.rs) refl refl)
-      (at_test P (o 9) (of_row rd_rs 9 (Shl f.rd f.rs) refl refl)
-      (at_test P (o 10) (of_row rd_rs 10 (Shr f.rd f.rs) refl refl)
-      (at_test P (o 11) (of_sized_row access 11 (λ size. Load f.rd f.rs size (imm_of f)) (λ _. refl))
-      (at_test P (o 12) (of_sized_row access 12 (λ size. Store f.rd f.rs size (imm_of f)) (λ _. refl))
-      (at_test P (o 13) (of_row imm_alone 13 (Jmp (imm_of f)) refl refl)
-      (at_test P (o 14) (of_row rd_imm 14 (Jz f.rd (imm_of f)) refl refl)
-      (at_test P (o 15) (of_row rd_imm 15 (Jnz f.rd (imm_of f)) refl refl)
-      (at_test P (o 16) (of_row rd_rs_imm 16 (Jb f.rd f.rs (imm_of f)) refl refl) of_system_instruction))))))))))))))))
+-- what an instruction of these fields names, so that they are all that it has
+pub own_fields : (i : Instr) → IsValid i → instruction_with i.opcode i.rd i.rs i.size i.imm ≡ i
+own_fields i v =
+    let n = named_by i.opcode in
+    let three = and_parts _ (nat_le (bytes_of i.size) n.most) v.2 in
+    let two = and_parts _ (n.imm || int_eq i.imm (pos 0)) three.0 in
+    let one = and_parts (n.rd || (i.rd == 0)) (n.rs || (i.rs == 0)) two.0 in
+    λ j. instr i.opcode (own_register n.rd i.rd one.0 j) (own_register n.rs i.rs one.1 j) (if three.1 j then i.size else One) (own_imm n.imm i.imm two.1 j)
 
 -- ---- bytes
 
@@ -161,11 +94,116 @@ eight (a ∷ n ∷ c ∷ d ∷ e ∷ f ∷ g ∷ h ∷ []) imm l word =
     λ i. a ∷ nibbles i ∷ c ∷ d ∷ word i
 eight _ imm l word = absurd (omega arith)
 
+-- ---- what fields decode to has these fields
+
+-- what holds of an instruction, if there is one
+abbrev pub OfSome : (Instr → Type 0) → Option Instr → Type 0
+OfSome P None = Unit {0}
+OfSome P (Some i) = P i
+
+code_back : (code : ℕ) (size : AccessSize) → size_of code ≡ Some size → code_of size ≡ code
+code_back code size e = by (code == 0) (code == 1) (code == 2) (code == 3) refl refl refl refl e
+  where
+    of : (own : AccessSize) → Some own ≡ Some size → (code == code_of own) ≡ true → code_of size ≡ code
+    of own e t = ap code_of (sym (same_Some own size e)) ∙ sym (eqb-true code (code_of own) t)
+
+    by : (a b c d : Bool) → (code == 0) ≡ a → (code == 1) ≡ b → (code == 2) ≡ c → (code == 3) ≡ d
+        → (if a then Some One else (if b then Some Two else (if c then Some Four else (if d then Some Eight else None)))) ≡ Some size → code_of size ≡ code
+    by true b c d p q r s e = of One e p
+    by false true c d p q r s e = of Two e q
+    by false false true d p q r s e = of Four e r
+    by false false false true p q r s e = of Eight e s
+    by false false false false p q r s e = cc
+
+-- whatever holds of each instruction of these fields that passes
+pub by_fields : (P : Instr → Type 0) (f : Fields) → ((o : Opcode) (size : AccessSize) → opcode_at f.opcode ≡ Some o → size_of f.size ≡ Some size → ((f.zero == 0) && is_in_row (instruction_by f o size)) ≡ true → P (instruction_by f o size))
+    → OfSome P (instruction_of f)
+by_fields P f each = of_opcode (opcode_at f.opcode) refl
+  where
+    of_test : (o : Opcode) (size : AccessSize) (t : Bool) → (t ≡ true → P (instruction_by f o size)) → OfSome P (if t then Some (instruction_by f o size) else None)
+    of_test o size true h = h refl
+    of_test o size false h = tt
+
+    of_size : (o : Opcode) (s : Option AccessSize) → opcode_at f.opcode ≡ Some o → size_of f.size ≡ s → OfSome P (option_and_then (λ size. in_row f (instruction_by f o size)) s)
+    of_size o None at e = tt
+    of_size o (Some size) at e = of_test o size ((f.zero == 0) && is_in_row (instruction_by f o size)) (each o size at e)
+
+    of_opcode : (o : Option Opcode) → opcode_at f.opcode ≡ o → OfSome P (option_and_then (λ o. option_and_then (λ size. in_row f (instruction_by f o size)) (size_of f.size)) o)
+    of_opcode None e = tt
+    of_opcode (Some o) e = of_size o (size_of f.size) e refl
+
 -- what fields decode to is spelled by their bytes
 pub spelled_by : (b : List ℕ) (f : Fields) → f.imm < 2 ^ 32 → spelled f ≡ b → AreSpelled (instruction_of f) b
 unfolding encoding_of
-spelled_by b f low back = of_option (instruction_of f) (of_instruction f low)
+spelled_by b f low back = as_spelled (instruction_of f) (by_fields (λ i. fields_for i ≡ f) f same)
   where
-    of_option : (o : Option Instr) → IsFor f o → AreSpelled o b
-    of_option None h = tt
-    of_option (Some i) h = ap spelled h ∙ back
+    same : (o : Opcode) (size : AccessSize) → opcode_at f.opcode ≡ Some o → size_of f.size ≡ Some size → ((f.zero == 0) && is_in_row (instruction_by f o size)) ≡ true → fields_for (instruction_by f o size) ≡ f
+    same o size at sized test =
+        let number = number_back f.opcode o at in
+        let code = code_back f.size size sized in
+        let none : 0 ≡ f.zero = sym (eqb-true f.zero 0 (and_parts (f.zero == 0) _ test).0) in
+        let word = of_z-to_z w32 f.imm low in
+        λ i. record { opcode = number i; rd = f.rd; rs = f.rs; size = code i; zero = none i; imm = word i }
+
+    as_spelled : (o : Option Instr) → OfSome (λ i. fields_for i ≡ f) o → AreSpelled o b
+    as_spelled None h = tt
+    as_spelled (Some i) h = ap spelled h ∙ back
+
+-- ---- what spells an instruction decodes to it
+
+pub unsigned_low : (z : ℤ) → FitsSigned w32 z → cast_unsigned w32 z < 2 ^ 32
+unsigned_low (pos n) h = omega (arith, h.sfits)
+unsigned_low (negsuc n) h = omega (arith, h.sfits)
+
+fields_back : (i : Instr) → i.rd < 16 → i.rs < 16 → FitsSigned w32 i.imm → fields_of (spelled (fields_for i)) ≡ fields_for i
+fields_back i h k fits =
+    let high : (i.rd * 16 + i.rs) / 16 ≡ i.rd = omega arith in
+    let low : (i.rd * 16 + i.rs) % 16 ≡ i.rs = omega arith in
+    let word = from_le_bytes-to_le_bytes_4 (cast_unsigned w32 i.imm) (unsigned_low i.imm fits) in
+    λ j. record { opcode = number_of i.opcode; rd = high j; rs = low j; size = code_of i.size; zero = 0; imm = word j }
+
+size_back : (size : AccessSize) → size_of (code_of size) ≡ Some size
+size_back One = refl
+size_back Two = refl
+size_back Four = refl
+size_back Eight = refl
+
+row_back : (i : Instr) → is_in_row i ≡ true → FitsSigned w32 i.imm → instruction_of (fields_for i) ≡ Some i
+row_back i named fits =
+    (λ j. option_and_then (λ o. option_and_then (λ size. in_row (fields_for i) (instr o i.rd i.rs size (word j))) (size_back i.size j)) (opcode_back i.opcode j))
+    ∙ ap (λ t. if t then Some i else None) named
+  where
+    word : cast_signed w32 (cast_unsigned w32 i.imm) ≡ i.imm
+    word = to_z-of_z fits
+
+pub encoding_decodes : (i : Instr) → IsValid i → FitsSigned w32 i.imm → decode_of (encoding_of i) ≡ Some i
+unfolding decode_of encoding_of
+encoding_decodes i v fits = ap instruction_of (fields_back i v.0 v.1 fits) ∙ row_back i v.2 fits
+
+-- the bytes of its fields
+pub fields_decode : (i : Instr) (f : Fields) (bytes : List ℕ) → f ≡ fields_for i → bytes ≡ spelled f → IsValid i → FitsSigned w32 i.imm → decode_of bytes ≡ Some i
+unfolding encoding_of
+fields_decode i f bytes e h v fits = ap decode_of (h ∙ ap spelled e) ∙ encoding_decodes i v fits
+
+-- ---- an encoding is eight bytes
+
+pub bytes_low : (i k n : ℕ) → All IsByte (bytes_low_first i k n)
+bytes_low i zero n = All-nil IsByte
+bytes_low i (suc k) n = All-cons IsByte (byte_at i n) (bytes_low_first (suc i) k n) (byte_low i n) (bytes_low (suc i) k n)
+
+code_low : (size : AccessSize) → code_of size < 256
+code_low One = omega arith
+code_low Two = omega arith
+code_low Four = omega arith
+code_low Eight = omega arith
+
+pub encoding_low : (i : Instr) → IsValid i → All IsByte (encoding_of i)
+unfolding encoding_of
+encoding_low i v =
+    let two : i.rd * 16 + i.rs < 256 = omega (arith, v.0, v.1) in
+    let none : 0 < 256 = omega arith in
+    let word = to_le_bytes w32 (cast_unsigned w32 i.imm) in
+    let number = number_of i.opcode in
+    All-cons IsByte number ((i.rd * 16 + i.rs) ∷ code_of i.size ∷ 0 ∷ word) (number_low i.opcode)
+    (All-cons IsByte (i.rd * 16 + i.rs) (code_of i.size ∷ 0 ∷ word) two
+    (All-cons IsByte (code_of i.size) (0 ∷ word) (code_low i.size) (All-cons IsByte 0 word none (bytes_low 0 4 (cast_unsigned w32 i.imm)))))

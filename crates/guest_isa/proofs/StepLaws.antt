@@ -16,10 +16,11 @@ use Rattle.muen_num.specs.declared.access.AccessSize.{AccessSize}
 use Rattle.muen_num.specs.declared.limits.TheConstants.{EXIT_EPT_VIOLATION, EXIT_EXCEPTION, GUEST_END}
 use Rattle.state_page.specs.Memory.{le_bytes}
 use Rattle.state_page.specs.declared.state.SubjectState.{SubjectState}
-use Rattle.guest_isa.specs.GuestIsa.{fields_of, size_of, port_size_of, system_instruction_of, instruction_of, decode_of, register, advanced, with_register, extended, offset_by, low_bytes, port_of, passed, set_register, jumped, jumped_if, effect_of}
+use Rattle.guest_isa.specs.GuestIsa.{fields_of, decode_of, register, advanced, with_register, extended, offset_by, low_bytes, port_of, passed, set_register, jumped, jumped_if, effect_by, effect_of}
 use Rattle.guest_isa.specs.declared.instr.Asked.{Asked}
 use Rattle.guest_isa.specs.declared.instr.Instr.{Instr}
-use Rattle.guest_isa.specs.declared.instr.Instr.TheVariants.{Nop, Li, Lih, Mov, Add, Sub, And, Or, Xor, Shl, Shr, Load, Store, Jmp, Jz, Jnz, Jb, In, Out, Rdmsr, Wrmsr, Rdtsc, Vmcall, Hlt, Sti, Cli, Setv, Reti}
+use Rattle.guest_isa.specs.declared.opcode.Opcode.{Opcode}
+use Rattle.guest_isa.specs.declared.opcode.Opcode.TheVariants.{Nop, Li, Lih, Mov, Add, Sub, And, Or, Xor, Shl, Shr, Load, Store, Jmp, Jz, Jnz, Jb, In, Out, Rdmsr, Wrmsr, Rdtsc, Vmcall, Hlt, Sti, Cli, Setv, Reti}
 use Rattle.guest_isa.specs.declared.instr.Wish.{Wish}
 use Rattle.guest_isa.specs.declared.instr.Wish.TheVariants.{Nothing, Set as Sets, Load as Loads, Store as Stores, PortIn, PortOut, ReadMsr, WriteMsr, Tick, Call as Calls, Halt as Halts}
 use Rattle.guest_isa.specs.Step.{World, Stored, MsrWrite, Answer, went_on, exits, sets, reach_of, word_at, loaded, stored_to, port_read, port_written, msr_read, msr_written, performed, executed, fetched, step}
@@ -27,6 +28,7 @@ use Rattle.guest_isa.specs.declared.end.Change.{Change}
 use Rattle.guest_isa.specs.declared.reach.Reach.{Reach}
 use Rattle.guest_isa.specs.declared.reach.Reach.TheVariants.{Reached, Refused}
 use Rattle.guest_isa.specs.Words.{IsWord, FitsState}
+use Rattle.guest_isa.proofs.Spelled.{OfSome, by_fields}
 use Rattle.guest_isa.proofs.StateLaws.{word_below}
 
 -- what the world tells are words
@@ -71,73 +73,16 @@ immediate_word n = word_by n (nat_lt n (2 ^ 31)) (small_of n)
 immediate_half : (n : ℕ) → cast_unsigned w32 (cast_signed w32 n) < 2 ^ 32
 immediate_half n = half_by n (nat_lt n (2 ^ 31)) (small_of n)
 
-abbrev FitsInstr : Instr → Type 0
-FitsInstr (Li rd imm) = IsWord (extended imm)
-FitsInstr (Lih rd imm) = cast_unsigned w32 imm < 2 ^ 32
-FitsInstr _ = Unit {0}
+-- the immediate of an instruction has the bits that it is read with: as a word, and as the half of one
+record FitsInstr (i : Instr) : Type 0 where
+  pub word : IsWord (extended i.imm)
+  pub half : cast_unsigned w32 i.imm < 2 ^ 32
 
-abbrev FitsSome : Option Instr → Type 0
-FitsSome None = Unit {0}
-FitsSome (Some i) = FitsInstr i
-
--- the immediate of an instruction, if there is one, has the bits that it is read with
-record Decoded (o : Option Instr) : Type 0 where
-  pub fits : FitsSome o
-
-either : (c : Bool) (a b : Option Instr) → Decoded a → Decoded b → Decoded (if c then a else b)
-either true a b h g = h
-either false a b h g = g
-
-no_row : Decoded None
-no_row = record { fits = tt }
-
-in_row : (c : Bool) (i : Instr) → FitsInstr i → Decoded (if c then Some i else None)
-in_row c i h = either c (Some i) None (record { fits = h }) no_row
-
-in_sized : (c : Bool) (i : AccessSize → Instr) (o : Option AccessSize) → ((size : AccessSize) → FitsInstr (i size)) → Decoded (option_and_then (λ size. if c then Some (i size) else None) o)
-in_sized c i None h = no_row
-in_sized c i (Some size) h = in_row c (i size) (h size)
-
-module _ (opcode rd rs size zero imm : ℕ) where
-  in_system : Decoded (system_instruction_of (record { opcode = opcode; rd = rd; rs = rs; size = size; zero = zero; imm = imm }))
-  in_system =
-      either (opcode == 17) _ _ (in_sized _ (λ size. In rd rs size (cast_signed w32 imm)) (port_size_of size) (λ size. tt))
-      (either (opcode == 18) _ _ (in_sized _ (λ size. Out rd rs size (cast_signed w32 imm)) (port_size_of size) (λ size. tt))
-      (either (opcode == 19) _ _ (in_row _ (Rdmsr rd rs) tt)
-      (either (opcode == 20) _ _ (in_row _ (Wrmsr rd rs) tt)
-      (either (opcode == 21) _ _ (in_row _ (Rdtsc rd) tt)
-      (either (opcode == 22) _ _ (in_row _ (Vmcall rs) tt)
-      (either (opcode == 23) _ _ (in_row _ Hlt tt)
-      (either (opcode == 24) _ _ (in_row _ Sti tt)
-      (either (opcode == 25) _ _ (in_row _ Cli tt)
-      (either (opcode == 26) _ _ (in_row _ (Setv rs) tt)
-      (either (opcode == 27) _ _ (in_row _ Reti tt) no_row))))))))))
-
-  in_table : Decoded (instruction_of (record { opcode = opcode; rd = rd; rs = rs; size = size; zero = zero; imm = imm }))
-  in_table =
-      either (opcode == 0) _ _ (in_row _ Nop tt)
-      (either (opcode == 1) _ _ (in_row _ (Li rd (cast_signed w32 imm)) (immediate_word imm))
-      (either (opcode == 2) _ _ (in_row _ (Lih rd (cast_signed w32 imm)) (immediate_half imm))
-      (either (opcode == 3) _ _ (in_row _ (Mov rd rs) tt)
-      (either (opcode == 4) _ _ (in_row _ (Add rd rs) tt)
-      (either (opcode == 5) _ _ (in_row _ (Sub rd rs) tt)
-      (either (opcode == 6) _ _ (in_row _ (And rd rs) tt)
-      (either (opcode == 7) _ _ (in_row _ (Or rd rs) tt)
-      (either (opcode == 8) _ _ (in_row _ (Xor rd rs) tt)
-      (either (opcode == 9) _ _ (in_row _ (Shl rd rs) tt)
-      (either (opcode == 10) _ _ (in_row _ (Shr rd rs) tt)
-      (either (opcode == 11) _ _ (in_sized _ (λ size. Load rd rs size (cast_signed w32 imm)) (size_of size) (λ size. tt))
-      (either (opcode == 12) _ _ (in_sized _ (λ size. Store rd rs size (cast_signed w32 imm)) (size_of size) (λ size. tt))
-      (either (opcode == 13) _ _ (in_row _ (Jmp (cast_signed w32 imm)) tt)
-      (either (opcode == 14) _ _ (in_row _ (Jz rd (cast_signed w32 imm)) tt)
-      (either (opcode == 15) _ _ (in_row _ (Jnz rd (cast_signed w32 imm)) tt)
-      (either (opcode == 16) _ _ (in_row _ (Jb rd rs (cast_signed w32 imm)) tt) in_system))))))))))))))))
-
-decoded : (b : List ℕ) → Decoded (decode_of b)
+decoded : (b : List ℕ) → OfSome FitsInstr (decode_of b)
 unfolding decode_of
 decoded b =
     let f = fields_of b in
-    in_table f.opcode f.rd f.rs f.size f.zero f.imm
+    by_fields FitsInstr f λ o size at sized test. record { word = immediate_word f.imm; half = immediate_half f.imm }
 
 -- ---- effects
 
@@ -191,39 +136,39 @@ joined_word low high h = omega (arith, h)
 shifted_word : (n m : ℕ) → IsWord n → IsWord (n / m)
 shifted_word n m h = omega (arith, h, div-le_self n m)
 
-effect_fits : (s : SubjectState) (i : Instr) → FitsInstr i → FitsState s → FitsAsked (effect_of s i)
-effect_fits s Nop h f = passed_fits s Nothing f tt
-effect_fits s (Li rd imm) h f = set_fits s rd (extended imm) h f
-effect_fits s (Lih rd imm) h f = set_fits s rd _ (joined_word (register s rd) (cast_unsigned w32 imm) h) f
-effect_fits s (Mov rd rs) h f = set_fits s rd (register s rs) (register_fits s rs f) f
-effect_fits s (Add rd rs) h f = set_fits s rd _ (omega arith) f
-effect_fits s (Sub rd rs) h f = set_fits s rd _ (omega arith) f
-effect_fits s (And rd rs) h f = set_fits s rd _ (and_lt 64 (register s rd) (register s rs) (register_fits s rd f) (register_fits s rs f)) f
-effect_fits s (Or rd rs) h f = set_fits s rd _ (or_lt 64 (register s rd) (register s rs) (register_fits s rd f) (register_fits s rs f)) f
-effect_fits s (Xor rd rs) h f = set_fits s rd _ (xor_lt 64 (register s rd) (register s rs) (register_fits s rd f) (register_fits s rs f)) f
-effect_fits s (Shl rd rs) h f = set_fits s rd _ (omega arith) f
-effect_fits s (Shr rd rs) h f = set_fits s rd _ (shifted_word (register s rd) (2 ^ (register s rs % 64)) (register_fits s rd f)) f
-effect_fits s (Load rd rs size imm) h f = passed_fits s (Loads rd (offset_by (register s rs) imm) size) f tt
-effect_fits s (Store rd rs size imm) h f =
-    passed_fits s (Stores (offset_by (register s rs) imm) size (low_bytes size (register s rd))) f tt
-effect_fits s (Jmp imm) h f = jumped_fits s imm f
-effect_fits s (Jz rd imm) h f = jumped_if_fits (register s rd == 0) s imm f
-effect_fits s (Jnz rd imm) h f = jumped_if_fits (not (register s rd == 0)) s imm f
-effect_fits s (Jb rd rs imm) h f = jumped_if_fits (nat_lt (register s rd) (register s rs)) s imm f
-effect_fits s (In rd rs size imm) h f = passed_fits s (PortIn rd (port_of (register s rs) imm) size) f tt
-effect_fits s (Out rd rs size imm) h f =
-    passed_fits s (PortOut (port_of (register s rs) imm) size (low_bytes size (register s rd))) f tt
-effect_fits s (Rdmsr rd rs) h f = passed_fits s (ReadMsr rd (register s rs % 2 ^ 32)) f tt
-effect_fits s (Wrmsr rd rs) h f =
-    passed_fits s (WriteMsr (register s rs % 2 ^ 32) (register s rd)) f (register_fits s rd f)
-effect_fits s (Rdtsc rd) h f = passed_fits s (Tick rd) f tt
-effect_fits s (Vmcall rs) h f = passed_fits s (Calls (register s rs)) f tt
-effect_fits s Hlt h f = passed_fits s Halts f tt
-effect_fits s Sti h f = passed_fits (record s { interrupts = true }) Nothing (interrupts_fit s true f) tt
-effect_fits s Cli h f = passed_fits (record s { interrupts = false }) Nothing (interrupts_fit s false f) tt
-effect_fits s (Setv rs) h f =
-    passed_fits (record s { vbase = register s rs }) Nothing (record { many = f.many; regs = f.regs; pc = f.pc; epc = f.epc; vbase = register_fits s rs f }) tt
-effect_fits s Reti h f =
+effect_fits : (o : Opcode) (s : SubjectState) (i : Instr) → FitsInstr i → FitsState s → FitsAsked (effect_by o s i)
+effect_fits Nop s i h f = passed_fits s Nothing f tt
+effect_fits Li s i h f = set_fits s i.rd (extended i.imm) h.word f
+effect_fits Lih s i h f = set_fits s i.rd _ (joined_word (register s i.rd) (cast_unsigned w32 i.imm) h.half) f
+effect_fits Mov s i h f = set_fits s i.rd (register s i.rs) (register_fits s i.rs f) f
+effect_fits Add s i h f = set_fits s i.rd _ (omega arith) f
+effect_fits Sub s i h f = set_fits s i.rd _ (omega arith) f
+effect_fits And s i h f = set_fits s i.rd _ (and_lt 64 (register s i.rd) (register s i.rs) (register_fits s i.rd f) (register_fits s i.rs f)) f
+effect_fits Or s i h f = set_fits s i.rd _ (or_lt 64 (register s i.rd) (register s i.rs) (register_fits s i.rd f) (register_fits s i.rs f)) f
+effect_fits Xor s i h f = set_fits s i.rd _ (xor_lt 64 (register s i.rd) (register s i.rs) (register_fits s i.rd f) (register_fits s i.rs f)) f
+effect_fits Shl s i h f = set_fits s i.rd _ (omega arith) f
+effect_fits Shr s i h f = set_fits s i.rd _ (shifted_word (register s i.rd) (2 ^ (register s i.rs % 64)) (register_fits s i.rd f)) f
+effect_fits Load s i h f = passed_fits s (Loads i.rd (offset_by (register s i.rs) i.imm) i.size) f tt
+effect_fits Store s i h f =
+    passed_fits s (Stores (offset_by (register s i.rs) i.imm) i.size (low_bytes i.size (register s i.rd))) f tt
+effect_fits Jmp s i h f = jumped_fits s i.imm f
+effect_fits Jz s i h f = jumped_if_fits (register s i.rd == 0) s i.imm f
+effect_fits Jnz s i h f = jumped_if_fits (not (register s i.rd == 0)) s i.imm f
+effect_fits Jb s i h f = jumped_if_fits (nat_lt (register s i.rd) (register s i.rs)) s i.imm f
+effect_fits In s i h f = passed_fits s (PortIn i.rd (port_of (register s i.rs) i.imm) i.size) f tt
+effect_fits Out s i h f =
+    passed_fits s (PortOut (port_of (register s i.rs) i.imm) i.size (low_bytes i.size (register s i.rd))) f tt
+effect_fits Rdmsr s i h f = passed_fits s (ReadMsr i.rd (register s i.rs % 2 ^ 32)) f tt
+effect_fits Wrmsr s i h f =
+    passed_fits s (WriteMsr (register s i.rs % 2 ^ 32) (register s i.rd)) f (register_fits s i.rd f)
+effect_fits Rdtsc s i h f = passed_fits s (Tick i.rd) f tt
+effect_fits Vmcall s i h f = passed_fits s (Calls (register s i.rs)) f tt
+effect_fits Hlt s i h f = passed_fits s Halts f tt
+effect_fits Sti s i h f = passed_fits (record s { interrupts = true }) Nothing (interrupts_fit s true f) tt
+effect_fits Cli s i h f = passed_fits (record s { interrupts = false }) Nothing (interrupts_fit s false f) tt
+effect_fits Setv s i h f =
+    passed_fits (record s { vbase = register s i.rs }) Nothing (record { many = f.many; regs = f.regs; pc = f.pc; epc = f.epc; vbase = register_fits s i.rs f }) tt
+effect_fits Reti s i h f =
     record { after = record { many = f.many; regs = f.regs; pc = f.epc; epc = f.epc; vbase = f.vbase }; wish = tt }
 
 -- ---- answers
@@ -325,10 +270,10 @@ module _ {X : Type 0} (w : World X) where
   is_performed s after (Calls number) h g = is_exit s _ 0 0 number
   is_performed s after Halts h g = is_exit s _ 0 0 0
 
-  is_executed : (s : SubjectState) (o : Option Instr) → Decoded o → IsAnswer s (executed w s o)
+  is_executed : (s : SubjectState) (o : Option Instr) → OfSome FitsInstr o → IsAnswer s (executed w s o)
   is_executed s None d = is_exit s _ 0 0 0
   is_executed s (Some i) d =
-      is_performed s (effect_of s i).after (effect_of s i).wish (λ f. (effect_fits s i d.fits f).after) (λ f. (effect_fits s i d.fits f).wish)
+      is_performed s (effect_of s i).after (effect_of s i).wish (λ f. (effect_fits i.opcode s i d f).after) (λ f. (effect_fits i.opcode s i d f).wish)
 
   is_fetched : (s : SubjectState) (c : Reach X) → IsAnswer s (fetched w s c)
   is_fetched s (Reached target offset) =

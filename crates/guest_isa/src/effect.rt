@@ -4,6 +4,7 @@ ghost use Rattle.std.specs.Int.{w32, cast_unsigned};
 ghost use Rattle.guest_isa.specs.GuestIsa.{register, advanced, with_register, extended, offset_by, low_bytes, port_of, set_register, jumped, jumped_if, resumed, effect_of, CanExit, IsValid, IsValidWish, IsSmall};
 
 use crate::instr::{Instr, Wish};
+use crate::opcode::Opcode;
 use muen_num::AccessSize;
 use state_page::SubjectState;
 
@@ -161,6 +162,7 @@ fn with_high(value: u64, imm: i32) -> u64
 
 /// An instruction is done in place, and what it asks for is returned. Where that can exit, the state
 /// is as it was but for `pc`, which is at the next instruction.
+#[tactic(auto, unfolding(crate::specs::GuestIsa::row_of))]
 pub fn carry_out(s: &mut SubjectState, i: Instr) -> Wish
     requires { IsValid i }
     ensures after { s.new ≡ (effect_of s.old i).after }
@@ -168,19 +170,26 @@ pub fn carry_out(s: &mut SubjectState, i: Instr) -> Wish
     ensures valid { IsValidWish result }
     ensures passed { CanExit result → s.new ≡ advanced s.old }
 {
-    match i {
-        Instr::Nop => pass(Wish::Nothing, s),
-        Instr::Li { rd, imm } => set(rd, extended(imm), s),
-        Instr::Lih { rd, imm } => set(rd, with_high(register(s, rd), imm), s),
-        Instr::Mov { rd, rs } => set(rd, register(s, rs), s),
-        Instr::Add { rd, rs } => set(rd, register(s, rd).wrapping_add(register(s, rs)), s),
-        Instr::Sub { rd, rs } => set(rd, register(s, rd).wrapping_sub(register(s, rs)), s),
-        Instr::And { rd, rs } => set(rd, register(s, rd) & register(s, rs), s),
-        Instr::Or { rd, rs } => set(rd, register(s, rd) | register(s, rs), s),
-        Instr::Xor { rd, rs } => set(rd, register(s, rd) ^ register(s, rs), s),
-        Instr::Shl { rd, rs } => set(rd, register(s, rd) << (register(s, rs) % 64), s),
-        Instr::Shr { rd, rs } => set(rd, register(s, rd) >> (register(s, rs) % 64), s),
-        Instr::Load { rd, rs, size, imm } => pass(
+    let Instr {
+        opcode,
+        rd,
+        rs,
+        size,
+        imm,
+    } = i;
+    match opcode {
+        Opcode::Nop => pass(Wish::Nothing, s),
+        Opcode::Li => set(rd, extended(imm), s),
+        Opcode::Lih => set(rd, with_high(register(s, rd), imm), s),
+        Opcode::Mov => set(rd, register(s, rs), s),
+        Opcode::Add => set(rd, register(s, rd).wrapping_add(register(s, rs)), s),
+        Opcode::Sub => set(rd, register(s, rd).wrapping_sub(register(s, rs)), s),
+        Opcode::And => set(rd, register(s, rd) & register(s, rs), s),
+        Opcode::Or => set(rd, register(s, rd) | register(s, rs), s),
+        Opcode::Xor => set(rd, register(s, rd) ^ register(s, rs), s),
+        Opcode::Shl => set(rd, register(s, rd) << (register(s, rs) % 64), s),
+        Opcode::Shr => set(rd, register(s, rd) >> (register(s, rs) % 64), s),
+        Opcode::Load => pass(
             Wish::Load {
                 reg: rd,
                 addr: offset_by(register(s, rs), imm),
@@ -188,7 +197,7 @@ pub fn carry_out(s: &mut SubjectState, i: Instr) -> Wish
             },
             s,
         ),
-        Instr::Store { rd, rs, size, imm } => pass(
+        Opcode::Store => pass(
             Wish::Store {
                 addr: offset_by(register(s, rs), imm),
                 size,
@@ -196,11 +205,11 @@ pub fn carry_out(s: &mut SubjectState, i: Instr) -> Wish
             },
             s,
         ),
-        Instr::Jmp { imm } => jump(imm, s),
-        Instr::Jz { rd, imm } => jump_if(register(s, rd) == 0, imm, s),
-        Instr::Jnz { rd, imm } => jump_if(register(s, rd) != 0, imm, s),
-        Instr::Jb { rd, rs, imm } => jump_if(register(s, rd) < register(s, rs), imm, s),
-        Instr::In { rd, rs, size, imm } => pass(
+        Opcode::Jmp => jump(imm, s),
+        Opcode::Jz => jump_if(register(s, rd) == 0, imm, s),
+        Opcode::Jnz => jump_if(register(s, rd) != 0, imm, s),
+        Opcode::Jb => jump_if(register(s, rd) < register(s, rs), imm, s),
+        Opcode::In => pass(
             Wish::PortIn {
                 reg: rd,
                 port: port_of(register(s, rs), imm),
@@ -208,7 +217,7 @@ pub fn carry_out(s: &mut SubjectState, i: Instr) -> Wish
             },
             s,
         ),
-        Instr::Out { rd, rs, size, imm } => pass(
+        Opcode::Out => pass(
             Wish::PortOut {
                 port: port_of(register(s, rs), imm),
                 size,
@@ -216,31 +225,31 @@ pub fn carry_out(s: &mut SubjectState, i: Instr) -> Wish
             },
             s,
         ),
-        Instr::Rdmsr { rd, rs } => pass(
+        Opcode::Rdmsr => pass(
             Wish::ReadMsr {
                 reg: rd,
                 index: low_half(register(s, rs)),
             },
             s,
         ),
-        Instr::Wrmsr { rd, rs } => pass(
+        Opcode::Wrmsr => pass(
             Wish::WriteMsr {
                 index: low_half(register(s, rs)),
                 value: register(s, rd),
             },
             s,
         ),
-        Instr::Rdtsc { rd } => pass(Wish::Tick { reg: rd }, s),
-        Instr::Vmcall { rs } => pass(
+        Opcode::Rdtsc => pass(Wish::Tick { reg: rd }, s),
+        Opcode::Vmcall => pass(
             Wish::Call {
                 number: register(s, rs),
             },
             s,
         ),
-        Instr::Hlt => pass(Wish::Halt, s),
-        Instr::Sti => let_in(true, s),
-        Instr::Cli => let_in(false, s),
-        Instr::Setv { rs } => set_handlers(register(s, rs), s),
-        Instr::Reti => resume(s),
+        Opcode::Hlt => pass(Wish::Halt, s),
+        Opcode::Sti => let_in(true, s),
+        Opcode::Cli => let_in(false, s),
+        Opcode::Setv => set_handlers(register(s, rs), s),
+        Opcode::Reti => resume(s),
     }
 }

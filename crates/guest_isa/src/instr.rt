@@ -1,145 +1,54 @@
 // Instructions, and what they ask for.
+ghost use Rattle.std.specs.Prelude.{◌≡◌, ◌<◌};
+ghost use Rattle.guest_isa.specs.GuestIsa.{IsValid, instruction_with, is_in_row};
+
+use crate::opcode::Opcode;
 use muen_num::AccessSize;
 use state_page::SubjectState;
 
-/// An instruction. Register numbers are below 16. Arithmetic and addresses wrap at 2^64;
-/// immediates are sign-extended. Each instruction but a jump that is taken and `Reti` goes on at
-/// the next eight bytes.
+/// An instruction. Register numbers are below 16. A field that its row of the table doesn't name is 0,
+/// and of a size one byte. Arithmetic and addresses wrap at 2^64; immediates are sign-extended. Each
+/// instruction but a jump that is taken and `Reti` goes on at the next eight bytes.
 #[derive(Clone, Copy, Debug)]
-pub enum Instr {
-    /// Does nothing.
-    Nop,
-    /// Loads the immediate into register `rd`.
-    Li {
-        rd: u8,
-        imm: i32,
-    },
-    /// Sets bits 63:32 of register `rd` to the immediate's 32 bits.
-    Lih {
-        rd: u8,
-        imm: i32,
-    },
-    /// Copies register `rs` to `rd`.
-    Mov {
-        rd: u8,
-        rs: u8,
-    },
-    /// Adds register `rs` to `rd`.
-    Add {
-        rd: u8,
-        rs: u8,
-    },
-    /// Subtracts register `rs` from `rd`.
-    Sub {
-        rd: u8,
-        rs: u8,
-    },
-    /// Keeps the bits of register `rd` that are set in `rs`.
-    And {
-        rd: u8,
-        rs: u8,
-    },
-    /// Sets the bits of register `rd` that are set in `rs`.
-    Or {
-        rd: u8,
-        rs: u8,
-    },
-    /// Turns the bits of register `rd` that are set in `rs`.
-    Xor {
-        rd: u8,
-        rs: u8,
-    },
-    /// Shifts register `rd` left by `rs` modulo 64.
-    Shl {
-        rd: u8,
-        rs: u8,
-    },
-    /// Shifts register `rd` right by `rs` modulo 64; zeros come in.
-    Shr {
-        rd: u8,
-        rs: u8,
-    },
-    /// Loads the bytes at `rs + imm`, zero-extended, into register `rd`.
-    Load {
-        rd: u8,
-        rs: u8,
-        size: AccessSize,
-        imm: i32,
-    },
-    /// Stores the low bytes of register `rd` at `rs + imm`.
-    Store {
-        rd: u8,
-        rs: u8,
-        size: AccessSize,
-        imm: i32,
-    },
-    /// Jumps by the immediate from its own address.
-    Jmp {
-        imm: i32,
-    },
-    /// Jumps where register `rd` is 0.
-    Jz {
-        rd: u8,
-        imm: i32,
-    },
-    /// Jumps where register `rd` isn't 0.
-    Jnz {
-        rd: u8,
-        imm: i32,
-    },
-    /// Jumps where register `rd` is below `rs`, both unsigned.
-    Jb {
-        rd: u8,
-        rs: u8,
-        imm: i32,
-    },
-    /// Loads the input at port `rs + imm`, taken modulo 65536, zero-extended, into register `rd`.
-    /// The size is at most four bytes.
-    In {
-        rd: u8,
-        rs: u8,
-        size: AccessSize,
-        imm: i32,
-    },
-    /// Writes the low bytes of register `rd` to port `rs + imm`, taken modulo 65536. The size is at
-    /// most four bytes.
-    Out {
-        rd: u8,
-        rs: u8,
-        size: AccessSize,
-        imm: i32,
-    },
-    /// Reads the machine-specific register whose index is the low 32 bits of `rs` into `rd`.
-    Rdmsr {
-        rd: u8,
-        rs: u8,
-    },
-    /// Writes register `rd` to the machine-specific register whose index is the low 32 bits of
-    /// `rs`.
-    Wrmsr {
-        rd: u8,
-        rs: u8,
-    },
-    /// Reads the tick into register `rd`.
-    Rdtsc {
-        rd: u8,
-    },
-    /// Calls the kernel with the number in register `rs`.
-    Vmcall {
-        rs: u8,
-    },
-    /// Halts.
-    Hlt,
-    /// Lets events in.
-    Sti,
-    /// Keeps events out.
-    Cli,
-    /// Sets the address of the event handlers to register `rs`.
-    Setv {
-        rs: u8,
-    },
-    /// Returns from an event handler: goes on where the event interrupted, and lets events in.
-    Reti,
+pub struct Instr {
+    pub opcode: Opcode,
+    pub rd: u8,
+    pub rs: u8,
+    pub size: AccessSize,
+    pub imm: i32,
+}
+
+impl Instr {
+    /// The instruction with these fields, as far as its row names them.
+    #[tactic(auto, using(crate::proofs::Spelled::valid_with))]
+    pub fn new(opcode: Opcode, rd: u8, rs: u8, size: AccessSize, imm: i32) -> Instr
+        ensures instruction { result ≡ instruction_with opcode rd rs size imm }
+        ensures valid { rd < 16 → rs < 16 → IsValid result }
+    {
+        let named = opcode.shape().named();
+        Instr {
+            opcode,
+            rd: if named.rd { rd } else { 0 },
+            rs: if named.rs { rs } else { 0 },
+            size: if size.bytes() <= named.most {
+                size
+            } else {
+                AccessSize::One
+            },
+            imm: if named.imm { imm } else { 0 },
+        }
+    }
+
+    // Whether it has no field that its row doesn't name.
+    pub(crate) fn is_in_row(&self) -> bool
+        ensures { result ≡ is_in_row self.now }
+    {
+        let named = self.opcode.shape().named();
+        (named.rd || self.rd == 0)
+            && (named.rs || self.rs == 0)
+            && (named.imm || self.imm == 0)
+            && self.size.bytes() <= named.most
+    }
 }
 
 /// What an instruction asks of the machine.

@@ -50,9 +50,12 @@ fn push_some(indexes: &mut Vec<usize>, index: Option<usize>) -> Result<(), Alloc
     Ok(())
 }
 
-// The indexes of the spans that aren't the kernel's, in the order of the spans' numbers.
+/// The indexes of the spans that aren't the kernel's, in the order of the spans' numbers.
+///
+/// # Errors
+/// Memory is refused.
 #[tactic(auto, unfolding(crate::specs::Contents::thing_indexes))]
-fn thing_indexes(alloc: Global, spans: &[SpanPart]) -> Result<Vec<usize>, AllocError>
+pub fn thing_indexes(alloc: Global, spans: &[SpanPart]) -> Result<Vec<usize>, AllocError>
     ensures value { IfOk result (λ v. v.items ≡ thing_indexes spans.now) }
     ensures within { IfOk result (λ v. All (λ k. k < length spans.now) v.items) }
 {

@@ -12,21 +12,8 @@ use expand_kernel::Expanded;
 use image_pack::{EventPart, Parts, SubjectPart};
 use muen_num::NoMemory;
 use policy_lawful::Lawful;
-use policy_lawful::resolved::{Group, Subject};
+use policy_lawful::resolved::Subject;
 use std::alloc::Global;
-
-fn has_member(group: &Group, index: usize) -> bool
-    ensures { result ≡ list_any (λ n. n == index) group.now.subjects }
-{
-    group.subjects.items().iter().any(|n| *n == index)
-}
-
-// The number of the first group that has the subject at an index.
-fn group_with(groups: &[Group], index: usize) -> Option<usize>
-    ensures { result ≡ position (λ g. list_any (λ n. n == index) g.subjects) groups.now }
-{
-    groups.iter().position(|group| has_member(group, index))
-}
 
 // Whether two tables have the same events.
 fn same_events(a: &[Option<EventPart>], b: &[Option<EventPart>]) -> bool
@@ -55,7 +42,7 @@ fn is_subject(lawful: &Lawful, tables: &[EventTables], parts: &[SubjectPart], in
     ensures { Decides (HoldsAt (λ e. IsSubjectOf (source_of lawful.now) e.0 e.1) (subjects_of_both lawful.now parts.now) index) result }
 {
     let policy = lawful.resolved();
-    let group = group_with(policy.scheduling().groups.items(), index);
+    let group = policy.scheduling().group_with(index);
     agrees(
         &policy.subjects()[index],
         group,

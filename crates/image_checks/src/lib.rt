@@ -16,7 +16,7 @@ mod states;
 
 pub use areas::first_by_area;
 pub use bitmaps::first_by_bitmaps;
-pub use contents::contents_fault;
+pub use contents::{contents_fault, thing_indexes};
 pub use own_pages::first_by_own_pages;
 pub use plan_owner::{PlanOwner, plan_fault, plan_faults_tell};
 pub use states::first_by_state;

@@ -1,5 +1,5 @@
 -- The counts, the choice, the groups and the major frames of the image that is made keep the conditions of an image.
-use Rattle.std.proofs.Common.{◌≡◌, ◌∙◌, refl, sym, ap, subst, arith, ℕ, suc, ◌+◌, ◌<◌, ◌≤◌, Bool, true, inl, inr, List, [], ◌∷◌, length, get_or, Some, None}
+use Rattle.std.proofs.Common.{◌≡◌, ◌∙◌, refl, sym, ap, subst, arith, ℕ, ◌<◌, ◌≤◌, Bool, true, inl, inr, List, [], ◌∷◌, length, get_or, Some, None}
 use Rattle.std.specs.Prelude.{◌==◌, nat_le, nat_lt, option_and_then, position, slice_get, slice_index}
 use Rattle.std.specs.List.{All, Contains, count_by, list_all, position_or_len, sum_by}
 use Rattle.std.specs.Str.{bytes_eq}
@@ -8,9 +8,11 @@ use Rattle.std.proofs.lemmas.List.{get_or_default, length-map}
 use Rattle.std.proofs.lemmas.List.Sorted.{Contains-permutation, length_permutation}
 use Rattle.std.proofs.lemmas.List.Sums.{AllPass-from_list_all}
 use Rattle.std.proofs.lemmas.Option.{get_or_from_slice_get, slice_get_within}
-use Rattle.image_emit.proofs.PlanChoice.{first_index, is_memory, own_at}
+use Rattle.expand_kernel.specs.Regions.{region_of}
+use Rattle.image_emit.proofs.PlanChoice.{first_index, is_memory}
 use Rattle.image_emit.proofs.PlanSubjects.{names_in_image}
 use Rattle.image_emit.proofs.SpansAt.{region_at}
+use Rattle.image_emit.proofs.SpansOfKernel.{placed_of}
 use Rattle.image_emit.specs.Made.{IsMade, Made, image_of, policy_of}
 use Rattle.image_pack.specs.Codes.{is_own}
 use Rattle.image_pack.specs.Image.{is_between_inclusive}
@@ -20,8 +22,6 @@ use Rattle.image_pack.specs.declared.parts.SpanPart.{SpanPart}
 use Rattle.image_pack.specs.Plan.{cpus_of, is_major, is_plan}
 use Rattle.image_pack.specs.plan.Plan.{Plan}
 use Rattle.image_soundness.proofs.DevicesOf.{devices_long}
-use Rattle.image_soundness.specs.TablesOf.{AreDevices}
-use Rattle.image_pack.specs.declared.parts.DevicePart.{DevicePart}
 use Rattle.muen_num.proofs.Lists.{there}
 use Rattle.muen_num.proofs.Lookups.{position_there}
 use Rattle.muen_num.specs.declared.limits.TheConstants.{MOST_CPUS, MOST_MAJOR_FRAMES, MOST_SUBJECTS}
@@ -30,17 +30,17 @@ use Rattle.policy_lawful.proofs.KeptLimits.{limits_kept}
 use Rattle.policy_lawful.proofs.KeptMembers.{members_kept}
 use Rattle.policy_lawful.proofs.KeptRules.{rules_of}
 use Rattle.policy_lawful.proofs.SourceElements.{many_subjects}
-use Rattle.policy_lawful.specs.Resolution.{Resolution, source_of}
+use Rattle.policy_lawful.specs.Resolution.{source_of}
 use Rattle.policy_lawful.specs.Rules.{times_listed}
-use Rattle.policy_lawful.specs.source.Device.{Device}
+use Rattle.policy_lawful.specs.Thing.{region_item}
 use Rattle.policy_lawful.specs.source.Group.{Group}
 use Rattle.policy_lawful.specs.source.Region.{Region as SourceRegion}
 use Rattle.policy_lawful.specs.source.Source.{Source}
 use Rattle.policy_lawful.specs.source.Subject.{Subject}
 use Rattle.policy_lawful.specs.source.Tau0.{Tau0}
+use Rattle.region_alloc.proofs.OwnRegions.{region_at as memory_at}
 use Rattle.span_emit.specs.Spans.{region_span}
 use Rattle.span_emit.specs.SpansOf.{spans_of}
-use Rattle.expand_kernel.specs.ByIndex.{own_region}
 
 pub between : (low high n : ℕ) → low ≤ n → n ≤ high → is_between_inclusive low high n ≡ true
 between low high n a b = and_from (nat_le low n) (nat_le n high) (le-leb low n a) (le-leb n high b)
@@ -188,11 +188,10 @@ same_span spans s a differ l is k d within same =
     ]
 
 own_span : (m : Made) → IsMade m → (n : ℕ) (r : SourceRegion) → slice_get (policy_of m).memory n ≡ Some r → IsChoice m.spans (Some n)
-unfolding source_of
 own_span m h n r at =
-    let s = region_span (n, (own_region r, slice_index m.placed.addresses n)) in
-    let region = ap (λ rs. slice_get rs n) h.expansion.regions ∙ own_at (source_of (policy_of m)) n r at in
-    let there : slice_get (spans_of m.placed) n ≡ Some s = region_at m h n (own_region r) region in
+    let y = region_of (region_item r) in
+    let s = region_span (n, (y, slice_index m.placed.addresses n)) in
+    let there : slice_get (spans_of m.placed) n ≡ Some s = region_at m h n y (memory_at m.placed (placed_of m h) n r at) in
     let within = slice_get_within (spans_of m.placed) n s there in
     let many = length_permutation (spans_of m.placed) m.spans h.numbered in
     let all : Contains (spans_of m.placed) s = (n, within, get_or_from_slice_get (spans_of m.placed) n s s there) in

@@ -9,7 +9,7 @@ use Rattle.ept_emit.specs.declared.window.GuestRange.{GuestRange}
 use Rattle.event_emit.specs.Tables.{AreTables}
 use Rattle.event_emit.specs.declared.event_tables.EventTables.{EventTables}
 use Rattle.expand_kernel.specs.granted.Grants.{Grants}
-use Rattle.expand_kernel.specs.ByIndex.{view_ranges}
+use Rattle.expand_kernel.specs.ByIndex.{granted_ranges, kernel_first}
 use Rattle.expand_kernel.specs.Regions.{anywhere, kernel_regions}
 use Rattle.expand_kernel.specs.thing.Region.{Region}
 use Rattle.expand_kernel.specs.thing.RegionKind.TheVariants.{Kernel}
@@ -38,9 +38,7 @@ use Rattle.policy_lawful.specs.declared.resolved.Subject.{Subject}
 use Rattle.policy_lawful.specs.source.SourceWay.TheVariants.{Call, Trap}
 use Rattle.span_emit.specs.Spans.{region_span}
 use Rattle.std.proofs.lemmas.List.Folds.{list_all-map}
-use Rattle.subject_emit.proofs.Numbered.{kernel_at_index}
-use Rattle.subject_emit.proofs.AddressesFit.{tables_there}
-use Rattle.subject_emit.specs.Mapped.{kernel_first}
+use Rattle.subject_emit.proofs.TablesReady.{kernel_at, tables_there}
 use Rattle.subject_emit.specs.Pages.{ArePages, tables_at}
 use Rattle.subject_emit.specs.declared.subject_pages.SubjectPages.{SubjectPages}
 
@@ -61,14 +59,14 @@ module _ (m : Made) (h : IsMade m) where
 
   module _ (k : ℕ) (s : Subject) (g : Grants) (t : EventTables) (at : slice_get (policy_of m).subjects k ≡ Some s) (granted : slice_get m.placed.expanded.grants k ≡ Some g) (raised : slice_get m.events k ≡ Some t) where
     -- one of the kernel's regions for the subject
-    kernel_span : (j : ℕ) (y : Region) (code pages : ℕ) → slice_get (kernel_regions s.name (ept_pages (view_ranges g.views))) j ≡ Some y → part_code y.tag.part ≡ code → nat_le pages (y.size / PAGE) ≡ true
+    kernel_span : (j : ℕ) (y : Region) (code pages : ℕ) → slice_get (kernel_regions s.name (ept_pages (granted_ranges g.windows))) j ≡ Some y → part_code y.tag.part ≡ code → nat_le pages (y.size / PAGE) ≡ true
         → is_kernel_span m.spans code pages (kernel_first (policy_of m) k + j) ≡ true
     unfolding is_kernel_span
     kernel_span j y code pages is part size =
         let n = kernel_first (policy_of m) k + j in
         let span = region_span (n, (y, slice_index m.placed.addresses n)) in
         some_span m h (λ s. (s.number == n) && (part_code s.tag.part == code) && nat_le pages s.pages) n span
-        (region_at m h n y (kernel_at_index m.placed (placed_of m h) k j s g y at granted is))
+        (region_at m h n y (kernel_at m.placed (placed_of m h) k j s g y at granted is))
         (and_from ((n == n) && (part_code y.tag.part == code)) (nat_le pages (y.size / PAGE))
         (and_from (n == n) (part_code y.tag.part == code) (eq-eqb n n refl) (eq-eqb (part_code y.tag.part) code part)) size)
 
@@ -101,9 +99,9 @@ module _ (m : Made) (h : IsMade m) where
 
     pointer : is_eptp (eptp_of (tables_at m.placed k)) ≡ true
     pointer =
-        let there = tables_there m.placed (placed_of m h) k s g at granted in
-        let some = some_pages (view_ranges g.views) in
-        eptp_kept (tables_at m.placed k) (ept_pages (view_ranges g.views) * 4096) there.whole (omega (arith, some)) there.end
+        let there = tables_there m.placed (placed_of m h) k g granted in
+        let some = some_pages (granted_ranges g.windows) in
+        eptp_kept (tables_at m.placed k) (ept_pages (granted_ranges g.windows) * 4096) there.whole (omega (arith, some)) there.end
 
     events : (table : List (Option EventPart)) → AreEvents (length (policy_of m).subjects) table → AreEvents (length (subject_parts m)) table
     unfolding image_of

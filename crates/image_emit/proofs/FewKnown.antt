@@ -1,7 +1,9 @@
 -- Numbers of placed policies fit.
-use Rattle.std.proofs.Common.{◌≡◌, ◌∙◌, refl, sym, ap, arith, ℕ, suc, ◌+◌, ◌%◌, ◌^◌, ◌<◌, ◌≤◌, true, List, [], ◌∷◌, length, nat_le, nat_lt, le-leb, Some, None}
+use Rattle.std.proofs.Common.{◌≡◌, ◌∙◌, refl, sym, ap, arith, ℕ, suc, ◌+◌, ◌%◌, ◌^◌, ◌<◌, ◌≤◌, true, List, [], ◌∷◌, ◌++◌, length, length-append, map, nat_le, nat_lt, le-leb, Some, None}
 use Rattle.std.specs.Prelude.{slice_get}
-use Rattle.std.specs.List.{AllZip, list_all, sum_by}
+use Rattle.std.specs.List.{AllZip, enumerate_from, flat_map, list_all, sum_by}
+use Rattle.std.proofs.lemmas.List.{length-map}
+use Rattle.std.proofs.lemmas.List.FromFn.{length-enumerate_from}
 use Rattle.std.proofs.lemmas.Bool.{ltb-true, lt-ltb}
 use Rattle.std.proofs.lemmas.List.Folds.{list_all-map}
 use Rattle.std.proofs.lemmas.Slice.Zip.{AllZip-long}
@@ -16,13 +18,13 @@ use Rattle.policy_lawful.proofs.KeptRules.{rules_of}
 use Rattle.policy_lawful.proofs.SourceElements.{many_groups, many_subjects}
 use Rattle.policy_lawful.specs.Rules.{offence_20}
 use Rattle.policy_lawful.specs.Resolution.{Resolution, source_of, subject_named}
+use Rattle.policy_lawful.specs.Things.{brought_things, channel_thing, own_thing, placed_things}
 use Rattle.policy_lawful.specs.declared.resolved.Subject.{Subject}
 use Rattle.region_alloc.specs.Placed.{IsPlaced, Placement}
 use Rattle.span_emit.proofs.KeptSums.{sums_kept, windows_length}
 use Rattle.policy_lawful.specs.ByIndex.{memories_of}
 use Rattle.subject_emit.proofs.KeptMsrs.{msrs_few}
-use Rattle.subject_emit.proofs.Numbered.{has_addresses}
-use Rattle.subject_emit.proofs.AddressesFit.{tables_there}
+use Rattle.subject_emit.proofs.TablesReady.{addresses_many, tables_there}
 use Rattle.subject_emit.specs.Pages.{tables_at}
 
 -- each subject's MSRs, from any index on
@@ -47,7 +49,7 @@ tables_placed x k n low =
     let r = x.expanded.lawful in
     let s = there r.subjects n low in
     let g = other_at (AreGrantsOf r) r.subjects x.expanded.grants n s.0 k.expansion.grants s.1 in
-    let at = tables_there x k n s.0 g.0 s.1 g.1 in
+    let at = tables_there x k n g.0 g.1 in
     let end = at.end in
     (at.whole, omega (arith, end))
 
@@ -55,7 +57,7 @@ pub are_few : (x : Placement) → IsPlaced x → AreFew x
 are_few x k =
     let r = x.expanded.lawful in
     let plan = plan_kept r k.resolved k.lawful in
-    let addresses = has_addresses x k in
+    let addresses = addresses_many x k in
     let sums = sums_kept (source_of r) (rules_of k.lawful).rule_20 in
     let few_regions = sums.regions in
     let regions = ap length k.expansion.regions in
@@ -66,7 +68,6 @@ are_few x k =
     let few_groups = plan.members.few in
     let most = plan.limits.most_subjects in
     record {
-      addresses = addresses;
       regions = omega (arith, addresses, as_many, regions, few_regions);
       groups = omega (arith, groups, subjects, few_groups, most);
       subjects = omega (arith, subjects, most);
@@ -76,6 +77,18 @@ are_few x k =
       msrs = msrs_from r (rules_of k.lawful).rule_20 r.subjects x.expanded.grants (λ j s e. (j, e)) k.expansion.grants;
       grants = grants;
     }
+
+-- as few regions of memory
+memory_placed : (r : Resolution) → length r.memory ≤ length (placed_things r)
+unfolding placed_things
+memory_placed r =
+    let memory = map own_thing (enumerate_from 0 r.memory) in
+    let channels = map channel_thing r.channels in
+    let brought = flat_map (brought_things r.components) r.subjects in
+    omega (arith, length-append (memory ++ channels) brought, length-append memory channels, length-map (enumerate_from 0 r.memory) own_thing, length-enumerate_from 0 r.memory)
+
+pub memory_few : (x : Placement) → IsPlaced x → length x.expanded.lawful.memory ≤ 1024
+memory_few x k = let few = (are_few x k).regions in let memory = memory_placed x.expanded.lawful in omega (arith, few, memory)
 
 -- there are few regions, and few spans with those of devices' memory
 pub regions_few : (x : Placement) → IsPlaced x → length x.expanded.regions ≤ 1024

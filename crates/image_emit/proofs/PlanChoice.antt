@@ -1,31 +1,31 @@
 -- The region that chooses the next major frame, in the image that is made, is the policy's.
-use Rattle.std.proofs.Common.{◌≡◌, ◌∙◌, refl, sym, ap, arith, ℕ, suc, ◌+◌, ◌<◌, Bool, true, false, cond, not, ◌||◌, List, [], ◌∷◌, ◌++◌, length, length-append, map, Some, None}
+use Rattle.std.proofs.Common.{◌≡◌, ◌∙◌, refl, sym, ap, arith, ℕ, suc, ◌+◌, ◌<◌, Bool, true, false, cond, not, ◌||◌, List, [], ◌∷◌, length, Some, None}
 use Rattle.std.specs.Prelude.{◌==◌, ◌&&◌, codes, option_and_then, option_map, position, slice_get, slice_index}
-use Rattle.std.specs.List.{flat_map, list_any, position_or_len}
+use Rattle.std.specs.List.{list_any, position_or_len}
 use Rattle.std.specs.Str.{bytes_eq}
 use Rattle.std.proofs.lemmas.List.Sums.{passes_at_first}
-use Rattle.std.proofs.lemmas.Option.{get_or_from_slice_get, slice_get-map, slice_get_within}
+use Rattle.std.proofs.lemmas.Option.{get_or_from_slice_get}
 use Rattle.std.proofs.lemmas.Slice.Eq.{bytes_eq-Decides}
-use Rattle.expand_kernel.specs.Regions.{kernel_regions_of, regions_of}
+use Rattle.expand_kernel.specs.Regions.{region_of}
 use Rattle.image_emit.proofs.ByNumber.{span_numbered}
 use Rattle.image_emit.proofs.SpansAt.{region_at}
+use Rattle.image_emit.proofs.SpansOfKernel.{placed_of}
 use Rattle.image_emit.specs.Made.{IsMade, Made, image_of, policy_of}
 use Rattle.image_soundness.specs.Named.{tag_at}
-use Rattle.muen_num.proofs.Lists.{any_first, get_left, there}
+use Rattle.muen_num.proofs.Lists.{any_first, there}
 use Rattle.muen_num.proofs.Lookups.{position_there}
 use Rattle.muen_num.proofs.SearchLaws.{none_both, unless_none}
 use Rattle.muen_num.specs.Search.{first_in}
 use Rattle.policy_lawful.specs.Offences.{two}
 use Rattle.policy_lawful.specs.Resolution.{source_of}
 use Rattle.policy_lawful.specs.Rules.{major_offence, majors_of, offence_16, tau0_offence}
-use Rattle.policy_lawful.specs.Thing.{component_by, region, thing_tag}
+use Rattle.policy_lawful.specs.Thing.{region, region_item, thing_tag}
 use Rattle.policy_lawful.proofs.KeptRules.{rules_of}
 use Rattle.policy_lawful.specs.source.Region.{Region as SourceRegion}
 use Rattle.policy_lawful.specs.source.Source.{Source}
 use Rattle.policy_lawful.specs.source.Tau0.{Tau0}
+use Rattle.region_alloc.proofs.OwnRegions.{region_at as memory_at}
 use Rattle.span_emit.specs.Spans.{region_span}
-use Rattle.expand_kernel.specs.ByIndex.{channel_region, own_region, provided_regions}
-use Rattle.expand_kernel.proofs.ByKind.{regions_are}
 
 -- where some element passes a test, the first that does has an index
 pub first_index : {X : Type 0} (test : X → Bool) (xs : List X) → list_any test xs ≡ true → position_or_len test xs < length xs
@@ -47,31 +47,12 @@ is_memory p t is h =
     any_first (λ r. bytes_eq r.name t.region) (λ r. length r.shared_memory == 0) p.memory
     (unless_none (list_any (λ r. bytes_eq r.name t.region && (length r.shared_memory == 0)) p.memory) (two (codes "tau0") t.region) memory.0)
 
--- the regions begin with those of memory
-pub own_at : (p : Source) (n : ℕ) (r : SourceRegion) → slice_get p.memory n ≡ Some r → slice_get (regions_of p) n ≡ Some (own_region r)
-own_at p n r at =
-    let front = map own_region p.memory in
-    let channels = map channel_region p.channels in
-    let provided = flat_map (λ s. provided_regions s.name (component_by p s.component)) p.subjects in
-    let kernel = flat_map (kernel_regions_of p) p.subjects in
-    let here : slice_get front n ≡ Some (own_region r) = slice_get-map own_region p.memory n ∙ ap (option_map own_region) at in
-    let in_front = slice_get_within front n (own_region r) here in
-    let within : n < length (front ++ channels) = let e = length-append front channels in omega (arith, e, in_front) in
-    let more : n < length ((front ++ channels) ++ provided) = let e = length-append (front ++ channels) provided in omega (arith, e, within) in
-    ap (λ rs. slice_get rs n) (regions_are p)
-    ∙ get_left ((front ++ channels) ++ provided) kernel n more
-    ∙ get_left (front ++ channels) provided n within
-    ∙ get_left front channels n in_front
-    ∙ here
-
 -- its span, by the number that the image has for it
 tag_of_memory : (m : Made) → IsMade m → (n : ℕ) (r : SourceRegion) → slice_get (policy_of m).memory n ≡ Some r → tag_at (image_of m) n ≡ Some (thing_tag (region r.name))
 unfolding source_of
 tag_of_memory m h n r at =
-    let y = own_region r in
-    let address = slice_index m.placed.addresses n in
-    let there : slice_get m.placed.expanded.regions n ≡ Some y = ap (λ rs. slice_get rs n) h.expansion.regions ∙ own_at (source_of (policy_of m)) n r at in
-    ap (option_map (λ e. e.0.tag)) (span_numbered m h n (region_span (n, (y, address))) (region_at m h n y there))
+    let y = region_of (region_item r) in
+    ap (option_map (λ e. e.0.tag)) (span_numbered m h n (region_span (n, (y, slice_index m.placed.addresses n))) (region_at m h n y (memory_at m.placed (placed_of m h) n r at)))
 
 chosen : (m : Made) → IsMade m → (t : Tau0) → (policy_of m).scheduling.tau0 ≡ Some t
     → option_map (tag_at (image_of m)) (position (λ r. bytes_eq r.name t.region) (policy_of m).memory) ≡ Some (Some (thing_tag (region t.region)))

@@ -1,18 +1,15 @@
 -- The subjects of the image that is made are the policy's.
-use Rattle.std.proofs.Common.{◌≡◌, ◌∙◌, refl, sym, ap, arith, ℕ, suc, ◌+◌, ◌<◌, Bool, true, List, [], ◌∷◌, length, map, Option, Some, None}
-use Rattle.std.specs.Prelude.{◌==◌, nat_lt, option_map, slice_get, slice_index_or, unwrap_or}
-use Rattle.std.specs.List.{AllZip, count_by, enumerate_from, list_any, position_or_len, zip}
+use Rattle.std.proofs.Common.{◌≡◌, ◌∙◌, refl, sym, ap, arith, ℕ, suc, ◌+◌, ◌<◌, List, [], ◌∷◌, length, map, Option, Some, None}
+use Rattle.std.specs.Prelude.{option_map, slice_get, slice_index_or, unwrap_or}
+use Rattle.std.specs.List.{AllZip, enumerate_from, position_or_len, zip}
 use Rattle.std.specs.Str.{bytes_eq}
-use Rattle.std.proofs.lemmas.Bool.{eqb-true, ltb-true}
 use Rattle.std.proofs.lemmas.List.{length-map}
-use Rattle.std.proofs.lemmas.Option.{slice_get-map, slice_get_within}
 use Rattle.std.proofs.lemmas.Slice.Zip.{AllZip-long}
 use Rattle.event_emit.specs.Tables.{AreTables}
 use Rattle.image_soundness.proofs.GroupsByIndex.{in_group as group_by_index}
 use Rattle.image_soundness.specs.TablesOf.{IsEntry, IsTable, irq_named, part_raised}
 use Rattle.image_pack.specs.ImageConditions.{IsReached}
 use Rattle.event_emit.specs.declared.event_tables.EventTables.{EventTables}
-use Rattle.expand_kernel.proofs.Counted.{uncounted}
 use Rattle.expand_kernel.specs.Grants.{AreGrantsOf, target_named}
 use Rattle.expand_kernel.specs.granted.Grants.{Grants}
 use Rattle.image_emit.specs.Made.{IsMade, Made, group_at, image_of, policy_of, subject_part}
@@ -21,21 +18,15 @@ use Rattle.image_soundness.specs.Targets.{IndexedEvent, IndexedTarget, at_index,
 use Rattle.image_pack.specs.declared.parts.EventPart.{EventPart}
 use Rattle.muen_num.specs.declared.devices.IrqTarget.{IrqTarget}
 use Rattle.image_pack.specs.declared.parts.SubjectPart.{SubjectPart}
-use Rattle.muen_num.proofs.Lists.{any_same, list_any-map, passes_at, position-map}
-use Rattle.muen_num.proofs.Lookups.{index_same, position_there, some_passes}
+use Rattle.muen_num.proofs.Lists.{position-map}
+use Rattle.muen_num.proofs.Lookups.{position_there}
 use Rattle.muen_num.specs.declared.limits.TheConstants.{MOST_CALLS}
-use Rattle.policy_lawful.proofs.KeptMembers.{members_kept}
-use Rattle.policy_lawful.proofs.Indexes.{position_is, same_name}
-use Rattle.policy_lawful.proofs.KeptRules.{rules_of}
-use Rattle.policy_lawful.proofs.SourceElements.{parts_in_range}
+use Rattle.policy_lawful.proofs.Indexes.{position_is}
 use Rattle.policy_lawful.proofs.UniqueNames.{subject_names, subjects_unique}
-use Rattle.policy_lawful.proofs.WindowsByIndex.{name_of_subject}
-use Rattle.policy_lawful.specs.Resolution.{Resolution, group_named, group_in_range, name_at, source_of, subject_named}
-use Rattle.policy_lawful.specs.Rules.{repeated, times_listed}
-use Rattle.policy_lawful.specs.declared.resolved.Group.{Group as ResolvedGroup}
+use Rattle.policy_lawful.specs.Resolution.{Resolution, name_at, source_of, subject_named}
+use Rattle.policy_lawful.specs.Rules.{repeated}
 use Rattle.policy_lawful.specs.declared.resolved.Subject.{Subject}
 use Rattle.policy_lawful.specs.Events.{event_of}
-use Rattle.policy_lawful.specs.source.Group.{Group}
 use Rattle.policy_lawful.specs.source.SourceWay.{SourceWay}
 use Rattle.policy_lawful.specs.source.SourceWay.TheVariants.{Call, Trap}
 use Rattle.region_alloc.specs.Placed.{Placement}

@@ -1,16 +1,16 @@
 -- The bytes of the regions of an image, by number, are as many as the regions' sizes say.
-use Rattle.std.proofs.Common.{◌≡◌, ℕ, zero, suc, ◌+◌, ◌-◌, ◌*◌, List, [], ◌∷◌, ◌++◌, length, map, get_or, take, refl, sym, ap, ◌∙◌, arith, length-append, Some}
+use Rattle.std.proofs.Common.{◌≡◌, ℕ, zero, suc, ◌+◌, ◌*◌, List, [], ◌∷◌, ◌++◌, length, map, get_or, take, refl, sym, ap, ◌∙◌, arith, Some}
 use Rattle.std.proofs.Math.Seq.{take-append_seam}
 use Rattle.std.specs.Prelude.{option_map, slice_get}
 use Rattle.std.specs.List.{AllZip, enumerate_from, flat_map, zip}
-use Rattle.std.proofs.lemmas.List.{length-map, map-append, take_all}
+use Rattle.std.proofs.lemmas.List.{length-map, map-append}
 use Rattle.std.proofs.lemmas.Option.{get_or_from_slice_get, slice_get-map}
 use Rattle.ept_emit.specs.Pages.{ept_pages}
 use Rattle.expand_kernel.specs.granted.Grants.{Grants}
-use Rattle.expand_kernel.specs.ByIndex.{brought_at, channel_region, kernel_for, kernel_for_each, own_region, view_ranges}
-use Rattle.policy_lawful.specs.ByIndex.{provided_at}
+use Rattle.expand_kernel.specs.ByIndex.{granted_ranges, kernel_first, kernel_for, kernel_for_each}
+use Rattle.policy_lawful.specs.Things.{placed_things, region_of_thing}
 use Rattle.expand_kernel.specs.thing.Region.{Region}
-use Rattle.expand_kernel.proofs.Numbering.{regions_by_index}
+use Rattle.expand_kernel.proofs.Numbering.{regions_are as regions_by_number}
 use Rattle.image_emit.proofs.SpansOfKernel.{padded_length}
 use Rattle.image_emit.specs.Made.{IsMade, Made, kernel_bytes, policy_of, region_bytes}
 use Rattle.image_soundness.specs.Exits.{area_bytes}
@@ -21,10 +21,8 @@ use Rattle.muen_num.specs.declared.limits.TheConstants.{PAGE}
 use Rattle.policy_lawful.specs.declared.resolved.Subject.{Subject}
 use Rattle.region_alloc.specs.Placed.{Placement}
 use Rattle.image_soundness.specs.StatePage.{page_bytes}
-use Rattle.subject_emit.specs.Mapped.{kernel_first}
 use Rattle.subject_emit.specs.Pages.{ArePages}
 use Rattle.subject_emit.specs.declared.subject_pages.SubjectPages.{SubjectPages}
-use Rattle.subject_emit.proofs.Numbered.{as_many}
 use Rattle.subject_emit.proofs.SamePages.{pages_same}
 use Rattle.image_soundness.specs.States.{started}
 
@@ -43,7 +41,7 @@ kernel_sizes x n (e ∷ es) [] h = absurd h
 kernel_sizes x n (e ∷ es) (q ∷ qs) h =
     let p = h.0 in
     let state : length q.state ≡ PAGE = ap length p.state ∙ length-page e.0.entry in
-    let tables : length q.tables ≡ ept_pages (view_ranges e.1.views) * PAGE = p.tables.len ∙ ap (λ k. PAGE * k) (pages_same x n e.1) ∙ omega arith in
+    let tables : length q.tables ≡ ept_pages (granted_ranges e.1.windows) * PAGE = p.tables.len ∙ ap (λ k. PAGE * k) (pages_same x e.1) ∙ omega arith in
     let entries = area_of e.1.msrs in
     let area : length q.area ≡ PAGE = ap length p.area ∙ padded_length PAGE (area_bytes entries) (omega (arith, length-area entries, length-area_of e.1.msrs, p.few)) in
     let rest = kernel_sizes x (n + 1) es qs h.1 in
@@ -51,32 +49,18 @@ kernel_sizes x n (e ∷ es) (q ∷ qs) h =
 
 -- ---- the regions that aren't the kernel's
 
--- by number: memory, channels, what components bring along
+-- by number: those of the things that are placed
 abbrev pub first_regions : Made → List Region
-first_regions m =
-    map own_region (policy_of m).memory
-    ++ map channel_region (policy_of m).channels
-    ++ flat_map (brought_at (policy_of m).components) (policy_of m).subjects
+first_regions m = map region_of_thing (placed_things (policy_of m))
 
 abbrev pub last_regions : Made → List Region
 last_regions m = kernel_for_each (policy_of m).subjects m.placed.expanded.grants
 
 pub regions_are : (m : Made) → IsMade m → m.placed.expanded.regions ≡ first_regions m ++ last_regions m
-regions_are m h = h.expansion.regions ∙ sym (regions_by_index (policy_of m) m.placed.expanded.grants h.resolved h.expansion.grants)
+regions_are m h = regions_by_number (policy_of m) h.resolved m.placed.expanded.grants h.expansion.grants m.placed.expanded.regions h.expansion.regions
 
 pub first_many : (m : Made) → length (first_regions m) ≡ kernel_first (policy_of m) 0
-first_many m =
-    let r = policy_of m in
-    let memory = map own_region r.memory in
-    let channels = map channel_region r.channels in
-    let brought = flat_map (brought_at r.components) r.subjects in
-    let a = length-append (memory ++ channels) brought in
-    let b = length-append memory channels in
-    let c = length-map r.memory own_region in
-    let d = length-map r.channels channel_region in
-    let e = as_many r.components r.subjects in
-    let whole = ap (λ ss. length (flat_map (λ s. provided_at r.components s.component) ss)) (take_all (length r.subjects) r.subjects (omega arith)) in
-    omega (arith, a, b, c, d, e, whole)
+first_many m = let many = length-map (placed_things (policy_of m)) region_of_thing in omega (arith, many)
 
 -- the things have the sizes of the first regions
 things_sized : (m : Made) → IsMade m → map (λ b. length b) m.things ≡ map (λ r. r.size) (first_regions m)

@@ -8,7 +8,7 @@ use Rattle.std.proofs.lemmas.Option.{get_or_from_slice_get, slice_get_within}
 use Rattle.ept_emit.specs.Pages.{ept_pages}
 use Rattle.event_emit.specs.declared.event_tables.EventTables.{EventTables}
 use Rattle.expand_kernel.specs.granted.Grants.{Grants}
-use Rattle.expand_kernel.specs.ByIndex.{view_ranges}
+use Rattle.expand_kernel.specs.ByIndex.{granted_ranges, kernel_first}
 use Rattle.expand_kernel.specs.Regions.{anywhere, kernel_regions}
 use Rattle.expand_kernel.specs.thing.RegionKind.TheVariants.{Kernel}
 use Rattle.image_emit.specs.Made.{IsMade, Made, content_at, image_of, kernel_bytes, policy_of, region_bytes}
@@ -24,10 +24,9 @@ use Rattle.policy_lawful.specs.declared.resolved.Subject.{Subject}
 use Rattle.region_alloc.specs.Placed.{IsPlaced}
 use Rattle.span_emit.specs.Spans.{region_span}
 use Rattle.span_emit.specs.SpansOf.{spans_of}
-use Rattle.subject_emit.specs.Mapped.{kernel_first}
 use Rattle.subject_emit.specs.declared.subject_pages.SubjectPages.{SubjectPages}
-use Rattle.subject_emit.proofs.Numbered.{kernel_at_index}
-use Rattle.subject_emit.proofs.Pieces.{at_piece}
+use Rattle.expand_kernel.proofs.Pieces.{at_piece}
+use Rattle.subject_emit.proofs.TablesReady.{kernel_at}
 
 -- what is padded is as long
 pub padded_length : (size : ℕ) (bytes : List ℕ) → length bytes ≤ size → length (padded size bytes) ≡ size
@@ -69,18 +68,18 @@ module _ (m : Made) (h : IsMade m) (k : ℕ) (s : Subject) (g : Grants) (t : Eve
   kernel_span c size part = region_span (kernel_first (policy_of m) k + c, (anywhere Kernel s.name part size, get_or m.placed.addresses (kernel_first (policy_of m) k + c) 0))
 
   -- the span of this number among those of the kernel for the subject
-  pub kernel_numbered : (c size : ℕ) (part : TagPart) → slice_get (kernel_regions s.name (ept_pages (view_ranges g.views))) c ≡ Some (anywhere Kernel s.name part size)
+  pub kernel_numbered : (c size : ℕ) (part : TagPart) → slice_get (kernel_regions s.name (ept_pages (granted_ranges g.windows))) c ≡ Some (anywhere Kernel s.name part size)
       → slice_get (spans_of m.placed) (kernel_first (policy_of m) k + c) ≡ Some (kernel_span c size part)
   kernel_numbered c size part e =
       region_at m h (kernel_first (policy_of m) k + c) (anywhere Kernel s.name part size)
-      (kernel_at_index m.placed (placed_of m h) k c s g (anywhere Kernel s.name part size) at.subject at.granted e)
+      (kernel_at m.placed (placed_of m h) k c s g (anywhere Kernel s.name part size) at.subject at.granted e)
 
   -- has these bytes in the image
   pub kernel_content : (c size : ℕ) (part : TagPart) (bytes : List ℕ) → slice_get (kernel_bytes q) c ≡ Some bytes → bytes_of (kernel_span c size part, content_at m (kernel_span c size part)) ≡ bytes
   kernel_content c size part bytes e =
       get_or_from_slice_get (region_bytes m) (kernel_first (policy_of m) k + c) bytes [] (kernel_held m h k c q bytes at.kept e)
 
-  pub kernel_bytes_at : (c size : ℕ) (part : TagPart) (bytes : List ℕ) → slice_get (kernel_regions s.name (ept_pages (view_ranges g.views))) c ≡ Some (anywhere Kernel s.name part size) → slice_get (kernel_bytes q) c ≡ Some bytes
+  pub kernel_bytes_at : (c size : ℕ) (part : TagPart) (bytes : List ℕ) → slice_get (kernel_regions s.name (ept_pages (granted_ranges g.windows))) c ≡ Some (anywhere Kernel s.name part size) → slice_get (kernel_bytes q) c ≡ Some bytes
       → bytes_at (image_of m) (kernel_first (policy_of m) k + c) ≡ bytes
   kernel_bytes_at c size part bytes e b =
       ap (λ (o : Option Span). option_map_or bytes_of o []) (span_numbered m h (kernel_first (policy_of m) k + c) (kernel_span c size part) (kernel_numbered c size part e))

@@ -1,16 +1,15 @@
 -- Numbers that fit the fields of an image.
 use Rattle.std.specs.Prelude.{◌≡◌, ℕ, ◌%◌, ◌<◌, ◌≤◌, true, length, nat_le, nat_lt}
 use Rattle.std.specs.List.{list_all}
+use Rattle.expand_kernel.specs.ByIndex.{kernel_first}
 use Rattle.muen_num.specs.declared.limits.TheConstants.{MOST_CPUS, MOST_MSRS, MOST_REGIONS, MOST_SUBJECTS, PAGE, PHYSICAL_END}
+use Rattle.expand_kernel.specs.ByIndex.{kernel_first}
 use Rattle.msrbm_emit.specs.Area.{msr_count}
 use Rattle.region_alloc.specs.Placed.{Placement}
-use Rattle.subject_emit.specs.Mapped.{kernel_first}
 use Rattle.subject_emit.specs.Pages.{tables_at}
-use Rattle.subject_emit.specs.Shows.{HasAddresses}
 
 -- of a placed policy: its regions, groups, subjects and CPUs
 pub record AreFew (x : Placement) : Type 0 where
-  pub addresses : HasAddresses x
   pub regions : kernel_first x.expanded.lawful (length x.expanded.lawful.subjects) ≤ MOST_REGIONS
   pub groups : length x.expanded.lawful.scheduling.groups ≤ MOST_SUBJECTS
   pub subjects : length x.expanded.lawful.subjects ≤ MOST_SUBJECTS

@@ -8,7 +8,9 @@ use Rattle.event_emit.specs.Tables.{AreTables}
 use Rattle.image_soundness.specs.TablesOf.{AreDevices}
 use Rattle.event_emit.specs.declared.event_tables.EventTables.{EventTables}
 use Rattle.expand_kernel.specs.granted.Grants.{Grants}
+use Rattle.expand_kernel.specs.ByIndex.{kernel_first}
 use Rattle.expand_kernel.specs.Expansion.{IsExpansion}
+use Rattle.expand_kernel.specs.ByIndex.{kernel_first}
 use Rattle.expand_kernel.specs.Regions.{kernel_number}
 use Rattle.expand_kernel.specs.declared.kernel.KernelRegion.TheVariants.{IoBitmaps, MsrArea, MsrBitmap, State}
 use Rattle.image_pack.specs.Parts.{IsParts, counted_image}
@@ -26,7 +28,6 @@ use Rattle.policy_lawful.specs.Resolution.{IsResolved, Resolution, source_of}
 use Rattle.policy_lawful.specs.declared.resolved.Subject.{Subject}
 use Rattle.region_alloc.specs.Placed.{AreDisjoint, AreInside, IsPlacement, Placement}
 use Rattle.span_emit.specs.SpansOf.{spans_of}
-use Rattle.subject_emit.specs.Mapped.{kernel_first}
 use Rattle.subject_emit.specs.Pages.{ArePages, tables_at}
 use Rattle.subject_emit.specs.declared.subject_pages.SubjectPages.{SubjectPages}
 

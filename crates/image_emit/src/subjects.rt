@@ -13,32 +13,19 @@ use expand_kernel::{Grants, KernelRegion};
 use image_pack::SubjectPart;
 use muen_num::limits::{KERNEL_REGIONS, MOST_MSRS, MOST_REGIONS};
 use muen_num::{Name, NoMemory, Seq};
-use policy_lawful::resolved::{Group, Subject};
+use policy_lawful::resolved::{Scheduling, Subject};
 use policy_lawful::source::Region;
 use policy_lawful::{MsrGrant, Resolved};
 use region_alloc::Placed;
 use std::alloc::Global;
-use subject_emit::{kernel_first, tables_at};
-
-fn has_member(group: &Group, index: usize) -> bool
-    ensures { result ≡ list_any (λ n. n == index) group.now.subjects }
-{
-    group.subjects.items().iter().any(|n| *n == index)
-}
-
-// The first group that has the subject at an index, by its number.
-fn group_with(groups: &[Group], index: usize) -> Option<usize>
-    ensures { result ≡ position (λ g. list_any (λ n. n == index) g.subjects) groups.now }
-{
-    groups.iter().position(|group| has_member(group, index))
-}
+use subject_emit::tables_at;
 
 // The number of the group in which the subject at an index stands.
-fn group_at(groups: &[Group], index: usize) -> u8
-    requires { length groups.now ≤ 32 }
-    ensures { result ≡ unwrap_or (position (λ g. list_any (λ n. n == index) g.subjects) groups.now) 0 }
+fn group_at(scheduling: &Scheduling, index: usize) -> u8
+    requires { length scheduling.now.groups ≤ 32 }
+    ensures { result ≡ unwrap_or (position (λ g. list_any (λ n. n == index) g.subjects) scheduling.now.groups) 0 }
 {
-    match group_with(groups, index) {
+    match scheduling.group_with(index) {
         None => 0,
         Some(number) => number as u8,
     }
@@ -87,11 +74,11 @@ fn subject_part(
     ensures { result ≡ subject_part placed.now (index, (subject.now, (granted.now, events))) }
 {
     let policy = placed.expanded().lawful().resolved();
-    let first = kernel_first(policy, index);
+    let first = placed.expanded().kernel_first(index);
     let EventTables { calls, traps } = events;
     SubjectPart {
         cpu: subject.cpu as u8,
-        group: group_at(policy.scheduling().groups.items(), index),
+        group: group_at(policy.scheduling(), index),
         msrs: count_of(granted.msrs.items()) as u8,
         state: number_of(KernelRegion::State, first),
         iobm: number_of(KernelRegion::IoBitmaps, first),

@@ -1,5 +1,5 @@
 //! The memory of an image at the start.
-ghost use Rattle.std.specs.Prelude.{◌≡◌, IfOk, map, replicate, zip};
+ghost use Rattle.std.specs.Prelude.{◌≡◌, IfOk, map, zip};
 ghost use Rattle.image_memory.specs.Memory.{memory_of, memory_span};
 ghost use Rattle.phys_mem.specs.Found.{frames_kept};
 
@@ -8,13 +8,6 @@ use muen_num::limits::PAGE;
 use muen_num::{NoMemory, Seq};
 use phys_mem::{FrameMem, MemorySpan};
 use std::alloc::Global;
-
-// So many zeros.
-fn zeros(alloc: Global, count: usize) -> Result<Vec<u8>, NoMemory>
-    ensures { IfOk result (λ z. z.items ≡ replicate count 0) }
-{
-    Ok(vec![in alloc; 0; count]?)
-}
 
 // A span with what it has at the start.
 fn memory_span(alloc: Global, span: &SpanPart, bytes: Seq<u8>) -> Result<MemorySpan, NoMemory>
@@ -27,7 +20,7 @@ fn memory_span(alloc: Global, span: &SpanPart, bytes: Seq<u8>) -> Result<MemoryS
         });
     }
     let count = PAGE * u64::from(span.pages);
-    let bytes = Seq::of(zeros(alloc, count as usize)?);
+    let bytes = Seq::of(vec![in alloc; 0; count as usize]?);
     Ok(MemorySpan {
         address: span.address,
         bytes,

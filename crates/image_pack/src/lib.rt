@@ -21,3 +21,4 @@ pub use parts::{
     DevicePart, EventPart, Image, IrqPart, SpanKind, SpanPart, SubjectPart, WindowPart,
     span_numbered,
 };
+pub use reading::devices::new_name_of;

@@ -1,13 +1,12 @@
 pub use Rattle.image_memory.proofs.MemoryPages
 pub use Rattle.image_memory.proofs.SpanNumbers
+pub mod AddressesByNumber
 pub mod DevicesOf
 pub mod GroupsByIndex
 pub mod Led
-pub mod NamedViews
 pub mod NamesOfTargets
 pub mod SoundFacts
 pub mod SubjectsOfBoth
 pub mod ThingBytes
 pub mod ThingFacts
-pub mod ThingsInOrder
 pub mod WindowsOn

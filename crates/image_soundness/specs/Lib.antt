@@ -8,6 +8,7 @@ pub use Rattle.state_page.specs.States
 pub use Rattle.image_memory.specs.Memory
 pub mod Bench
 pub mod Named
+pub mod Numbered
 pub mod Paths
 pub mod PlanOf
 pub mod Sound

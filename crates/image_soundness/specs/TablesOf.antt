@@ -1,5 +1,5 @@
 -- The tables of events of a subject, and the devices of an image, that a policy asks for (this project's own format).
-use Rattle.std.specs.Prelude.{◌≡◌, ℕ, ◌+◌, ◌<◌, ◌≤◌, ◌^◌, true, List, [], ◌∷◌, length, map, slice_index_or, Option, Some, None, option_map}
+use Rattle.std.specs.Prelude.{◌≡◌, ℕ, ◌+◌, ◌<◌, true, List, [], ◌∷◌, length, map, slice_index_or, Option, Some, None, option_map}
 use Rattle.std.specs.List.{All, AllZip}
 use Rattle.expand_grants.specs.Grants.{target_named}
 use Rattle.image_pack.specs.Codes.{is_vector, vector_code}
@@ -9,7 +9,7 @@ use Rattle.image_pack.specs.declared.parts.IrqPart.{IrqPart}
 use Rattle.muen_num.specs.declared.devices.IrqTarget.{IrqTarget}
 use Rattle.muen_num.specs.declared.devices.PortSpan.{PortSpan}
 use Rattle.muen_num.specs.Range.{numbers_below}
-use Rattle.muen_num.specs.declared.limits.TheConstants.{FIRST_VECTOR, MOST_CALLS}
+use Rattle.muen_num.specs.declared.limits.TheConstants.{MOST_CALLS}
 use Rattle.policy_lawful.specs.Resolution.{Resolution, source_of, subject_named}
 use Rattle.policy_lawful.specs.declared.resolved.Subject.{Subject}
 use Rattle.policy_lawful.specs.Events.{Raised, Target, event_of, irq_of}
@@ -17,7 +17,6 @@ use Rattle.policy_lawful.specs.source.Device.{Device}
 use Rattle.policy_lawful.specs.source.Irq.{Irq}
 use Rattle.policy_lawful.specs.source.Ports.{Ports}
 use Rattle.policy_lawful.specs.source.SourceWay.{SourceWay}
-use Rattle.policy_lawful.specs.source.SourceWay.TheVariants.{Call, Trap}
 use Rattle.image_pack.specs.ImageConditions.{IsReached}
 
 -- ---- events

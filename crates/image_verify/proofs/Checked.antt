@@ -13,32 +13,30 @@ use Rattle.muen_num.specs.Numbers.{is_among}
 use Rattle.ept_check.specs.declared.types.SubjectTables.{SubjectTables}
 use Rattle.ept_check.specs.Emitted.{translation}
 use Rattle.ept_check.specs.Reads.{Reads as ReadsTable}
-use Rattle.expand_kernel.specs.granted.Grants.{Grants}
-use Rattle.expand_kernel.specs.Expansion.{Expansion}
 use Rattle.image_pack.proofs.PartsKeep.{parts_keep}
 use Rattle.image_pack.specs.declared.parts.Image.{Image}
 use Rattle.image_pack.specs.declared.parts.SubjectPart.{SubjectPart}
 use Rattle.image_memory.specs.Memory.{memory_of}
 use Rattle.image_soundness.specs.Sound.{ForEachSubject, HasWalks, ReadsTables, address_of, is_in_tables, led}
-use Rattle.image_verify.proofs.AtIndexes.{at_pair, each_pair, granted_of, is_at, mapped_at, row_at, rows}
 use Rattle.image_verify.proofs.Leads.{are_windows, leads}
+use Rattle.image_verify.proofs.Rooms.{mapped_at}
 use Rattle.image_verify.proofs.TablePages.{are_tables, entry_among}
-use Rattle.image_verify.specs.Filled.{IsSubjectAt, IsFilled}
+use Rattle.image_verify.specs.Filled.{IsFilled}
 use Rattle.image_verify.specs.Stand.{StandForTables}
 use Rattle.image_verify.specs.TablePages.{pages_of_all}
-use Rattle.image_verify.specs.Windows.{WithPart, tables_of_subject, tables_of_subjects, windows_on}
+use Rattle.image_verify.specs.Windows.{tables_of_subject, tables_of_subjects, windows_on}
 use Rattle.ept_check.specs.Memory.{is_there}
 use Rattle.ept_check.specs.Walks.{addresses_from, addresses_read, entry_address, entry_of, goes_on, index_at, is_leaf, is_misconfigured, is_present, bits_of, root_of, walk_from, walk_of}
 use Rattle.ept_check.proofs.Sizes.{above_of}
-use Rattle.muen_num.proofs.Lists.{there}
+use Rattle.muen_num.proofs.Lists.{all_at, there}
+use Rattle.muen_num.proofs.Pairs.{zipped_both}
 use Rattle.muen_num.proofs.Options.{from_some}
 use Rattle.muen_num.specs.Access.{kind_bit}
 use Rattle.muen_num.specs.declared.access.AccessKind.{AccessKind}
 use Rattle.muen_num.specs.declared.limits.TheConstants.{MOST_SUBJECTS}
 use Rattle.policy_lawful.specs.Contents.{Held}
-use Rattle.policy_lawful.specs.Resolution.{Resolution, source_of, subject_named}
+use Rattle.policy_lawful.specs.source.Subject.{Subject}
 use Rattle.policy_lawful.specs.Windows.{access_of, windows_of}
-use Rattle.policy_lawful.specs.declared.resolved.Subject.{Subject}
 use Rattle.policy_lawful.specs.source.Source.{Source}
 use Rattle.image_soundness.specs.Paths.{HasOnePathPerTable as HasOnePath, IsOnePath as IsSamePath}
 
@@ -76,31 +74,39 @@ addr_below q = omega arith
 few_subjects : (n m : ℕ) → n ≤ m → m ≤ 32 → n ≤ 1048576
 few_subjects n m a b = omega (arith, a, b)
 
-module _ (x : Expansion) (files : Held) (i : Image) (h : IsFilled x files i) (pages : List ℕ) (is : pages ≡ pages_of_all i.spans) where
-  abbrev r : Resolution
-  r = x.lawful
-
-  abbrev p : Source
-  p = source_of r
+module _ (p : Source) (files : Held) (i : Image) (h : IsFilled p files i) (pages : List ℕ) (is : pages ≡ pages_of_all i.spans) where
+  -- subjects of the policy with their parts of the image
+  abbrev rows : List (Subject × SubjectPart)
+  rows = zip p.subjects i.subjects
 
   abbrev made : List SubjectTables
-  made = map (tables_of_subject r i) (rows x files i h)
+  made = map (tables_of_subject p i) rows
 
   abbrev v : Tables
   v = tables_in (memory_of i) pages made
 
-  -- ---- what can be checked
+  -- what holds at each index
+  each_row : (Holds : Subject → SubjectPart → Type 0) → ((k : ℕ) (n : Subject) (q : SubjectPart) → slice_get rows k ≡ Some (n, q) → Holds n q) → ForEachSubject p i Holds
+  each_row Holds holds j d l =
+      let e = there rows j l in
+      subst (λ (f : Subject × SubjectPart). Holds f.0 f.1) (sym (get_or_from_slice_get rows j e.0 d e.1)) (holds j e.0.0 e.0.1 e.1)
 
-  windows_at : (k : ℕ) (s : Subject) (g : Grants) (q : SubjectPart) → IsSubjectAt x i k s g q → AreSubjectWindows (is_there (memory_of i)) (windows_on r i s.name g.views)
-  windows_at k s g q at = are_windows x files i h k s g at.subject at.grants (granted_of x files i h k s g q at)
+  -- and at one, where it does at each
+  at_row : (Holds : Subject → SubjectPart → Type 0) → ForEachSubject p i Holds → (k : ℕ) (n : Subject) (q : SubjectPart) → slice_get rows k ≡ Some (n, q) → Holds n q
+  at_row Holds all k n q at = all_at (λ (e : Subject × SubjectPart). Holds e.0 e.1) rows k (n, q) all at
+
+  subject_at : (k : ℕ) (n : Subject) (q : SubjectPart) → slice_get rows k ≡ Some (n, q) → slice_get p.subjects k ≡ Some n
+  subject_at k n q at = (zipped_both p.subjects i.subjects k (n, q) at).0
+
+  part_at : (k : ℕ) (n : Subject) (q : SubjectPart) → slice_get rows k ≡ Some (n, q) → slice_get i.subjects k ≡ Some q
+  part_at k n q at = (zipped_both p.subjects i.subjects k (n, q) at).1
+
+  -- ---- what can be checked
 
   windows_each : All (λ (t : SubjectTables). AreSubjectWindows (is_there (memory_of i)) t.windows) made
   windows_each =
-      All-map (λ (t : SubjectTables). AreSubjectWindows (is_there (memory_of i)) t.windows) (tables_of_subject r i) (rows x files i h)
-      (λ j d l.
-      let e = there (rows x files i h) j l in
-      subst (λ (e : WithPart). AreSubjectWindows (is_there (memory_of i)) (windows_on r i e.0.name e.1.0.views)) (sym (get_or_from_slice_get (rows x files i h) j e.0 d e.1))
-      (windows_at j e.0.0 e.0.1.0 e.0.1.1 (is_at x files i h j e.0 e.1)))
+      All-map (λ (t : SubjectTables). AreSubjectWindows (is_there (memory_of i)) t.windows) (tables_of_subject p i) rows
+      (each_row (λ n q. AreSubjectWindows (is_there (memory_of i)) (windows_on p i n)) (λ k n q at. are_windows p files i h k n (subject_at k n q at)))
 
   shorter : {A B : Type 0} (xs : List A) (ys : List B) → length (zip xs ys) ≤ length ys
   shorter [] ys = omega arith
@@ -110,59 +116,54 @@ module _ (x : Expansion) (files : Held) (i : Image) (h : IsFilled x files i) (pa
   few : length made ≤ 1048576
   few =
       let counts = (parts_keep i h.parts).counts in
-      let many : length made ≡ length (rows x files i h) = length-map (rows x files i h) (tables_of_subject r i) in
-      let outer = shorter x.lawful.subjects (zip x.grants i.subjects) in
-      let inner = shorter x.grants i.subjects in
+      let many : length made ≡ length rows = length-map rows (tables_of_subject p i) in
+      let short = shorter p.subjects i.subjects in
       let same : length i.subjects ≡ i.header.subjects = counts.subjects in
       let most : i.header.subjects ≤ 32 = leb-true i.header.subjects MOST_SUBJECTS (and_parts (nat_le 1 i.header.subjects) (nat_le i.header.subjects MOST_SUBJECTS) counts.few_subjects).1 in
-      few_subjects (length made) (length i.subjects) (omega (arith, many, outer, inner)) (omega (arith, same, most))
+      few_subjects (length made) (length i.subjects) (omega (arith, many, short)) (omega (arith, same, most))
 
   pub can_check : CanBeChecked (memory_of i) pages made
   can_check = record { tables = are_tables i h.parts pages is; windows = windows_each; few = few }
 
   -- ---- at an index
 
-  tables_at : (k : ℕ) (s : Subject) (g : Grants) (q : SubjectPart) → IsSubjectAt x i k s g q → slice_get made k ≡ Some (tables_of_subject r i (s, (g, q)))
-  tables_at k s g q at = slice_get-map (tables_of_subject r i) (rows x files i h) k ∙ ap (option_map (tables_of_subject r i)) (row_at x files i h k s g q at)
+  tables_at : (k : ℕ) (n : Subject) (q : SubjectPart) → slice_get rows k ≡ Some (n, q) → slice_get made k ≡ Some (tables_of_subject p i (n, q))
+  tables_at k n q at = slice_get-map (tables_of_subject p i) rows k ∙ ap (option_map (tables_of_subject p i)) at
 
-  root_is : (k : ℕ) (s : Subject) (g : Grants) (q : SubjectPart) → IsSubjectAt x i k s g q → slice_index v.roots k ≡ root_of q.eptp
-  root_is k s g q at = mapped_at (λ (t : SubjectTables). root_of t.eptp) made k (tables_of_subject r i (s, (g, q))) 0 (tables_at k s g q at)
+  root_is : (k : ℕ) (n : Subject) (q : SubjectPart) → slice_get rows k ≡ Some (n, q) → slice_index v.roots k ≡ root_of q.eptp
+  root_is k n q at = mapped_at (λ (t : SubjectTables). root_of t.eptp) made k (tables_of_subject p i (n, q)) 0 (tables_at k n q at)
 
-  windows_are : (k : ℕ) (s : Subject) (g : Grants) (q : SubjectPart) → IsSubjectAt x i k s g q → slice_index_or v.windows k [] ≡ windows_on r i s.name g.views
-  windows_are k s g q at = mapped_at (λ (t : SubjectTables). t.windows) made k (tables_of_subject r i (s, (g, q))) [] (tables_at k s g q at)
+  windows_are : (k : ℕ) (n : Subject) (q : SubjectPart) → slice_get rows k ≡ Some (n, q) → slice_index_or v.windows k [] ≡ windows_on p i n
+  windows_are k n q at = mapped_at (λ (t : SubjectTables). t.windows) made k (tables_of_subject p i (n, q)) [] (tables_at k n q at)
 
   -- a walk is that of the subject's tables
-  walk_is : (k : ℕ) (s : Subject) (g : Grants) (q : SubjectPart) (addr : ℕ) (kind : AccessKind) → IsSubjectAt x i k s g q → walk_at v k addr kind ≡ walk_of (memory_of i) q.eptp addr kind
-  walk_is k s g q addr kind at = ap (λ root. walk_from (entry_of (memory_of i)) (is_there (memory_of i)) addr (kind_bit kind) 3 root 7) (root_is k s g q at)
+  walk_is : (k : ℕ) (n : Subject) (q : SubjectPart) (addr : ℕ) (kind : AccessKind) → slice_get rows k ≡ Some (n, q) → walk_at v k addr kind ≡ walk_of (memory_of i) q.eptp addr kind
+  walk_is k n q addr kind at = ap (λ root. walk_from (entry_of (memory_of i)) (is_there (memory_of i)) addr (kind_bit kind) 3 root 7) (root_is k n q at)
 
   -- and leads where the policy's windows do, where it leads where these windows do
-  look_is : (k : ℕ) (s : Subject) (g : Grants) (q : SubjectPart) (addr : ℕ) (kind : AccessKind) → IsSubjectAt x i k s g q
-      → look_at v k addr kind ≡ led (address_of p i) (access_of (windows_of p (subject_named r s)) addr kind)
-  look_is k s g q addr kind at =
-      ap (λ ws. translation ws addr kind) (windows_are k s g q at)
-      ∙ leads x files i h k s g at.subject at.grants (granted_of x files i h k s g q at) addr kind
+  look_is : (k : ℕ) (n : Subject) (q : SubjectPart) (addr : ℕ) (kind : AccessKind) → slice_get rows k ≡ Some (n, q) → look_at v k addr kind ≡ led (address_of p i) (access_of (windows_of p n) addr kind)
+  look_is k n q addr kind at = ap (λ ws. translation ws addr kind) (windows_are k n q at) ∙ leads p files i h k n (subject_at k n q at) addr kind
 
-  many_roots : length v.roots ≡ length (rows x files i h)
-  many_roots = length-map made (λ (t : SubjectTables). root_of t.eptp) ∙ length-map (rows x files i h) (tables_of_subject r i)
+  many_roots : length v.roots ≡ length rows
+  many_roots = length-map made (λ (t : SubjectTables). root_of t.eptp) ∙ length-map rows (tables_of_subject p i)
 
-  below : (k : ℕ) (s : Subject) (g : Grants) (q : SubjectPart) → IsSubjectAt x i k s g q → k < length v.roots
-  below k s g q at =
-      let within = slice_get_within (rows x files i h) k (s, (g, q)) (row_at x files i h k s g q at) in
+  below : (k : ℕ) (n : Subject) (q : SubjectPart) → slice_get rows k ≡ Some (n, q) → k < length v.roots
+  below k n q at =
+      let within = slice_get_within rows k (n, q) at in
       let many = many_roots in
       omega (arith, within, many)
 
   -- what stands at an index of the roots
   pub record Row (k : ℕ) : Type 0 where
     pub subject : Subject
-    pub grants : Grants
     pub part : SubjectPart
-    pub at : IsSubjectAt x i k subject grants part
+    pub at : slice_get rows k ≡ Some (subject, part)
 
   row : (k : ℕ) → k < length v.roots → Row k
   row k l =
       let many = many_roots in
-      let e = there (rows x files i h) k (omega (arith, l, many)) in
-      record { subject = e.0.0; grants = e.0.1.0; part = e.0.1.1; at = is_at x files i h k e.0 e.1 }
+      let e = there rows k (omega (arith, l, many)) in
+      record { subject = e.0.0; part = e.0.1; at = e.1 }
 
   -- ---- entries
 
@@ -173,31 +174,30 @@ module _ (x : Expansion) (files : Held) (i : Image) (h : IsFilled x files i) (pa
 
   pub walks_from : AreSound v → ForEachSubject p i (HasWalks p i)
   walks_from sound =
-      each_pair x files i h (HasWalks p i)
-      (λ k s g q at addr kind l.
-      sym (walk_is k s g q addr kind at) ∙ sound.led k addr kind (below k s g q at) l ∙ look_is k s g q addr kind at)
+      each_row (HasWalks p i)
+      (λ k n q at addr kind l. sym (walk_is k n q addr kind at) ∙ sound.led k addr kind (below k n q at) l ∙ look_is k n q addr kind at)
 
   pub reads_from : AreSound v → ForEachSubject p i (λ s q. ReadsTables i q)
   reads_from sound =
-      each_pair x files i h (λ s q. ReadsTables i q)
-      (λ k s g q at addr l j d low.
+      each_row (λ s q. ReadsTables i q)
+      (λ k n q at addr l j d low.
       let list = addresses_read (memory_of i) q.eptp addr in
       let reads : All (λ n. is_among pages (n / 4096) ≡ true) list =
-      subst (λ root. All (λ n. is_among pages (n / 4096) ≡ true) (addresses_from (entry_of (memory_of i)) addr 3 root)) (root_is k s g q at) (sound.tables k addr (below k s g q at) l) in
+      subst (λ root. All (λ n. is_among pages (n / 4096) ≡ true) (addresses_from (entry_of (memory_of i)) addr 3 root)) (root_is k n q at) (sound.tables k addr (below k n q at) l) in
       in_tables (get_or list j d) (entries_aligned (entry_of (memory_of i)) addr 3 (root_of q.eptp) j d low) ∙ reads j d low)
 
   pub sound_from : ForEachSubject p i (HasWalks p i) → ForEachSubject p i (λ s q. ReadsTables i q) → AreSound v
   sound_from walks reads = record {
     led = λ k addr kind b l.
         let e = row k b in
-        walk_is k e.subject e.grants e.part addr kind e.at
-        ∙ at_pair x files i h (HasWalks p i) walks k e.subject e.grants e.part e.at addr kind l
-        ∙ sym (look_is k e.subject e.grants e.part addr kind e.at);
+        walk_is k e.subject e.part addr kind e.at
+        ∙ at_row (HasWalks p i) walks k e.subject e.part e.at addr kind l
+        ∙ sym (look_is k e.subject e.part addr kind e.at);
     tables = λ k addr b l.
         let e = row k b in
         let list = addresses_read (memory_of i) e.part.eptp addr in
-        let read : All (λ n. is_in_tables i n ≡ true) list = at_pair x files i h (λ s q. ReadsTables i q) reads k e.subject e.grants e.part e.at addr l in
-        subst (λ root. All (λ n. is_among pages (n / 4096) ≡ true) (addresses_from (entry_of (memory_of i)) addr 3 root)) (sym (root_is k e.subject e.grants e.part e.at))
+        let read : All (λ n. is_in_tables i n ≡ true) list = at_row (λ s q. ReadsTables i q) reads k e.subject e.part e.at addr l in
+        subst (λ root. All (λ n. is_among pages (n / 4096) ≡ true) (addresses_from (entry_of (memory_of i)) addr 3 root)) (sym (root_is k e.subject e.part e.at))
         (λ j d low. sym (in_tables (get_or list j d) (entries_aligned (entry_of (memory_of i)) addr 3 (root_of e.part.eptp) j d low)) ∙ read j d low);
   }
 
@@ -208,7 +208,7 @@ module _ (x : Expansion) (files : Held) (i : Image) (h : IsFilled x files i) (pa
   read_at q m t e reads =
       let list = addresses_read (memory_of i) e.part.eptp (addr_of q) in
       let moved : option_map (λ at. at / 4096) (slice_get list (3 - m)) ≡ Some t =
-      ap (λ root. option_map (λ at. at / 4096) (slice_get (addresses_from (entry_of (memory_of i)) (addr_of q) 3 root) (3 - m))) (sym (root_is (subject_of q) e.subject e.grants e.part e.at)) ∙ reads.here in
+      ap (λ root. option_map (λ at. at / 4096) (slice_get (addresses_from (entry_of (memory_of i)) (addr_of q) 3 root) (3 - m))) (sym (root_is (subject_of q) e.subject e.part e.at)) ∙ reads.here in
       let f = from_some (λ at. at / 4096) (slice_get list (3 - m)) t moved in
       record {
         depth = reads.depth;
@@ -221,24 +221,10 @@ module _ (x : Expansion) (files : Held) (i : Image) (h : IsFilled x files i) (pa
       let e = row (subject_of a) (subject_below a (length v.roots) low) in
       let f = row (subject_of b) (subject_below b (length v.roots) high) in
       let same : IsSamePath (subject_of a) (subject_of b) m l (addr_of a) (addr_of b) =
-      once (subject_of a) (subject_of b) e.part f.part (addr_of a) (addr_of b) m l t e.at.part f.at.part (addr_below a) (addr_below b) (read_at a m t e one) (read_at b l t f other) in
+      once (subject_of a) (subject_of b) e.part f.part (addr_of a) (addr_of b) m l t (part_at (subject_of a) e.subject e.part e.at) (part_at (subject_of b) f.subject f.part f.at) (addr_below a) (addr_below b) (read_at a m t e one) (read_at b l t f other) in
       record { level = same.depth; above = above_of m a b one.depth same.subject same.range }
 
--- ---- over what a call has made
-
-module _ (x : Expansion) (i : Image) (subjects : List SubjectTables) (are : subjects ≡ tables_of_subjects x i) (files : Held) (pages : List ℕ) (h : IsFilled x files i) (is : pages ≡ pages_of_all i.spans) where
-  are_made : map (tables_of_subject x.lawful i) (rows x files i h) ≡ subjects
-  unfolding tables_of_subjects
-  are_made = sym are
-
   -- **they stand** for what the policy needs
-  pub stand_for : StandForTables (source_of x.lawful) i pages subjects
-  stand_for =
-      subst (StandForTables (source_of x.lawful) i pages) are_made
-      (record {
-        checkable = can_check x files i h pages is;
-        walks = walks_from x files i h pages is;
-        reads = reads_from x files i h pages is;
-        sound = sound_from x files i h pages is;
-        one_path = paths_from x files i h pages is;
-      })
+  pub stand_for : StandForTables p i pages (tables_of_subjects p i)
+  unfolding tables_of_subjects
+  stand_for = record { checkable = can_check; walks = walks_from; reads = reads_from; sound = sound_from; one_path = paths_from }

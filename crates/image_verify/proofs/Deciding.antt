@@ -8,7 +8,6 @@ use Rattle.ept_check.specs.Tables.{Tables, expected_walk, subject_of, tables_in,
 use Rattle.ept_check.specs.declared.types.FaultKind.TheVariants.{Lacks, Leak, Outside, Twice}
 use Rattle.ept_check.specs.declared.types.SubjectTables.{SubjectTables}
 use Rattle.ept_check.specs.declared.types.TableFault.{TableFault}
-use Rattle.expand_kernel.specs.Expansion.{Expansion}
 use Rattle.image_checks.proofs.OwnPageLaws.{shares_none}
 use Rattle.image_checks.specs.OwnPages.{SharesWithNone}
 use Rattle.image_checks.specs.PlanFault.{IsPlanFault}
@@ -29,6 +28,7 @@ use Rattle.muen_num.specs.Range.{numbers_below}
 use Rattle.muen_num.specs.Search.{first_of}
 use Rattle.policy_lawful.specs.Resolution.{Resolution, source_of}
 use Rattle.policy_lawful.proofs.SourceElements.{many_subjects}
+use Rattle.policy_lawful.specs.source.Source.{Source}
 
 -- ---- indexes
 
@@ -53,17 +53,17 @@ in_common r i k h =
 -- ---- what the kernel keeps, and the plan
 
 module _ (r : Resolution) (i : Image) (bitmaps : ForEachSubject (source_of r) i (HasBitmaps (source_of r) i)) (areas : ForEachSubject (source_of r) i (HasArea i)) (states : ForEachSubject (source_of r) i (IsFresh i)) (own : All (SharesWithNone (common (source_of r) i)) (numbers_below (length (common (source_of r) i)))) where
-  pub all_hold : HasPlanAndEvents (source_of r) i → FirstOf r i (λ o. o ≡ None) in_order None
+  pub all_hold : HasPlanAndEvents (source_of r) i → FirstOf (source_of r) i (λ o. o ≡ None) in_order None
   all_hold plan = inr (bitmaps, inr (areas, inr (states, inr (shares_none (common (source_of r) i) own, inr (plan, refl)))))
 
-  pub plan_fails : (differs : PlanOwner) (owner : Owner) → IsPlanFault (source_of r) i (Some differs) → owner ≡ plan_owner r i differs → FirstOf r i (λ o. o ≡ None) in_order (Some (Fails Plan owner))
+  pub plan_fails : (differs : PlanOwner) (owner : Owner) → IsPlanFault (source_of r) i (Some differs) → owner ≡ plan_owner (source_of r) i differs → FirstOf (source_of r) i (λ o. o ≡ None) in_order (Some (Fails Plan owner))
   plan_fails differs owner first is =
       inr (bitmaps, inr (areas, inr (states, inr (shares_none (common (source_of r) i) own, inl (record { owner = owner; is = refl; fails = record { differs = differs; first = first; is = is } })))))
 
 -- ---- tables
 
-pub same_tables : (x : Expansion) (i : Image) (m : List Page) (pages : List ℕ) (subjects : List SubjectTables) → m ≡ memory_of i → pages ≡ pages_of_all i.spans → subjects ≡ tables_of_subjects x i → table_fault (tables_in m pages subjects) ≡ table_fault (image_tables_of x i)
-same_tables x i m pages subjects a b c = λ j. table_fault (tables_in (a j) (b j) (c j))
+pub same_tables : (p : Source) (i : Image) (m : List Page) (pages : List ℕ) (subjects : List SubjectTables) → m ≡ memory_of i → pages ≡ pages_of_all i.spans → subjects ≡ tables_of_subjects p i → table_fault (tables_in m pages subjects) ≡ table_fault (image_tables_of p i)
+same_tables p i m pages subjects a b c = λ j. table_fault (tables_in (a j) (b j) (c j))
 
 abbrev subject_or : Option TableFault → ℕ
 subject_or None = 0
@@ -89,17 +89,17 @@ within v f h =
     let same = at_subject v r.k f r.here in
     omega (arith, high, same)
 
-few_tables : (x : Expansion) (i : Image) → length (image_tables_of x i).roots ≤ length x.lawful.subjects
+few_tables : (p : Source) (i : Image) → length (image_tables_of p i).roots ≤ length p.subjects
 unfolding tables_of_subjects
-few_tables x i =
-    let rows = zip x.lawful.subjects (zip x.grants i.subjects) in
-    let one = length-map (tables_of_subjects x i) (λ s. root_of s.eptp) in
-    let two = length-map rows (λ e. tables_of_subject x.lawful i e) in
-    let three = zip_short x.lawful.subjects (zip x.grants i.subjects) in
+few_tables p i =
+    let rows = zip p.subjects i.subjects in
+    let one = length-map (tables_of_subjects p i) (λ s. root_of s.eptp) in
+    let two = length-map rows (tables_of_subject p i) in
+    let three = zip_short p.subjects i.subjects in
     omega (arith, one, two, three)
 
-pub fault_within : (x : Expansion) (i : Image) (f : TableFault) → table_fault (image_tables_of x i) ≡ Some f → f.subject < length x.lawful.subjects
-fault_within x i f h = let low = within (image_tables_of x i) f h in let few = few_tables x i in omega (arith, low, few)
+pub fault_within : (r : Resolution) (i : Image) (f : TableFault) → table_fault (image_tables_of (source_of r) i) ≡ Some f → f.subject < length r.subjects
+fault_within r i f h = let low = within (image_tables_of (source_of r) i) f h in let few = few_tables (source_of r) i in let many = many_subjects r in omega (arith, low, few, many)
 
 pub device_there : (r : Resolution) (i : Image) (k : ℕ) → (k < length (source_of r).devices) ⊎ (k < length i.devices) → (k < length r.devices) ⊎ (k < length i.devices)
 unfolding source_of

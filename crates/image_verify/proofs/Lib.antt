@@ -1,11 +1,11 @@
 pub mod FaultText
-pub mod Addresses
-pub mod AtIndexes
+pub mod SameTables
 pub mod Checked
 pub mod InSpans
 pub mod InTurn
 pub mod Leads
 pub mod Rooms
+pub mod SpanAddresses
 pub mod TablePages
 pub mod Deciding
 pub mod VerdictLaws

@@ -11,7 +11,6 @@ use Rattle.ept_check.specs.Faults.{table_fault}
 use Rattle.ept_check.specs.Sound.{AreSound}
 use Rattle.ept_check.specs.declared.types.FaultKind.TheVariants.{Twice as TwiceFault}
 use Rattle.ept_check.specs.declared.types.TableFault.{TableFault}
-use Rattle.expand_kernel.specs.Expansion.{Expansion, IsExpanded}
 use Rattle.image_checks.proofs.OwnPageLaws.{each_shares_none}
 use Rattle.image_checks.proofs.PlanFaults.{a_plan_fault_is_none_of_a_sound_image, none_first, one_first, one_plan_fault}
 use Rattle.image_checks.specs.Contents.{IsFirstOther, owner_at}
@@ -25,7 +24,7 @@ use Rattle.image_verify.proofs.Checked.{stand_for}
 use Rattle.image_verify.specs.Filled.{IsFilled}
 use Rattle.image_verify.specs.Stand.{StandForTables}
 use Rattle.image_verify.specs.TablePages.{pages_of_all}
-use Rattle.image_verify.specs.Verdict.{FailsFirstFor, FirstOf, Holds, IsFailure, IsTableFault, IsTwice, IsVerdict, by_kind, common, in_order, named, plan_owner, resolved_subject_name, subject_owner, image_tables_of}
+use Rattle.image_verify.specs.Verdict.{FailsFirstFor, FirstOf, Holds, IsFailure, IsTableFault, IsTwice, IsVerdict, by_kind, common, in_order, named, plan_owner, subject_name, subject_owner, image_tables_of}
 use Rattle.image_verify.specs.Windows.{tables_of_subjects}
 use Rattle.image_verify.specs.declared.fault.Condition.{Condition}
 use Rattle.image_verify.specs.declared.fault.Condition.TheVariants.{Contents, Tables as TableEntries, Bitmaps, Areas, States, OwnPages, Plan}
@@ -37,7 +36,7 @@ use Rattle.ept_check.specs.Memory.{is_there}
 use Rattle.muen_num.specs.Range.{numbers_below}
 use Rattle.muen_num.proofs.Options.{one_value}
 use Rattle.policy_lawful.specs.Contents.{Held}
-use Rattle.policy_lawful.specs.Resolution.{Resolution, source_of}
+use Rattle.policy_lawful.specs.Lawful.{IsLawful}
 use Rattle.policy_lawful.specs.Thing.{Thing, thing_tag, things_of}
 use Rattle.policy_lawful.specs.source.Source.{Source}
 use Rattle.policy_lawful.specs.source.Subject.{Subject}
@@ -94,55 +93,55 @@ one_other p files i a b x y =
 -- ---- what the kernel keeps, and the plan
 
 -- a condition that holds doesn't fail
-fails_not : (r : Resolution) (i : Image) (c : Condition) (owner : Owner) → FailsFirstFor r i c owner → Holds (source_of r) i c → ⊥
-fails_not r i Bitmaps owner h all = none_first (λ (e : Subject × SubjectPart). HasBitmaps (source_of r) i e.0 e.1) (zip (source_of r).subjects i.subjects) h.k all h.first
-fails_not r i Areas owner h all = none_first (λ (e : Subject × SubjectPart). HasArea i e.0 e.1) (zip (source_of r).subjects i.subjects) h.k all h.first
-fails_not r i States owner h all = none_first (λ (e : Subject × SubjectPart). IsFresh i e.0 e.1) (zip (source_of r).subjects i.subjects) h.k all h.first
-fails_not r i OwnPages owner h all =
-    let parts = common (source_of r) i in
+fails_not : (p : Source) (i : Image) (c : Condition) (owner : Owner) → FailsFirstFor p i c owner → Holds p i c → ⊥
+fails_not p i Bitmaps owner h all = none_first (λ (e : Subject × SubjectPart). HasBitmaps p i e.0 e.1) (zip p.subjects i.subjects) h.k all h.first
+fails_not p i Areas owner h all = none_first (λ (e : Subject × SubjectPart). HasArea i e.0 e.1) (zip p.subjects i.subjects) h.k all h.first
+fails_not p i States owner h all = none_first (λ (e : Subject × SubjectPart). IsFresh i e.0 e.1) (zip p.subjects i.subjects) h.k all h.first
+fails_not p i OwnPages owner h all =
+    let parts = common p i in
     none_first (SharesWithNone parts) (numbers_below (length parts)) h.k (each_shares_none parts all) h.first
-fails_not r i Plan owner h all = a_plan_fault_is_none_of_a_sound_image (source_of r) i h.differs h.first all
-fails_not r i Contents owner h all = absurd h
-fails_not r i TableEntries owner h all = absurd h
+fails_not p i Plan owner h all = a_plan_fault_is_none_of_a_sound_image p i h.differs h.first all
+fails_not p i Contents owner h all = absurd h
+fails_not p i TableEntries owner h all = absurd h
 
 -- it fails first for one
-one_owner : (r : Resolution) (i : Image) (c : Condition) (a b : Owner) → FailsFirstFor r i c a → FailsFirstFor r i c b → a ≡ b
-one_owner r i Bitmaps a b x y = x.is ∙ ap (subject_owner r) (one_first (λ (e : Subject × SubjectPart). HasBitmaps (source_of r) i e.0 e.1) (zip (source_of r).subjects i.subjects) x.k y.k x.first y.first) ∙ sym y.is
-one_owner r i Areas a b x y = x.is ∙ ap (subject_owner r) (one_first (λ (e : Subject × SubjectPart). HasArea i e.0 e.1) (zip (source_of r).subjects i.subjects) x.k y.k x.first y.first) ∙ sym y.is
-one_owner r i States a b x y = x.is ∙ ap (subject_owner r) (one_first (λ (e : Subject × SubjectPart). IsFresh i e.0 e.1) (zip (source_of r).subjects i.subjects) x.k y.k x.first y.first) ∙ sym y.is
-one_owner r i OwnPages a b x y =
-    let parts = common (source_of r) i in
-    x.is ∙ ap (subject_owner r) (one_first (SharesWithNone parts) (numbers_below (length parts)) x.k y.k x.first y.first) ∙ sym y.is
-one_owner r i Plan a b x y =
-    x.is ∙ ap (plan_owner r i) (one_value (Some x.differs) x.differs y.differs refl (one_plan_fault (source_of r) i (Some x.differs) (Some y.differs) x.first y.first)) ∙ sym y.is
-one_owner r i Contents a b x y = absurd x
-one_owner r i TableEntries a b x y = absurd x
+one_owner : (p : Source) (i : Image) (c : Condition) (a b : Owner) → FailsFirstFor p i c a → FailsFirstFor p i c b → a ≡ b
+one_owner p i Bitmaps a b x y = x.is ∙ ap (subject_owner p) (one_first (λ (e : Subject × SubjectPart). HasBitmaps p i e.0 e.1) (zip p.subjects i.subjects) x.k y.k x.first y.first) ∙ sym y.is
+one_owner p i Areas a b x y = x.is ∙ ap (subject_owner p) (one_first (λ (e : Subject × SubjectPart). HasArea i e.0 e.1) (zip p.subjects i.subjects) x.k y.k x.first y.first) ∙ sym y.is
+one_owner p i States a b x y = x.is ∙ ap (subject_owner p) (one_first (λ (e : Subject × SubjectPart). IsFresh i e.0 e.1) (zip p.subjects i.subjects) x.k y.k x.first y.first) ∙ sym y.is
+one_owner p i OwnPages a b x y =
+    let parts = common p i in
+    x.is ∙ ap (subject_owner p) (one_first (SharesWithNone parts) (numbers_below (length parts)) x.k y.k x.first y.first) ∙ sym y.is
+one_owner p i Plan a b x y =
+    x.is ∙ ap (plan_owner p i) (one_value (Some x.differs) x.differs y.differs refl (one_plan_fault p i (Some x.differs) (Some y.differs) x.first y.first)) ∙ sym y.is
+one_owner p i Contents a b x y = absurd x
+one_owner p i TableEntries a b x y = absurd x
 
 -- there is one first
-one_in_order : (r : Resolution) (i : Image) (Rest : Option Fault → Type 0) → ((a b : Option Fault) → Rest a → Rest b → a ≡ b) → (cs : List Condition) (a b : Option Fault) → FirstOf r i Rest cs a → FirstOf r i Rest cs b → a ≡ b
-one_in_order r i Rest one [] a b x y = one a b x y
-one_in_order r i Rest one (c ∷ cs) a b (inl x) (inl y) = x.is ∙ ap (λ owner. Some (Fails c owner)) (one_owner r i c x.owner y.owner x.fails y.fails) ∙ sym y.is
-one_in_order r i Rest one (c ∷ cs) a b (inl x) (inr y) = absurd (fails_not r i c x.owner x.fails y.0)
-one_in_order r i Rest one (c ∷ cs) a b (inr x) (inl y) = absurd (fails_not r i c y.owner y.fails x.0)
-one_in_order r i Rest one (c ∷ cs) a b (inr x) (inr y) = one_in_order r i Rest one cs a b x.1 y.1
+one_in_order : (p : Source) (i : Image) (Rest : Option Fault → Type 0) → ((a b : Option Fault) → Rest a → Rest b → a ≡ b) → (cs : List Condition) (a b : Option Fault) → FirstOf p i Rest cs a → FirstOf p i Rest cs b → a ≡ b
+one_in_order p i Rest one [] a b x y = one a b x y
+one_in_order p i Rest one (c ∷ cs) a b (inl x) (inl y) = x.is ∙ ap (λ owner. Some (Fails c owner)) (one_owner p i c x.owner y.owner x.fails y.fails) ∙ sym y.is
+one_in_order p i Rest one (c ∷ cs) a b (inl x) (inr y) = absurd (fails_not p i c x.owner x.fails y.0)
+one_in_order p i Rest one (c ∷ cs) a b (inr x) (inl y) = absurd (fails_not p i c y.owner y.fails x.0)
+one_in_order p i Rest one (c ∷ cs) a b (inr x) (inr y) = one_in_order p i Rest one cs a b x.1 y.1
 
 -- where all hold the rest says what it is
-last_of : (r : Resolution) (i : Image) (Rest : Option Fault → Type 0) → ((c : Condition) → Holds (source_of r) i c) → (cs : List Condition) (o : Option Fault) → FirstOf r i Rest cs o → Rest o
-last_of r i Rest all [] o h = h
-last_of r i Rest all (c ∷ cs) o (inl h) = absurd (fails_not r i c h.owner h.fails (all c))
-last_of r i Rest all (c ∷ cs) o (inr h) = last_of r i Rest all cs o h.1
+last_of : (p : Source) (i : Image) (Rest : Option Fault → Type 0) → ((c : Condition) → Holds p i c) → (cs : List Condition) (o : Option Fault) → FirstOf p i Rest cs o → Rest o
+last_of p i Rest all [] o h = h
+last_of p i Rest all (c ∷ cs) o (inl h) = absurd (fails_not p i c h.owner h.fails (all c))
+last_of p i Rest all (c ∷ cs) o (inr h) = last_of p i Rest all cs o h.1
 
-each_holds : (r : Resolution) (files : Held) (i : Image) → IsSound (source_of r) files i → (c : Condition) → Holds (source_of r) i c
-each_holds r files i s Bitmaps = s.bitmaps
-each_holds r files i s Areas = s.msr_areas
-each_holds r files i s States = s.fresh_states
-each_holds r files i s OwnPages = s.own_pages
-each_holds r files i s Plan = s.plan_and_events
-each_holds r files i s Contents = tt
-each_holds r files i s TableEntries = tt
+each_holds : (p : Source) (files : Held) (i : Image) → IsSound p files i → (c : Condition) → Holds p i c
+each_holds p files i s Bitmaps = s.bitmaps
+each_holds p files i s Areas = s.msr_areas
+each_holds p files i s States = s.fresh_states
+each_holds p files i s OwnPages = s.own_pages
+each_holds p files i s Plan = s.plan_and_events
+each_holds p files i s Contents = tt
+each_holds p files i s TableEntries = tt
 
-no_failure : (r : Resolution) (i : Image) (c : Condition) → IsFailure r i c None → ⊥
-no_failure r i c h = none-some (Fails c h.owner) h.is
+no_failure : (p : Source) (i : Image) (c : Condition) → IsFailure p i c None → ⊥
+no_failure p i c h = none-some (Fails c h.owner) h.is
 
 -- what holds where none fails
 pub record AreKept (p : Source) (i : Image) : Type 0 where
@@ -152,45 +151,45 @@ pub record AreKept (p : Source) (i : Image) : Type 0 where
   pub own : HaveOwnPages p i
   pub plan : HasPlanAndEvents p i
 
-pub are_kept : (r : Resolution) (i : Image) (Rest : Option Fault → Type 0) → FirstOf r i Rest in_order None → AreKept (source_of r) i × Rest None
-are_kept r i Rest (inl h) = absurd (no_failure r i Bitmaps h)
-are_kept r i Rest (inr (b, inl h)) = absurd (no_failure r i Areas h)
-are_kept r i Rest (inr (b, inr (a, inl h))) = absurd (no_failure r i States h)
-are_kept r i Rest (inr (b, inr (a, inr (s, inl h)))) = absurd (no_failure r i OwnPages h)
-are_kept r i Rest (inr (b, inr (a, inr (s, inr (o, inl h))))) = absurd (no_failure r i Plan h)
-are_kept r i Rest (inr (b, inr (a, inr (s, inr (o, inr (plan, rest)))))) = (record { bitmaps = b; areas = a; states = s; own = o; plan = plan }, rest)
+pub are_kept : (p : Source) (i : Image) (Rest : Option Fault → Type 0) → FirstOf p i Rest in_order None → AreKept p i × Rest None
+are_kept p i Rest (inl h) = absurd (no_failure p i Bitmaps h)
+are_kept p i Rest (inr (b, inl h)) = absurd (no_failure p i Areas h)
+are_kept p i Rest (inr (b, inr (a, inl h))) = absurd (no_failure p i States h)
+are_kept p i Rest (inr (b, inr (a, inr (s, inl h)))) = absurd (no_failure p i OwnPages h)
+are_kept p i Rest (inr (b, inr (a, inr (s, inr (o, inl h))))) = absurd (no_failure p i Plan h)
+are_kept p i Rest (inr (b, inr (a, inr (s, inr (o, inr (plan, rest)))))) = (record { bitmaps = b; areas = a; states = s; own = o; plan = plan }, rest)
 
 -- ---- tables
 
-standing : (x : Expansion) (files : Held) (i : Image) → IsFilled x files i → StandForTables (source_of x.lawful) i (pages_of_all i.spans) (tables_of_subjects x i)
-standing x files i h = stand_for x i (tables_of_subjects x i) refl files (pages_of_all i.spans) h refl
+standing : (p : Source) (files : Held) (i : Image) → IsFilled p files i → StandForTables p i (pages_of_all i.spans) (tables_of_subjects p i)
+standing p files i h = stand_for p files i h (pages_of_all i.spans) refl
 
-filled : (x : Expansion) (files : Held) (i : Image) → IsExpanded x → IsSound (source_of x.lawful) files i → IsFilled x files i
-filled x files i e s = record { expanded = e; parts = s.parts; contents = s.contents; many = s.plan_and_events.many }
+filled : (p : Source) (files : Held) (i : Image) → IsSound p files i → IsFilled p files i
+filled p files i s = record { lawful = s.lawful; parts = s.parts; contents = s.contents; many = s.plan_and_events.many }
 
-are_sound : (x : Expansion) (files : Held) (i : Image) → IsExpanded x → IsSound (source_of x.lawful) files i → AreSound (image_tables_of x i)
-are_sound x files i e s = (standing x files i (filled x files i e s)).sound s.walks s.tables
+are_sound : (p : Source) (files : Held) (i : Image) → IsSound p files i → AreSound (image_tables_of p i)
+are_sound p files i s = (standing p files i (filled p files i s)).sound s.walks s.tables
 
-none_found : (r : Resolution) (o : Option TableFault) → None ≡ option_map (named r) o → o ≡ None
-none_found r None h = refl
-none_found r (Some f) h = absurd (none-some (named r f) h)
+none_found : (p : Source) (o : Option TableFault) → None ≡ option_map (named p) o → o ≡ None
+none_found p None h = refl
+none_found p (Some f) h = absurd (none-some (named p f) h)
 
-twice_found : (r : Resolution) (o : Option TableFault) (f : Fault) → Some f ≡ option_map (named r) o → ((t : TableFault) → Some t ≡ o → t.kind ≡ TwiceFault) → IsTwice f
-twice_found r None f h k = absurd (none-some f (sym h))
-twice_found r (Some t) f h k = record { subject = resolved_subject_name r t.subject; addr = t.addr; is = one_value (Some f) f (named r t) refl h ∙ ap (by_kind r t) (k t refl) }
+twice_found : (p : Source) (o : Option TableFault) (f : Fault) → Some f ≡ option_map (named p) o → ((t : TableFault) → Some t ≡ o → t.kind ≡ TwiceFault) → IsTwice f
+twice_found p None f h k = absurd (none-some f (sym h))
+twice_found p (Some t) f h k = record { subject = subject_name p t.subject; addr = t.addr; is = one_value (Some f) f (named p t) refl h ∙ ap (by_kind p t) (k t refl) }
 
 -- ---- laws
 
 -- **without a fault** the image is sound
-pub no_fault_is_sound : (x : Expansion) (files : Held) (i : Image) → IsExpanded x → IsParts i → IsVerdict x files i None → IsSound (source_of x.lawful) files i
-no_fault_is_sound x files i e parts (inl h) = absurd (none-some _ h.is)
-no_fault_is_sound x files i e parts (inr (contents, first)) =
-    let k = are_kept x.lawful i (IsTableFault x i) first in
-    let stand = standing x files i (record { expanded = e; parts = parts; contents = contents; many = k.0.plan.many }) in
-    let none = none_found x.lawful (table_fault (image_tables_of x i)) k.1 in
-    let tables : AreSound (image_tables_of x i) = tables_sound (image_tables_of x i) (all_fine (is_there (memory_of i)) (tables_of_subjects x i) stand.checkable.windows) none in
+pub no_fault_is_sound : (p : Source) (files : Held) (i : Image) → IsLawful p → IsParts i → IsVerdict p files i None → IsSound p files i
+no_fault_is_sound p files i lawful parts (inl h) = absurd (none-some _ h.is)
+no_fault_is_sound p files i lawful parts (inr (contents, first)) =
+    let k = are_kept p i (IsTableFault p i) first in
+    let stand = standing p files i (record { lawful = lawful; parts = parts; contents = contents; many = k.0.plan.many }) in
+    let none = none_found p (table_fault (image_tables_of p i)) k.1 in
+    let tables : AreSound (image_tables_of p i) = tables_sound (image_tables_of p i) (all_fine (is_there (memory_of i)) (tables_of_subjects p i) stand.checkable.windows) none in
     record {
-      lawful = e.lawful;
+      lawful = lawful;
       parts = parts;
       contents = contents;
       walks = stand.walks tables;
@@ -203,24 +202,24 @@ no_fault_is_sound x files i e parts (inr (contents, first)) =
     }
 
 -- of a sound image the verdict is that on its tables
-tables_only : (x : Expansion) (files : Held) (i : Image) (o : Option Fault) → IsSound (source_of x.lawful) files i → IsVerdict x files i o → IsTableFault x i o
-tables_only x files i o s (inl h) = absurd (no_other (source_of x.lawful) files i h.owner s.contents h.fails)
-tables_only x files i o s (inr h) = last_of x.lawful i (IsTableFault x i) (each_holds x.lawful files i s) in_order o h.1
+tables_only : (p : Source) (files : Held) (i : Image) (o : Option Fault) → IsSound p files i → IsVerdict p files i o → IsTableFault p i o
+tables_only p files i o s (inl h) = absurd (no_other p files i h.owner s.contents h.fails)
+tables_only p files i o s (inr h) = last_of p i (IsTableFault p i) (each_holds p files i s) in_order o h.1
 
 -- **any fault** but that a table is read on two paths tells that it isn't sound
-pub a_fault_is_none_of_a_sound_image : (x : Expansion) (files : Held) (i : Image) (f : Fault) → IsExpanded x → IsVerdict x files i (Some f) → IsSound (source_of x.lawful) files i → IsTwice f
-a_fault_is_none_of_a_sound_image x files i f e v s =
-    twice_found x.lawful (table_fault (image_tables_of x i)) f (tables_only x files i (Some f) s v) (λ t is. tables_unsound (image_tables_of x i) t is (are_sound x files i e s))
+pub a_fault_is_none_of_a_sound_image : (p : Source) (files : Held) (i : Image) (f : Fault) → IsVerdict p files i (Some f) → IsSound p files i → IsTwice f
+a_fault_is_none_of_a_sound_image p files i f v s =
+    twice_found p (table_fault (image_tables_of p i)) f (tables_only p files i (Some f) s v) (λ t is. tables_unsound (image_tables_of p i) t is (are_sound p files i s))
 
 -- **a sound image** no table of which is read on two paths has none
-pub a_sound_image_has_no_fault : (x : Expansion) (files : Held) (i : Image) (o : Option Fault) → IsExpanded x → IsVerdict x files i o → IsSound (source_of x.lawful) files i → HasOnePathPerTable i → o ≡ None
-a_sound_image_has_no_fault x files i o e v s once =
-    tables_only x files i o s v
-    ∙ ap (option_map (named x.lawful)) (no_faults (image_tables_of x i) (are_sound x files i e s) ((standing x files i (filled x files i e s)).one_path once))
+pub a_sound_image_has_no_fault : (p : Source) (files : Held) (i : Image) (o : Option Fault) → IsVerdict p files i o → IsSound p files i → HasOnePathPerTable i → o ≡ None
+a_sound_image_has_no_fault p files i o v s once =
+    tables_only p files i o s v
+    ∙ ap (option_map (named p)) (no_faults (image_tables_of p i) (are_sound p files i s) ((standing p files i (filled p files i s)).one_path once))
 
 -- **there is one verdict**
-pub one_verdict : (x : Expansion) (files : Held) (i : Image) (a b : Option Fault) → IsVerdict x files i a → IsVerdict x files i b → a ≡ b
-one_verdict x files i a b (inl u) (inl v) = u.is ∙ ap (λ owner. Some (Fails Contents (Named owner))) (one_other (source_of x.lawful) files i u.owner v.owner u.fails v.fails) ∙ sym v.is
-one_verdict x files i a b (inl u) (inr v) = absurd (no_other (source_of x.lawful) files i u.owner v.0 u.fails)
-one_verdict x files i a b (inr u) (inl v) = absurd (no_other (source_of x.lawful) files i v.owner u.0 v.fails)
-one_verdict x files i a b (inr u) (inr v) = one_in_order x.lawful i (IsTableFault x i) (λ c d m n. m ∙ sym n) in_order a b u.1 v.1
+pub one_verdict : (p : Source) (files : Held) (i : Image) (a b : Option Fault) → IsVerdict p files i a → IsVerdict p files i b → a ≡ b
+one_verdict p files i a b (inl u) (inl v) = u.is ∙ ap (λ owner. Some (Fails Contents (Named owner))) (one_other p files i u.owner v.owner u.fails v.fails) ∙ sym v.is
+one_verdict p files i a b (inl u) (inr v) = absurd (no_other p files i u.owner v.0 u.fails)
+one_verdict p files i a b (inr u) (inl v) = absurd (no_other p files i v.owner u.0 v.fails)
+one_verdict p files i a b (inr u) (inr v) = one_in_order p i (IsTableFault p i) (λ c d m n. m ∙ sym n) in_order a b u.1 v.1

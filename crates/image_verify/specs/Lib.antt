@@ -1,3 +1,4 @@
+pub mod ByNumber
 pub mod FaultText
 pub mod Filled
 pub mod Stand

@@ -1,5 +1,5 @@
 -- Tables of subjects stand for what a policy needs of an image.
-use Rattle.std.specs.Prelude.{ℕ, List, ◌≡◌}
+use Rattle.std.specs.Prelude.{ℕ, List}
 use Rattle.ept_check.specs.Sound.{AreSound, CanBeChecked, HasOnePathPerTable}
 use Rattle.ept_check.specs.Tables.{tables_in}
 use Rattle.ept_check.specs.declared.types.SubjectTables.{SubjectTables}
@@ -8,11 +8,6 @@ use Rattle.image_memory.specs.Memory.{memory_of}
 use Rattle.image_soundness.specs.Sound.{ForEachSubject, HasWalks, ReadsTables}
 use Rattle.policy_lawful.specs.source.Source.{Source}
 use Rattle.image_soundness.specs.Paths.{HasOnePathPerTable as HasOnePath}
-use Rattle.expand_kernel.specs.Expansion.{Expansion}
-use Rattle.policy_lawful.specs.Contents.{Held}
-use Rattle.policy_lawful.specs.Resolution.{source_of}
-use Rattle.image_verify.specs.Filled.{IsFilled}
-use Rattle.image_verify.specs.TablePages.{pages_of_all}
 
 -- these, with these pages as tables
 pub record StandForTables (p : Source) (i : Image) (pages : List ℕ) (subjects : List SubjectTables) : Type 0 where
@@ -24,8 +19,3 @@ pub record StandForTables (p : Source) (i : Image) (pages : List ℕ) (subjects 
   pub sound : ForEachSubject p i (HasWalks p i) → ForEachSubject p i (λ s q. ReadsTables i q) → AreSound (tables_in (memory_of i) pages subjects)
   -- no table is read on two paths where none is in the image
   pub one_path : HasOnePath i → HasOnePathPerTable (tables_in (memory_of i) pages subjects)
-
--- .. for what this policy needs of an image that holds its contents
-abbrev pub StandWhereFilled : Expansion → Image → List SubjectTables → Type 0
-StandWhereFilled x i subjects =
-    (files : Held) (pages : List ℕ) → IsFilled x files i → pages ≡ pages_of_all i.spans → StandForTables (source_of x.lawful) i pages subjects

@@ -6,7 +6,6 @@ use Rattle.ept_check.specs.Tables.{Tables, tables_in}
 use Rattle.ept_check.specs.declared.types.FaultKind.{FaultKind}
 use Rattle.ept_check.specs.declared.types.FaultKind.TheVariants.{Lacks as LacksFault, Leak as LeakFault, Outside, Twice as TwiceFault}
 use Rattle.ept_check.specs.declared.types.TableFault.{TableFault}
-use Rattle.expand_kernel.specs.Expansion.{Expansion}
 use Rattle.image_checks.specs.Contents.{IsContentsFault}
 use Rattle.image_checks.specs.Firsts.{FailsFirst}
 use Rattle.image_checks.specs.OwnPages.{SharesWithNone}
@@ -28,27 +27,31 @@ use Rattle.image_verify.specs.declared.fault.Owner.{Owner}
 use Rattle.image_verify.specs.declared.fault.Owner.TheVariants.{Named, Plan as WholePlan}
 use Rattle.muen_num.specs.Range.{numbers_below}
 use Rattle.policy_lawful.specs.Contents.{Held}
-use Rattle.policy_lawful.specs.Resolution.{Resolution, name_at, source_of}
+use Rattle.policy_lawful.specs.Resolution.{Resolution, name_at}
 use Rattle.policy_lawful.specs.source.Source.{Source}
 use Rattle.policy_lawful.specs.source.Subject.{Subject}
 use Rattle.image_pack.specs.declared.parts.SubjectPart.{SubjectPart}
 
 -- ---- whose a condition is that fails
 
-abbrev pub subject_owner : Resolution → ℕ → Owner
-subject_owner r k = Named (name_at (map (λ s. s.name) r.subjects) k)
+-- the name of the subject at an index
+abbrev pub subject_name : Source → ℕ → List ℕ
+subject_name p k = name_at (map (λ s. s.name) p.subjects) k
+
+abbrev pub subject_owner : Source → ℕ → Owner
+subject_owner p k = Named (subject_name p k)
 
 abbrev pub named_or : List ℕ → List (List ℕ) → ℕ → List ℕ
 named_or other names k = slice_index_or names k other
 
 -- of a device: the policy's, where it has one there, else the image's
-abbrev pub device_owner : Resolution → Image → ℕ → Owner
-device_owner r i k = Named (named_or (name_at (map (λ d. d.name) i.devices) k) (map (λ d. d.name) r.devices) k)
+abbrev pub device_owner : Source → Image → ℕ → Owner
+device_owner p i k = Named (named_or (name_at (map (λ d. d.name) i.devices) k) (map (λ d. d.name) p.devices) k)
 
-abbrev pub plan_owner : Resolution → Image → PlanOwner → Owner
-plan_owner r i PlanItself = WholePlan
-plan_owner r i (OfSubject k) = subject_owner r k
-plan_owner r i (OfDevice k) = device_owner r i k
+abbrev pub plan_owner : Source → Image → PlanOwner → Owner
+plan_owner p i PlanItself = WholePlan
+plan_owner p i (OfSubject k) = subject_owner p k
+plan_owner p i (OfDevice k) = device_owner p i k
 
 -- ---- conditions that hold, and that fail first for someone
 
@@ -67,35 +70,35 @@ Holds p i Contents = Unit {0}
 Holds p i TableEntries = Unit {0}
 
 -- it fails for a subject, and for none before it
-pub record FailsFor (r : Resolution) {X : Type 0} (P : X → Type 0) (xs : List X) (owner : Owner) : Type 0 where
+pub record FailsFor (p : Source) {X : Type 0} (P : X → Type 0) (xs : List X) (owner : Owner) : Type 0 where
   pub k : ℕ
   pub first : FailsFirst P xs k
-  pub is : owner ≡ subject_owner r k
+  pub is : owner ≡ subject_owner p k
 
-pub record FailsInPlan (r : Resolution) (i : Image) (owner : Owner) : Type 0 where
+pub record FailsInPlan (p : Source) (i : Image) (owner : Owner) : Type 0 where
   pub differs : PlanOwner
-  pub first : IsPlanFault (source_of r) i (Some differs)
-  pub is : owner ≡ plan_owner r i differs
+  pub first : IsPlanFault p i (Some differs)
+  pub is : owner ≡ plan_owner p i differs
 
-abbrev pub FailsFirstFor : Resolution → Image → Condition → Owner → Type 0
-FailsFirstFor r i Bitmaps owner = FailsFor r (λ (e : Subject × SubjectPart). HasBitmaps (source_of r) i e.0 e.1) (zip (source_of r).subjects i.subjects) owner
-FailsFirstFor r i Areas owner = FailsFor r (λ (e : Subject × SubjectPart). HasArea i e.0 e.1) (zip (source_of r).subjects i.subjects) owner
-FailsFirstFor r i States owner = FailsFor r (λ (e : Subject × SubjectPart). IsFresh i e.0 e.1) (zip (source_of r).subjects i.subjects) owner
-FailsFirstFor r i OwnPages owner = FailsFor r (SharesWithNone (common (source_of r) i)) (numbers_below (length (common (source_of r) i))) owner
-FailsFirstFor r i Plan owner = FailsInPlan r i owner
-FailsFirstFor r i Contents owner = ⊥
-FailsFirstFor r i TableEntries owner = ⊥
+abbrev pub FailsFirstFor : Source → Image → Condition → Owner → Type 0
+FailsFirstFor p i Bitmaps owner = FailsFor p (λ (e : Subject × SubjectPart). HasBitmaps p i e.0 e.1) (zip p.subjects i.subjects) owner
+FailsFirstFor p i Areas owner = FailsFor p (λ (e : Subject × SubjectPart). HasArea i e.0 e.1) (zip p.subjects i.subjects) owner
+FailsFirstFor p i States owner = FailsFor p (λ (e : Subject × SubjectPart). IsFresh i e.0 e.1) (zip p.subjects i.subjects) owner
+FailsFirstFor p i OwnPages owner = FailsFor p (SharesWithNone (common p i)) (numbers_below (length (common p i))) owner
+FailsFirstFor p i Plan owner = FailsInPlan p i owner
+FailsFirstFor p i Contents owner = ⊥
+FailsFirstFor p i TableEntries owner = ⊥
 
 -- the fault is that this condition fails
-pub record IsFailure (r : Resolution) (i : Image) (c : Condition) (o : Option Fault) : Type 0 where
+pub record IsFailure (p : Source) (i : Image) (c : Condition) (o : Option Fault) : Type 0 where
   pub owner : Owner
   pub is : o ≡ Some (Fails c owner)
-  pub fails : FailsFirstFor r i c owner
+  pub fails : FailsFirstFor p i c owner
 
 -- it is that the first of these conditions fails that doesn't hold; where all hold, the rest says what it is
-abbrev pub FirstOf : Resolution → Image → (Option Fault → Type 0) → List Condition → Option Fault → Type 0
-FirstOf r i Rest [] o = Rest o
-FirstOf r i Rest (c ∷ cs) o = IsFailure r i c o ⊎ (Holds (source_of r) i c × FirstOf r i Rest cs o)
+abbrev pub FirstOf : Source → Image → (Option Fault → Type 0) → List Condition → Option Fault → Type 0
+FirstOf p i Rest [] o = Rest o
+FirstOf p i Rest (c ∷ cs) o = IsFailure p i c o ⊎ (Holds p i c × FirstOf p i Rest cs o)
 
 abbrev pub in_order : List Condition
 in_order = Bitmaps ∷ Areas ∷ States ∷ OwnPages ∷ Plan ∷ []
@@ -103,38 +106,33 @@ in_order = Bitmaps ∷ Areas ∷ States ∷ OwnPages ∷ Plan ∷ []
 -- ---- tables
 
 -- the tables of the image, with the windows of the policy where the image has what they show
-abbrev pub image_tables_of : Expansion → Image → Tables
-image_tables_of x i = tables_in (memory_of i) (pages_of_all i.spans) (tables_of_subjects x i)
+abbrev pub image_tables_of : Source → Image → Tables
+image_tables_of p i = tables_in (memory_of i) (pages_of_all i.spans) (tables_of_subjects p i)
 
-abbrev pub resolved_subject_name : Resolution → ℕ → List ℕ
-resolved_subject_name r k = name_at (map (λ s. s.name) r.subjects) k
+abbrev pub by_kind : Source → TableFault → FaultKind → Fault
+by_kind p f Outside = Fails TableEntries (subject_owner p f.subject)
+by_kind p f TwiceFault = Twice (subject_name p f.subject) f.addr
+by_kind p f LeakFault = Leak (subject_name p f.subject) f.addr
+by_kind p f LacksFault = Lacks (subject_name p f.subject) f.addr
 
-abbrev pub by_kind : Resolution → TableFault → FaultKind → Fault
-by_kind r f Outside = Fails TableEntries (subject_owner r f.subject)
-by_kind r f TwiceFault = Twice (resolved_subject_name r f.subject) f.addr
-by_kind r f LeakFault = Leak (resolved_subject_name r f.subject) f.addr
-by_kind r f LacksFault = Lacks (resolved_subject_name r f.subject) f.addr
-
-abbrev pub named : Resolution → TableFault → Fault
-named r f = by_kind r f f.kind
+abbrev pub named : Source → TableFault → Fault
+named p f = by_kind p f f.kind
 
 -- the first fault of tables
-abbrev pub IsTableFault : Expansion → Image → Option Fault → Type 0
-IsTableFault x i o = o ≡ option_map (named x.lawful) (table_fault (image_tables_of x i))
+abbrev pub IsTableFault : Source → Image → Option Fault → Type 0
+IsTableFault p i o = o ≡ option_map (named p) (table_fault (image_tables_of p i))
 
 -- ---- the whole
 
 -- the contents are another's
-pub record FailsInContents (r : Resolution) (files : Held) (i : Image) (o : Option Fault) : Type 0 where
+pub record FailsInContents (p : Source) (files : Held) (i : Image) (o : Option Fault) : Type 0 where
   pub owner : List ℕ
   pub is : o ≡ Some (Fails Contents (Named owner))
-  pub fails : IsContentsFault (source_of r) files i (Some owner)
+  pub fails : IsContentsFault p files i (Some owner)
 
 -- **the verdict**: contents, then what the kernel keeps and the plan, then tables
-abbrev pub IsVerdict : Expansion → Held → Image → Option Fault → Type 0
-IsVerdict x files i o =
-    FailsInContents x.lawful files i o
-    ⊎ (AreContents (source_of x.lawful) files i × FirstOf x.lawful i (IsTableFault x i) in_order o)
+abbrev pub IsVerdict : Source → Held → Image → Option Fault → Type 0
+IsVerdict p files i o = FailsInContents p files i o ⊎ (AreContents p files i × FirstOf p i (IsTableFault p i) in_order o)
 
 -- a table is read on two paths
 pub record IsTwice (f : Fault) : Type 0 where
@@ -155,8 +153,8 @@ pub record HasContents (p : Source) (i : Image) : Type 0 where
   pub contents : AreContents p files i
 
 -- .. and as many subjects, and keeps the conditions of its format
-pub record IsReadyFor (x : Expansion) (i : Image) : Type 0 where
+pub record IsReadyFor (p : Source) (i : Image) : Type 0 where
   pub files : Held
   pub parts : IsParts i
-  pub contents : AreContents (source_of x.lawful) files i
-  pub many : length i.subjects ≡ length (source_of x.lawful).subjects
+  pub contents : AreContents p files i
+  pub many : length i.subjects ≡ length p.subjects

@@ -1,17 +1,18 @@
 //! The verdict on an image.
 ghost use Rattle.std.specs.Prelude.{◌≡◌, ◌<◌, ◌⊎◌, Option, None, Some, length, IfOk};
-ghost use Rattle.expand_kernel.specs.Expansion.{Expansion, IsExpanded};
 ghost use Rattle.image_checks.specs.PlanFault.{IsPlanFault};
 ghost use Rattle.image_soundness.specs.ThingBytes.{thing_bytes};
 ghost use Rattle.image_pack.specs.Parts.{IsParts};
 ghost use Rattle.image_pack.specs.declared.parts.Image.{Image};
 ghost use Rattle.image_soundness.specs.Sound.{IsSound};
-ghost use Rattle.image_verify.specs.Verdict.{AreOfFiles, FirstOf, IsReadyFor, IsTableFault, IsTwice, IsVerdict, device_owner, in_order, named, plan_owner, resolved_subject_name, subject_owner};
+ghost use Rattle.image_verify.specs.Verdict.{AreOfFiles, FirstOf, IsReadyFor, IsTableFault, IsTwice, IsVerdict, device_owner, in_order, named, plan_owner, subject_name, subject_owner};
 ghost use Rattle.image_verify.specs.declared.fault.Fault.{Fault};
 ghost use Rattle.image_verify.specs.declared.fault.Fault.TheVariants.{Fails};
 ghost use Rattle.image_verify.specs.declared.fault.Owner.TheVariants.{Named};
 ghost use Rattle.policy_lawful.specs.Contents.{Held};
+ghost use Rattle.policy_lawful.specs.Lawful.{IsLawful};
 ghost use Rattle.policy_lawful.specs.Resolution.{source_of};
+ghost use Rattle.policy_lawful.specs.source.Source.{Source};
 ghost use Rattle.image_soundness.specs.Paths.{HasOnePathPerTable};
 
 use crate::fault::{Condition, Fault, Owner};
@@ -38,7 +39,7 @@ fn policy_of(expanded: &Expanded) -> &Resolved
 // The name of the subject at an index.
 fn subject_name(policy: &Resolved, index: usize) -> Name
     requires { index < length policy.now.subjects }
-    ensures { result ≡ resolved_subject_name policy.now index }
+    ensures { result ≡ subject_name (source_of policy.now) index }
 {
     policy.subjects()[index].name
 }
@@ -46,7 +47,7 @@ fn subject_name(policy: &Resolved, index: usize) -> Name
 // That this condition fails for the subject at an index.
 fn fails_for(condition: Condition, policy: &Resolved, index: usize) -> Fault
     requires { index < length policy.now.subjects }
-    ensures { result ≡ Fails condition (subject_owner policy.now index) }
+    ensures { result ≡ Fails condition (subject_owner (source_of policy.now) index) }
 {
     Fault::Fails {
         condition,
@@ -55,9 +56,10 @@ fn fails_for(condition: Condition, policy: &Resolved, index: usize) -> Fault
 }
 
 // The device at an index: the policy's, where it has one there, else the image's.
+#[tactic(auto, unfolding(policy_lawful::specs::Resolution::source_of))]
 fn device_name(policy: &Resolved, image: &Image, index: usize) -> Name
     requires { (index < length policy.now.devices) ⊎ (index < length image.now.devices) }
-    ensures { Named result ≡ device_owner policy.now image.now index }
+    ensures { Named result ≡ device_owner (source_of policy.now) image.now index }
 {
     match policy.devices().get(index) {
         Some(device) => device.name,
@@ -68,7 +70,7 @@ fn device_name(policy: &Resolved, image: &Image, index: usize) -> Name
 // Whose it is that the plan or the events differ.
 fn plan_owner(policy: &Resolved, image: &Image, differs: PlanOwner) -> Owner
     requires { IsPlanFault (source_of policy.now) image.now (Some differs) }
-    ensures { result ≡ plan_owner policy.now image.now differs }
+    ensures { result ≡ plan_owner (source_of policy.now) image.now differs }
 {
     match differs {
         PlanOwner::Plan => Owner::Plan,
@@ -79,7 +81,7 @@ fn plan_owner(policy: &Resolved, image: &Image, differs: PlanOwner) -> Owner
 
 // The first condition that fails of what the kernel keeps for each subject, and of the plan.
 fn kept_fault(alloc: Global, expanded: &Expanded, image: &Parts) -> Result<Option<Fault>, NoMemory>
-    ensures { IfOk result (FirstOf expanded.now.lawful image.now (λ o. o ≡ None) in_order) }
+    ensures { IfOk result (FirstOf (source_of expanded.now.lawful) image.now (λ o. o ≡ None) in_order) }
 {
     let policy = policy_of(expanded);
     if let Some(k) = first_by_bitmaps(alloc, expanded, image)? {
@@ -106,7 +108,7 @@ fn kept_fault(alloc: Global, expanded: &Expanded, image: &Parts) -> Result<Optio
 // A fault of tables, with the subject's name.
 fn of_tables(policy: &Resolved, fault: TableFault) -> Fault
     requires { fault.subject < length policy.now.subjects }
-    ensures { result ≡ named policy.now fault }
+    ensures { result ≡ named (source_of policy.now) fault }
 {
     let subject = subject_name(policy, fault.subject);
     let addr = fault.addr;
@@ -123,8 +125,8 @@ fn of_tables(policy: &Resolved, fault: TableFault) -> Fault
 
 // The first fault of the tables of an image that has the contents of the policy and its subjects.
 fn tables_fault(alloc: Global, expanded: &Expanded, image: Parts) -> Result<Option<Fault>, NoMemory>
-    requires { IsReadyFor expanded.now image }
-    ensures { IfOk result (IsTableFault expanded.now image) }
+    requires { IsReadyFor (source_of expanded.now.lawful) image }
+    ensures { IfOk result (IsTableFault (source_of expanded.now.lawful) image) }
 {
     let pages = table_pages(alloc, &image)?;
     let tables = subject_tables(alloc, expanded, &image)?;
@@ -152,7 +154,7 @@ pub fn verify(
     image: Parts,
 ) -> Result<Option<Fault>, NoMemory>
     requires { AreOfFiles expanded.now.lawful things }
-    ensures verdict { IfOk result (λ o. (files : Held) → things ≡ thing_bytes files expanded.now.lawful → IsVerdict expanded.now files image o) }
+    ensures verdict { IfOk result (λ o. (files : Held) → things ≡ thing_bytes files expanded.now.lawful → IsVerdict (source_of expanded.now.lawful) files image o) }
 {
     let owner = contents_fault(alloc, expanded, things.items(), &image)?;
     drop(things);
@@ -171,11 +173,11 @@ pub fn verify(
 /// What a verdict tells.
 pub fn verdicts_tell()
     // Without a fault the image is sound.
-    ensures sound { (x : Expansion) (files : Held) (i : Image) → IsExpanded x → IsParts i → IsVerdict x files i None → IsSound (source_of x.lawful) files i }
+    ensures sound { (p : Source) (files : Held) (i : Image) → IsLawful p → IsParts i → IsVerdict p files i None → IsSound p files i }
     // Any fault but that a table is read on two paths tells that it isn't.
-    ensures unsound { (x : Expansion) (files : Held) (i : Image) (f : Fault) → IsExpanded x → IsVerdict x files i (Some f) → IsSound (source_of x.lawful) files i → IsTwice f }
+    ensures unsound { (p : Source) (files : Held) (i : Image) (f : Fault) → IsVerdict p files i (Some f) → IsSound p files i → IsTwice f }
     // A sound image no table of which is read on two paths has no fault.
-    ensures complete { (x : Expansion) (files : Held) (i : Image) (o : Option Fault) → IsExpanded x → IsVerdict x files i o → IsSound (source_of x.lawful) files i → HasOnePathPerTable i → o ≡ None }
+    ensures complete { (p : Source) (files : Held) (i : Image) (o : Option Fault) → IsVerdict p files i o → IsSound p files i → HasOnePathPerTable i → o ≡ None }
     // There is one verdict.
-    ensures one { (x : Expansion) (files : Held) (i : Image) (a b : Option Fault) → IsVerdict x files i a → IsVerdict x files i b → a ≡ b }
+    ensures one { (p : Source) (files : Held) (i : Image) (a b : Option Fault) → IsVerdict p files i a → IsVerdict p files i b → a ≡ b }
 {}

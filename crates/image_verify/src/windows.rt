@@ -1,151 +1,68 @@
 //! Each subject's windows, where an image has what they show.
-ghost use Rattle.std.specs.Prelude.{◌≡◌, ◌==◌, ◌++◌, [], map, IfOk, OnOk, option_map};
-ghost use Rattle.std.specs.List.{cons_option, find};
+ghost use Rattle.std.specs.Prelude.{◌≡◌, length, map, slice_index, IfOk};
 ghost use Rattle.expand_kernel.specs.Expansion.{IsExpanded};
-ghost use Rattle.image_verify.specs.Stand.{StandWhereFilled};
-ghost use Rattle.image_verify.specs.Windows.{is_span_of, shown_span, spans_by_number, state_span, tables_of_subjects, window_on};
-ghost use Rattle.policy_lawful.specs.Thing.{region, channel, provided, device_memory};
+ghost use Rattle.image_memory.specs.Memory.{address_at};
+ghost use Rattle.image_soundness.specs.Numbered.{address_at_number};
+ghost use Rattle.image_soundness.specs.Sound.{AreContents, thing_spans};
+ghost use Rattle.image_verify.specs.ByNumber.{all_numbered_on, numbered_on};
+ghost use Rattle.image_verify.specs.Windows.{tables_of_subjects};
+ghost use Rattle.policy_lawful.specs.Contents.{Held};
+ghost use Rattle.policy_lawful.specs.Resolution.{source_of};
 
 use ept_check::{Leaf, SubjectTables, Window};
-use expand_kernel::Expanded;
-use image_pack::{Image, Parts, SpanKind, SpanPart};
-use muen_num::{Name, NoMemory, Seq, TagPart};
-use policy_lawful::{Caching, Resolved, Shown, View};
+use expand_kernel::{Expanded, GrantedWindow};
+use image_checks::thing_indexes;
+use image_pack::{Parts, span_numbered};
+use muen_num::{NoMemory, Seq};
+use policy_lawful::{Caching, ThingIndex};
 use std::alloc::Global;
 
-// ---- spans by number
+// ---- where things lie
 
-fn span_numbered(spans: &[SpanPart], number: usize) -> Option<&SpanPart>
-    ensures { option_map (λ s. s.now) result ≡ find (λ s. s.number == number) spans.now }
+// The addresses of the spans that aren't the kernel's, in the order of their numbers.
+fn thing_addresses(alloc: Global, image: &Parts) -> Result<Vec<u64>, NoMemory>
+    ensures { IfOk result (λ v. v.items ≡ map (λ e. e.0.address) (thing_spans image.now)) }
 {
-    spans.iter().find(|span| usize::from(span.number) == number)
-}
-
-// Appends the span of a number, if there is one.
-fn push_numbered(
-    numbered: &mut Vec<SpanPart>,
-    spans: &[SpanPart],
-    number: usize,
-) -> Result<(), NoMemory>
-    ensures { OnOk result (numbered.new.items ≡ numbered.old.items ++ cons_option (find (λ s. s.number == number) spans.now) []) }
-{
-    if let Some(span) = span_numbered(spans, number) {
-        numbered.push(*span)?;
+    let spans = image.image().spans.items();
+    let indexes = thing_indexes(alloc, spans)?;
+    let mut addresses = Vec::new(alloc);
+    for index in &indexes {
+        addresses.push(spans[*index].address)?;
     }
-    Ok(())
+    Ok(addresses)
 }
 
-// The spans in the order of their numbers.
-#[tactic(auto, using(crate::proofs::InTurn::number_more), unfolding(crate::specs::Windows::spans_by_number))]
-fn spans_by_number(alloc: Global, spans: &[SpanPart]) -> Result<Vec<SpanPart>, NoMemory>
-    ensures { IfOk result (λ v. v.items ≡ spans_by_number spans.now) }
+// Where the span of this number lies.
+fn span_address(image: &Parts, number: usize) -> u64
+    ensures { result ≡ address_at image.now number }
 {
-    let mut numbered = Vec::new(alloc);
-    for number in 0..spans.len() {
-        push_numbered(&mut numbered, spans, number)?;
-    }
-    Ok(numbered)
-}
-
-// ---- the spans of things, by their kinds and names
-
-fn is_region(span: &SpanPart, name: &Name) -> bool
-    ensures { result ≡ is_span_of (region name.now) span.now }
-{
-    match span.kind {
-        SpanKind::Own => span.tag.owner == *name,
-        _ => false,
+    match span_numbered(image.image().spans.items(), number) {
+        None => 0,
+        Some(span) => span.address,
     }
 }
 
-fn is_channel(span: &SpanPart, name: &Name) -> bool
-    ensures { result ≡ is_span_of (channel name.now) span.now }
+// Where the state page of the subject at an index lies.
+fn state_address(image: &Parts, subject: usize) -> u64
+    ensures { result ≡ slice_index (map (λ q. address_at image.now q.state) image.now.subjects) subject }
 {
-    match span.kind {
-        SpanKind::Channel => span.tag.owner == *name,
-        _ => false,
+    match image.image().subjects.items().get(subject) {
+        None => 0,
+        Some(part) => span_address(image, usize::from(part.state)),
     }
 }
 
-fn is_provided(span: &SpanPart, subject: &Name, logical: &Name) -> bool
-    ensures { result ≡ is_span_of (provided subject.now logical.now) span.now }
+// Where what has this number lies, the things that aren't state pages at these addresses.
+fn address_of(image: &Parts, addresses: &[u64], thing: ThingIndex) -> u64
+    requires { addresses.now ≡ map (λ e. e.0.address) (thing_spans image.now) }
+    ensures { result ≡ address_at_number image.now thing }
 {
-    match (span.kind, &span.tag.part) {
-        (SpanKind::Provided, TagPart::Named(name)) => {
-            span.tag.owner == *subject && *name == *logical
-        }
-        _ => false,
-    }
-}
-
-fn is_device_memory(span: &SpanPart, device: &Name, memory: &Name) -> bool
-    ensures { result ≡ is_span_of (device_memory device.now memory.now) span.now }
-{
-    match (span.kind, &span.tag.part) {
-        (SpanKind::Device, TagPart::Named(name)) => span.tag.owner == *device && *name == *memory,
-        _ => false,
-    }
-}
-
-// ---- what windows show
-
-fn region_span<'a>(spans: &'a [SpanPart], name: &Name) -> Option<&'a SpanPart>
-    ensures { option_map (λ s. s.now) result ≡ find (is_span_of (region name.now)) spans.now }
-{
-    spans.iter().find(|span| is_region(span, name))
-}
-
-fn channel_span<'a>(spans: &'a [SpanPart], name: &Name) -> Option<&'a SpanPart>
-    ensures { option_map (λ s. s.now) result ≡ find (is_span_of (channel name.now)) spans.now }
-{
-    spans.iter().find(|span| is_channel(span, name))
-}
-
-fn provided_span<'a>(spans: &'a [SpanPart], subject: &Name, logical: &Name) -> Option<&'a SpanPart>
-    ensures { option_map (λ s. s.now) result ≡ find (is_span_of (provided subject.now logical.now)) spans.now }
-{
-    spans
-        .iter()
-        .find(|span| is_provided(span, subject, logical))
-}
-
-fn memory_span<'a>(spans: &'a [SpanPart], device: &Name, memory: &Name) -> Option<&'a SpanPart>
-    ensures { option_map (λ s. s.now) result ≡ find (is_span_of (device_memory device.now memory.now)) spans.now }
-{
-    spans
-        .iter()
-        .find(|span| is_device_memory(span, device, memory))
-}
-
-// The span of the state page of the subject at an index.
-fn state_span(image: &Image, index: usize) -> Option<&SpanPart>
-    ensures { option_map (λ s. s.now) result ≡ state_span image.now index }
-{
-    match image.subjects.items().get(index) {
-        None => None,
-        Some(subject) => span_numbered(image.spans.items(), usize::from(subject.state)),
-    }
-}
-
-// The span of what a subject is shown.
-fn shown_span<'a>(
-    policy: &Resolved,
-    image: &'a Image,
-    numbered: &'a [SpanPart],
-    subject: &Name,
-    view: &View,
-) -> Option<&'a SpanPart>
-    ensures { option_map (λ s. s.now) result ≡ shown_span policy.now image.now numbered.now subject.now view.now view.now.shows }
-{
-    match view.shows {
-        Shown::Memory(_) => region_span(numbered, &view.name),
-        Shown::Channel(_) => channel_span(numbered, &view.name),
-        Shown::Provided(_) => provided_span(numbered, subject, &view.name),
-        Shown::Device(device, _) => match policy.devices().get(device) {
-            None => None,
-            Some(device) => memory_span(numbered, &device.name, &view.name),
+    match thing {
+        ThingIndex::Declared(number) => match addresses.get(number) {
+            None => 0,
+            Some(address) => *address,
         },
-        Shown::State(other) => state_span(image, other),
+        ThingIndex::State(subject) => state_address(image, subject),
     }
 }
 
@@ -153,24 +70,15 @@ fn shown_span<'a>(
 
 // A window where the image has what it shows. Where walks lead doesn't depend on its memory type nor on
 // the pages by which it may be mapped: they are write-back and of 4 KiB.
-fn window_on(
-    policy: &Resolved,
-    image: &Image,
-    numbered: &[SpanPart],
-    subject: &Name,
-    view: &View,
-) -> Window
-    ensures { result ≡ window_on policy.now image.now numbered.now subject.now view.now }
+fn window_on(image: &Parts, addresses: &[u64], window: &GrantedWindow) -> Window
+    requires { addresses.now ≡ map (λ e. e.0.address) (thing_spans image.now) }
+    ensures { result ≡ numbered_on image.now window.now }
 {
-    let address = match shown_span(policy, image, numbered, subject, view) {
-        None => 0,
-        Some(span) => span.address,
-    };
     Window {
-        guest: view.guest,
-        size: view.size,
-        address,
-        rights: view.rights,
+        guest: window.guest,
+        size: window.size,
+        address: address_of(image, addresses, window.thing),
+        rights: window.rights,
         caching: Caching::Wb,
         leaf: Leaf::Small,
     }
@@ -178,26 +86,25 @@ fn window_on(
 
 fn windows_on(
     alloc: Global,
-    policy: &Resolved,
-    image: &Image,
-    numbered: &[SpanPart],
-    subject: &Name,
-    views: &[View],
+    image: &Parts,
+    addresses: &[u64],
+    granted: &[GrantedWindow],
 ) -> Result<Vec<Window>, NoMemory>
-    ensures { IfOk result (λ v. v.items ≡ map (window_on policy.now image.now numbered.now subject.now) views.now) }
+    requires { addresses.now ≡ map (λ e. e.0.address) (thing_spans image.now) }
+    ensures { IfOk result (λ v. v.items ≡ all_numbered_on image.now granted.now) }
 {
     let mut windows = Vec::new(alloc);
-    for view in views {
-        windows.push(window_on(policy, image, numbered, subject, view))?;
+    for window in granted {
+        windows.push(window_on(image, addresses, window))?;
     }
     Ok(windows)
 }
 
 /// The tables of each subject that a policy and an image both have, with its windows by guest address
-/// where the image has what they show: a region, channel, provided region or device's memory at the
-/// address of the first span by number that has its kind and name, a state page where the monitored
-/// subject's part of the image says, and at 0 what the image hasn't. All windows are write-back, and
-/// mapped by pages of 4 KiB: where walks lead doesn't depend on it.
+/// where the image has what they show: a thing at the address of the span of its number, among those that
+/// aren't the kernel's, a state page where the monitored subject's part of the image says, and at 0 what
+/// the image hasn't. All windows are write-back, and mapped by pages of 4 KiB: where walks lead doesn't
+/// depend on it.
 ///
 /// # Errors
 /// Memory is refused.
@@ -206,25 +113,20 @@ pub fn subject_tables(
     expanded: &Expanded,
     image: &Parts,
 ) -> Result<Vec<SubjectTables>, NoMemory>
-    ensures tables { IfOk result (λ v. v.items ≡ tables_of_subjects expanded.now image.now) }
-    // over an image that has the contents of the policy they stand for the walks that it needs
-    ensures stand { IfOk result (λ v. StandWhereFilled expanded.now image.now v.items) }
+    // over an image that has the contents of the policy over some files, and as many subjects
+    ensures tables { IfOk result (λ v. (files : Held) → AreContents (source_of expanded.now.lawful) files image.now
+        → length image.now.subjects ≡ length (source_of expanded.now.lawful).subjects → v.items ≡ tables_of_subjects (source_of expanded.now.lawful) image.now) }
     // all stands that follows from the policy, since its type says so
     ensures expanded { IsExpanded expanded.now }
 {
-    let policy = expanded.lawful().resolved();
-    let subjects = policy.subjects();
     let grants = expanded.grants();
-    let image = image.image();
-    let parts = image.subjects.items();
-    let numbered = spans_by_number(alloc, image.spans.items())?;
+    let parts = image.image().subjects.items();
+    let addresses = thing_addresses(alloc, image)?;
     let mut tables = Vec::new(alloc);
-    for k in 0..subjects.len().min(grants.len()).min(parts.len()) {
-        let subject = &subjects[k];
-        let views = grants[k].views.items();
-        let windows = windows_on(alloc, policy, image, &numbered, &subject.name, views)?;
+    for (granted, part) in grants.iter().zip(parts) {
+        let windows = windows_on(alloc, image, &addresses, granted.windows.items())?;
         tables.push(SubjectTables {
-            eptp: parts[k].eptp,
+            eptp: part.eptp,
             windows: Seq::of(windows),
         })?;
     }

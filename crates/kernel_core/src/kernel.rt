@@ -10,7 +10,7 @@ ghost use Rattle.kernel_core.specs.Slots.{AreSlotsKept};
 ghost use Rattle.kernel_core.specs.Ticks.{acted, acted_line, kernel_started, with_live};
 
 use crate::exit::{event_of, exit_end_of};
-use crate::on_cpus::{nobody, on_cpu, put_on};
+use crate::on_cpus::{on_cpu, put_on};
 use crate::setup::Setup;
 use crate::slots::{KeptSlot, no_slots, slot_at};
 use crate::turn::{Standing, Turn};
@@ -75,7 +75,7 @@ fn at_start(alloc: Global, setup: &Setup, cpus: u8) -> Result<AtStart, NoMemory>
 {
     Ok(AtStart {
         router: Router::start(alloc, setup.subjects.items(), setup.plan.groups.items())?,
-        on: nobody(alloc, cpus)?,
+        on: vec![in alloc; None; cpus as usize]?,
         slots: no_slots(alloc, cpus)?,
     })
 }

@@ -1,16 +1,6 @@
 //! Which subject is on which CPU, by numbers.
-ghost use Rattle.std.specs.Prelude.{◌≡◌, ◌<◌, length, replicate, slice_get, Option, None, Some, IfOk};
+ghost use Rattle.std.specs.Prelude.{◌≡◌, ◌<◌, length, slice_get, Option, None, Some};
 ghost use Rattle.muen_num.specs.ListChange.{change_at};
-
-use muen_num::NoMemory;
-use std::alloc::Global;
-
-/// Nobody is on so many CPUs.
-pub(crate) fn nobody(alloc: Global, cpus: u8) -> Result<Vec<Option<u8>>, NoMemory>
-    ensures { IfOk result (λ v. v.items ≡ replicate cpus None) }
-{
-    Ok(vec![in alloc; None; cpus as usize]?)
-}
 
 /// Who is on a CPU. None where there is no such CPU.
 pub(crate) fn on_cpu(on: &[Option<u8>], cpu: usize) -> Option<Option<u8>>

@@ -1,3 +1,3 @@
+pub mod ByNumber
 pub mod Lines
 pub mod MapText
-pub mod Views

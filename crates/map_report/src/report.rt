@@ -4,17 +4,16 @@ ghost use Rattle.std.specs.List.{flat_map};
 ghost use Rattle.muen_outside.specs.Prints.{Prints};
 ghost use Rattle.muen_outside.specs.Puts.{Puts};
 ghost use Rattle.policy_lawful.specs.Resolution.{IsResolved, source_of};
+ghost use Rattle.map_report.specs.ByNumber.{all_granted_lines, granted_line, granted_lines, map_lines, memory_line, windows_at};
 ghost use Rattle.map_report.specs.MapText.{map_text_of, region_lines};
-ghost use Rattle.map_report.specs.Views.{all_view_lines, device_lines, map_lines, memory_line, view_line, view_lines, views_at};
 
 use crate::lines::{Laid, RegionLine, WindowLine};
 use crate::shown::tag;
-use expand_kernel::{Grants, Region};
-use muen_num::{Name, Tag, TagPart};
+use expand_kernel::{GrantedWindow, Grants, Region};
+use muen_num::Name;
 use muen_outside::{Buffer, BufferedSink, Sink, SinkFault};
 use policy_lawful::resolved::Subject;
-use policy_lawful::source::{Device, DeviceMemory};
-use policy_lawful::{Resolved, View};
+use policy_lawful::{Resolved, Thing};
 use region_alloc::Placed;
 
 // The regions at these addresses.
@@ -39,65 +38,51 @@ fn put_regions<S: Sink>(
     Ok(())
 }
 
-// Memory of the device of this name.
-fn put_memory<S: Sink>(
-    device: Name,
-    memory: &DeviceMemory,
-    out: &mut BufferedSink<'_, S>,
-) -> Result<(), SinkFault>
-    ensures { Prints S.state (memory_line device memory.now) out.old out.new result }
+// Memory of a device, if it is told where it has to be.
+#[tactic(auto, using(muen_outside::proofs::Buffered::gives))]
+fn put_device<S: Sink>(thing: &Thing, out: &mut BufferedSink<'_, S>) -> Result<(), SinkFault>
+    ensures { Prints S.state (memory_line thing.now) out.old out.new result }
 {
+    let Some(address) = thing.fixed else {
+        return Ok(());
+    };
     let line = RegionLine {
         laid: Laid::Device,
-        address: memory.physical_address,
-        size: memory.size,
-        tag: Tag {
-            owner: device,
-            part: TagPart::Named(memory.name),
-        },
+        address,
+        size: thing.size,
+        tag: thing.tag,
     };
     out.put_line(&line)
 }
 
-// All memory of a device.
 #[tactic(auto, using(muen_outside::proofs::Buffered::items))]
-fn put_device<S: Sink>(device: &Device, out: &mut BufferedSink<'_, S>) -> Result<(), SinkFault>
-    ensures { Prints S.state (flat_map (memory_line device.now.name) device.now.memory) out.old out.new result }
+fn put_devices<S: Sink>(things: &[Thing], out: &mut BufferedSink<'_, S>) -> Result<(), SinkFault>
+    ensures { Prints S.state (flat_map memory_line things.now) out.old out.new result }
 {
-    for memory in device.memory.items() {
-        put_memory(device.name, memory, out)?;
-    }
-    Ok(())
-}
-
-#[tactic(auto, using(muen_outside::proofs::Buffered::items))]
-fn put_devices<S: Sink>(devices: &[Device], out: &mut BufferedSink<'_, S>) -> Result<(), SinkFault>
-    ensures { Prints S.state (device_lines devices.now) out.old out.new result }
-{
-    for device in devices {
-        put_device(device, out)?;
+    for thing in things {
+        put_device(thing, out)?;
     }
     Ok(())
 }
 
 // A window of the subject of this name, if what it shows is there.
 #[tactic(auto, using(muen_outside::proofs::Buffered::gives))]
-fn put_view<S: Sink>(
+fn put_window<S: Sink>(
     policy: &Resolved,
     subject: Name,
-    view: &View,
+    window: &GrantedWindow,
     out: &mut BufferedSink<'_, S>,
 ) -> Result<(), SinkFault>
-    ensures { Prints S.state (view_line policy.now subject view.now) out.old out.new result }
+    ensures { Prints S.state (granted_line policy.now subject window.now) out.old out.new result }
 {
-    let Some(tag) = tag(policy, subject, view) else {
+    let Some(tag) = tag(policy, window.thing) else {
         return Ok(());
     };
     let line = WindowLine {
         subject,
-        guest: view.guest,
-        size: view.size,
-        rights: view.rights,
+        guest: window.guest,
+        size: window.size,
+        rights: window.rights,
         tag,
     };
     out.put_line(&line)
@@ -105,42 +90,42 @@ fn put_view<S: Sink>(
 
 // The windows of the subject of this name.
 #[tactic(auto, using(muen_outside::proofs::Buffered::items))]
-fn put_views<S: Sink>(
+fn put_windows<S: Sink>(
     policy: &Resolved,
     subject: Name,
-    views: &[View],
+    windows: &[GrantedWindow],
     out: &mut BufferedSink<'_, S>,
 ) -> Result<(), SinkFault>
-    ensures { Prints S.state (view_lines policy.now subject views.now) out.old out.new result }
+    ensures { Prints S.state (granted_lines policy.now subject windows.now) out.old out.new result }
 {
-    for view in views {
-        put_view(policy, subject, view, out)?;
+    for window in windows {
+        put_window(policy, subject, window, out)?;
     }
     Ok(())
 }
 
-// The views of the subject at an index.
-fn views_at(grants: &[Grants], index: usize) -> &[View]
-    ensures { result.now ≡ views_at grants.now index }
+// The windows of the subject at an index.
+fn windows_at(grants: &[Grants], index: usize) -> &[GrantedWindow]
+    ensures { result.now ≡ windows_at grants.now index }
 {
     match grants.get(index) {
-        Some(grants) => grants.views.items(),
+        Some(grants) => grants.windows.items(),
         None => &[],
     }
 }
 
 // The windows of these subjects.
 #[tactic(auto, using(muen_outside::proofs::Buffered::items))]
-fn put_windows<S: Sink>(
+fn put_all_windows<S: Sink>(
     policy: &Resolved,
     subjects: &[Subject],
     grants: &[Grants],
     out: &mut BufferedSink<'_, S>,
 ) -> Result<(), SinkFault>
-    ensures { Prints S.state (all_view_lines policy.now grants.now 0 subjects.now) out.old out.new result }
+    ensures { Prints S.state (all_granted_lines policy.now grants.now 0 subjects.now) out.old out.new result }
 {
     for (index, subject) in subjects.iter().enumerate() {
-        put_views(policy, subject.name, views_at(grants, index), out)?;
+        put_windows(policy, subject.name, windows_at(grants, index), out)?;
     }
     Ok(())
 }
@@ -160,8 +145,8 @@ fn put_map<S: Sink>(
 {
     let subjects = policy.subjects();
     put_regions(addresses, regions, out)?;
-    put_devices(policy.devices(), out)?;
-    put_windows(policy, subjects, grants, out)
+    put_devices(policy.device_things(), out)?;
+    put_all_windows(policy, subjects, grants, out)
 }
 
 // The same through a buffer in which nothing waits before, and to its end.

@@ -3,28 +3,21 @@ use Rattle.std.proofs.Common.{◌≡◌, ℕ, ◌+◌, ◌-◌, List, [], ◌∷
 use Rattle.std.specs.Prelude.{replicate}
 use Rattle.std.specs.List.{flat_map}
 use Rattle.std.proofs.Math.Seq.{take-append_seam}
-use Rattle.std.proofs.lemmas.List.{length-map, length-replicate, length-take, take_all}
+use Rattle.std.proofs.lemmas.List.{length-map, length-replicate, length-take}
 use Rattle.std.proofs.lemmas.Slice.Zip.{AllZip-long}
+use Rattle.expand_kernel.specs.ByIndex.{kernel_first}
 use Rattle.expand_kernel.specs.Regions.{kernel_regions_of, region_of, regions_of}
 use Rattle.image_emit.specs.Made.{IsFilled}
 use Rattle.muen_build.specs.Accepting.{Files}
 use Rattle.muen_build.specs.Reading.{content_read, read_bytes, sized, things_read}
-use Rattle.muen_num.proofs.Lists.{map-flat_map}
 use Rattle.policy_lawful.proofs.ThingsByIndex.{placed_by_index}
-use Rattle.policy_lawful.specs.ByIndex.{provided_at}
 use Rattle.policy_lawful.specs.Contents.{file_part}
 use Rattle.policy_lawful.specs.Resolution.{IsResolved, Resolution, source_of}
 use Rattle.policy_lawful.specs.Thing.{Item, placed_items}
 use Rattle.policy_lawful.specs.Things.{IsThingOf, placed_things}
-use Rattle.policy_lawful.specs.declared.resolved.Subject.{Subject}
-use Rattle.policy_lawful.specs.source.Channel.{Channel}
 use Rattle.policy_lawful.specs.source.Content.{Content}
 use Rattle.policy_lawful.specs.source.Content.TheVariants.{Zero, Fill, Inline, File}
-use Rattle.policy_lawful.specs.source.Provided.{Provided}
-use Rattle.policy_lawful.specs.source.Region.{Region}
 use Rattle.region_alloc.specs.Placed.{Placement}
-use Rattle.proof_build.specs.Mapped.{kernel_first}
-use Rattle.image_soundness.proofs.ThingsInOrder.{placed_told}
 
 -- ---- one content
 
@@ -51,21 +44,8 @@ module _ (given found : Files) where
   -- the kernel's regions come next
   first_many : (r : Resolution) → IsResolved r → length (placed_items (source_of r)) ≡ kernel_first r 0
   first_many r resolved =
-      let provided = flat_map (λ (s : Subject). provided_at r.components s.component) r.subjects in
-      let memory = map (λ (m : Region). m.size) r.memory in
-      let channels = map (λ (c : Channel). c.size) r.channels in
-      let brought = flat_map (λ (s : Subject). map (λ (x : Provided). x.size) (provided_at r.components s.component)) r.subjects in
       let as_many = AllZip-long (IsThingOf r (source_of r)) (placed_items (source_of r)) (placed_things r) (placed_by_index r resolved) in
-      let by_number = ap length (placed_told (λ t. t.size) r (λ m. m.size) (λ subject x. x.size) (λ k m at. refl) (λ subject used k x is. refl)) in
-      let all = length-map (placed_things r) (λ t. t.size) in
-      let a = length-append (memory ++ channels) brought in
-      let b = length-append memory channels in
-      let c = length-map r.memory (λ m. m.size) in
-      let d = length-map r.channels (λ c. c.size) in
-      let e = ap length (map-flat_map (λ (x : Provided). x.size) (λ (s : Subject). provided_at r.components s.component) r.subjects) in
-      let f = length-map provided (λ x. x.size) in
-      let whole = ap (λ ss. length (flat_map (λ (s : Subject). provided_at r.components s.component) ss)) (take_all (length r.subjects) r.subjects (omega arith)) in
-      omega (arith, as_many, by_number, all, a, b, c, d, e, f, whole)
+      omega (arith, as_many)
 
   -- they have the sizes of the regions
   pub things_filled : (x : Placement) → IsResolved x.expanded.lawful → x.expanded.regions ≡ regions_of (source_of x.expanded.lawful) → IsFilled x (things_read given found (source_of x.expanded.lawful))

@@ -1,6 +1,5 @@
 // The final lines of regions and of devices' memories.
-ghost use Rattle.std.specs.Prelude.{◌≡◌, ◌+◌, ◌/◌, ◌^◌, ◌<◌, ◌≤◌, ◌==◌, option_map};
-ghost use Rattle.std.specs.List.{find};
+ghost use Rattle.std.specs.Prelude.{◌≡◌, ◌+◌, ◌/◌, ◌^◌, ◌<◌, ◌≤◌};
 ghost use Rattle.sha2.specs.Sha256.{sha256};
 ghost use Rattle.muen_outside.specs.Prints.{Prints};
 ghost use Rattle.kernel_core.specs.Machine.{page_bytes_at};
@@ -9,7 +8,7 @@ ghost use Rattle.image_load.specs.Memory.{AreLow, IsLow};
 ghost use Rattle.muen_run.specs.RunText.{bytes_from, digest_in, numbered_span_text, prints_as, spans_text};
 
 use ept_walk::PhysMem;
-use image_pack::{SpanKind, SpanPart};
+use image_pack::{SpanKind, SpanPart, span_numbered};
 use muen_num::Tag;
 use muen_num::limits::PAGE;
 use muen_outside::{BufferedSink, PrintedLine, Sink, SinkFault};
@@ -83,13 +82,6 @@ fn prints_as(device: bool, kind: SpanKind) -> bool
         SpanKind::Kernel => false,
         SpanKind::Device => device,
     }
-}
-
-// The span with this number.
-fn span_numbered(spans: &[SpanPart], n: usize) -> Option<&SpanPart>
-    ensures { option_map (λ s. s.now) result ≡ find (λ s. s.number == n) spans.now }
-{
-    spans.iter().find(|span| usize::from(span.number) == n)
 }
 
 // The line of the span with this number, where it is printed.

@@ -6,10 +6,11 @@ use Rattle.muen_outside.specs.Puts.{Failed}
 use Rattle.muen_outside.specs.States.{Look, SinkState, Write}
 use Rattle.muen_outside.specs.Store.{Store}
 use Rattle.policy_lawful.specs.refusal.Refusal.{Refusal}
-use Rattle.muen_top.specs.Answers.{Reason, usage, missing, too_long, refused, image_refused, dma_refused, record_refused, Answer, stops}
-use Rattle.muen_top.specs.Calls.{IsDone, IsFault, IsStopped, Prints, StopsFor, OutcomeSays, FaultOfFiles, WantOfMemory, RefusesPolicy, LacksFile, RefusesImage, RefusesDma, RefusesRecord}
+use Rattle.muen_top.specs.Answers.{Reason, usage, missing, too_long, refused, image_refused, dma_refused, record_refused, Answer, judges, prints, stops, writes}
+use Rattle.muen_top.specs.Calls.{IsDone, IsFault, IsStopped, Prints, StopsFor, OutcomeSays, FaultOfFiles, WantOfMemory}
 use Rattle.muen_top.specs.FilesSeen.{OverLooks}
-use Rattle.muen_top.specs.Reports.{reason_status, reason_text, refusal_status, status_of, error_status, error_text, Told, Reported}
+use Rattle.muen_top.specs.Refusals.{FindsFault, LacksFile, RefusesDma, RefusesImage, RefusesPolicy, RefusesRecord}
+use Rattle.muen_top.specs.Reports.{Ends, reason_status, reason_text, refusal_status, status_of, error_status, error_text, Told, Reported}
 use Rattle.muen_top.specs.Verdicts.{Finds}
 use Rattle.muen_top.specs.declared.outcome.CommandError.{CommandError}
 use Rattle.muen_top.specs.declared.outcome.CommandError.TheVariants.{Usage, Missing, TooLong, Refused, ImageRefused, DmaRefused, RecordRefused, NotSound, FileFault, NoMemory}
@@ -30,6 +31,7 @@ module _ (err err' : SinkState) where
   Refuses statuses.ImageRefused answer = RefusesImage err err' answer
   Refuses statuses.DmaRefused answer = RefusesDma err err' answer
   Refuses statuses.RecordRefused answer = RefusesRecord err err' answer
+  Refuses statuses.NotSound answer = FindsFault err err' answer
   Refuses _ answer = Unit {0}
 
   -- that of a refused policy is its refusal's
@@ -48,6 +50,14 @@ module _ (err err' : SinkState) where
   by_reason (image_refused fault) told = told
   by_reason (dma_refused fault) told = told
   by_reason (record_refused fault) told = told
+
+  -- so does the status with which a call ends that is answered so
+  pub ends_tell : (answer : Answer) (status : Status) → Ends answer err err' status → Refuses status answer
+  ends_tell (prints text) status ends = subst (λ s. Refuses s (prints text)) (sym ends.0) tt
+  ends_tell (writes image tables p files) status ends = subst (λ s. Refuses s (writes image tables p files)) (sym ends.0) tt
+  ends_tell (judges p files bytes i) status (inl ends) = subst (λ s. Refuses s (judges p files bytes i)) (sym ends.1) tt
+  ends_tell (judges p files bytes i) status (inr ends) = subst (λ s. Refuses s (judges p files bytes i)) (sym ends.2) (ends.0, ends.1, ends.3)
+  ends_tell (stops reason) status ends = subst (λ s. Refuses s (stops reason)) (sym ends.0) (by_reason reason ends.1)
 
 -- ---- what came of a command whose answer over a store is this
 

@@ -1,5 +1,5 @@
 -- The clauses of a whole call, from what came of its command.
-use Rattle.std.proofs.Common.{◌≡◌, inl, inr, ◌⊎◌, ◌≢◌, ℕ, ◌+◌, List, [], ◌∷◌, length, drop, Option, Some, None, IfSome, Ok, Err, refl, sym, ap, subst, ◌∙◌, arith}
+use Rattle.std.proofs.Common.{◌≡◌, inl, inr, ◌⊎◌, ◌≢◌, ℕ, ◌+◌, List, [], ◌∷◌, ◌++◌, length, drop, Option, Some, None, IfSome, Ok, Err, refl, sym, ap, subst, ◌∙◌, arith}
 use Rattle.std.specs.List.{All}
 use Rattle.std.proofs.Math.Seq.{drop-append_seam}
 use Rattle.std.proofs.lemmas.List.Elements.{All-head, All-pop}
@@ -15,11 +15,13 @@ use Rattle.muen_outside.specs.declared.files.FileError.TheVariants.{Failed as Fi
 use Rattle.policy_lawful.specs.source.Source.{Source}
 use Rattle.muen_top.specs.Answers.{Reason, Answer, prints, writes, judges, stops, answer_of}
 use Rattle.muen_top.specs.Asked.{Asks}
-use Rattle.muen_top.specs.Calls.{IsDone, Prints, Unwritten, OutcomeSays, FaultOfFiles, IsCallOf, IsFault, Answered, answer_to, DoesAnswer, PrintsFront, EndsAnswered, FilesFailed, MemoryRefused, RefusesPolicy, LacksFile, RefusesImage, RefusesDma, RefusesRecord, FindsFault}
-use Rattle.muen_top.specs.Commands.{build, verify, command_of}
+use Rattle.muen_top.specs.Calls.{IsDone, Prints, Unwritten, OutcomeSays, FaultOfFiles, IsCallOf, IsFault, Answered, answer_to, DoesAnswer, PrintsFront, EndsAnswered, FilesFailed, MemoryRefused}
+use Rattle.muen_top.specs.Commands.{build, load, command_of}
 use Rattle.muen_top.specs.Complete.{IsComplete, IsWhole, NothingFails}
 use Rattle.muen_top.specs.Headline.{BuildWritesImage, PrintsText, VerifyAcceptsBuilt, VerifyTellsFault, VerifyTellsSound}
 use Rattle.muen_top.specs.Images.{Wrote, image_last, tables_last}
+use Rattle.muen_top.specs.LoadLaws.{IsLoadStatus, LoadEnds}
+use Rattle.muen_top.specs.LoadText.{load_text}
 use Rattle.muen_top.specs.Reports.{error_line, reason_text, sound_text, Told, Ends}
 use Rattle.muen_top.specs.Verdicts.{Finds}
 use Rattle.muen_top.specs.declared.status.Status.{Status}
@@ -66,6 +68,11 @@ last_well ws image tables p files well (image_last bytes of last is) =
     All-head (λ w. w.end ≢ Err FileFailed) (write image bytes (Err FileFailed)) [] (subst (All (λ w. w.end ≢ Err FileFailed)) is well) refl
 last_well ws image tables p files well (tables_last bytes of name file named tables_of is) =
     (All-pop (λ w. w.end ≢ Err FileFailed) ws (write image bytes (Ok tt) ∷ []) (Some (write name file (Err FileFailed))) is well).1 refl
+
+-- no look is the last of none
+none_ends : (front : List Look) (l : Look) → [] ≡ front ++ l ∷ [] → ⊥
+none_ends [] l e = cc (e)
+none_ends (x ∷ xs) l e = cc (e)
 
 -- ---- a whole call
 
@@ -142,25 +149,9 @@ module _ {words : List (List ℕ)} {held held' : Option Store} {old new : Histor
   usage_clause one =
       no_usage there.0 (command_of words) (refused_by statuses.Usage (came_by statuses.Usage one) there.0 there.1)
 
-  -- 2: the policy is refused
-  pub policy_clause : status ≡ statuses.PolicyRefused → Answered words looks (RefusesPolicy err err')
-  policy_clause two = refused_by statuses.PolicyRefused (came_by statuses.PolicyRefused two)
-
-  -- 3: a file is missing, or too long
-  pub file_clause : status ≡ statuses.FileMissing → Answered words looks (LacksFile err err')
-  file_clause three = refused_by statuses.FileMissing (came_by statuses.FileMissing three)
-
   -- 4: a look or a write has failed
   pub fault_clause : status ≡ statuses.FileFault → FilesFailed words old new
   fault_clause four = came_by statuses.FileFault four
-
-  -- 5: the image is refused
-  pub image_clause : status ≡ statuses.ImageRefused → Answered words looks (RefusesImage err err')
-  image_clause five = refused_by statuses.ImageRefused (came_by statuses.ImageRefused five)
-
-  -- 6: the record is refused
-  pub record_clause : status ≡ statuses.RecordRefused → Answered words looks (RefusesRecord err err')
-  record_clause six = refused_by statuses.RecordRefused (came_by statuses.RecordRefused six)
 
   -- 7: a front of the text is put
   pub prefix_clause : status ≡ statuses.OutputFault → PrintsFront words looks out out'
@@ -169,14 +160,6 @@ module _ {words : List (List ℕ)} {held held' : Option Store} {old new : Histor
   -- 8: memory was refused
   pub memory_clause : status ≡ statuses.NoMemory → MemoryRefused words old new
   memory_clause eight = came_by statuses.NoMemory eight
-
-  -- 9: the image isn't sound
-  pub found_clause : status ≡ statuses.NotSound → Answered words looks (FindsFault err err')
-  found_clause nine = let found = came_by statuses.NotSound nine in λ m s. (found.fault, found.finds m s, found.told)
-
-  -- 10: the tables are refused
-  pub dma_clause : status ≡ statuses.DmaRefused → Answered words looks (RefusesDma err err')
-  dma_clause ten = refused_by statuses.DmaRefused (came_by statuses.DmaRefused ten)
 
   -- ---- by what came
 
@@ -300,6 +283,26 @@ module _ {words : List (List ℕ)} {held held' : Option Store} {old new : Histor
       (λ is did quiet. (is, (subst (λ a. IsDone a ws out out') eq (did m s)).1))
       (λ stop. absurd (prints_not_stops text stop.reason (sym eq ∙ stop.answers m s)))
       (λ is found. absurd (subst (λ a. Finds a (Some found.fault)) eq (found.finds m s)))
+
+  -- `load` looks at no file
+  no_fault_of_load : (number : ℕ) → command_of words ≡ Some (load number) → FaultOfFiles (answer_to words) looks ws → ⊥
+  no_fault_of_load number asked (inl ends) =
+      let none : looks ≡ [] = subst (λ c. Asks c looks) asked asked_clause in
+      none_ends ends.0.front (look ends.0.name ends.0.most (Err FileFailed)) (sym none ∙ ends.0.is)
+  no_fault_of_load number asked (inr unwritten) = subst (Unwritten FileFailed ws) (ap (answer_of there.0) asked) (unwritten there.0 there.1)
+
+  -- and puts a text
+  pub loads_clause : LoadEnds words status
+  loads_clause number asked =
+      let answers : answer_to words there.0 ≡ prints (load_text number) = ap (answer_of there.0) asked in
+      elim came [
+        | done is did quiet ↦ subst IsLoadStatus (sym is) tt
+        | cut_off is put none ↦ subst IsLoadStatus (sym is) tt
+        | stopped stop ↦ absurd (prints_not_stops (load_text number) stop.reason (sym answers ∙ stop.answers there.0 there.1))
+        | condemned is found ↦ absurd (subst (λ a. Finds a (Some found.fault)) answers (found.finds there.0 there.1))
+        | failed is fault quiet ↦ absurd (no_fault_of_load number asked fault)
+        | no_memory is want quiet ↦ subst IsLoadStatus (sym is) tt
+      ]
 
   -- ---- where a verdict is asked for
 

@@ -22,7 +22,7 @@ or_told F held looks P agrees (inl fault) = inl fault
 or_told F held looks P agrees (inr all) = inr (over_told held looks P agrees all)
 
 -- what writes leave that have ended well
-all_left : (image : List ℕ) (dma : Option (List ℕ)) (p : Source) (files m : Store) (held held' : Option Store) (ws : List Write) → held ≡ Some m → HeldAfter ws held held' → Wrote image dma p files (Ok tt) ws → held' ≡ Some (after_writes m ws)
+pub all_left : (image : List ℕ) (dma : Option (List ℕ)) (p : Source) (files m : Store) (held held' : Option Store) (ws : List Write) → held ≡ Some m → HeldAfter ws held held' → Wrote image dma p files (Ok tt) ws → held' ≡ Some (after_writes m ws)
 all_left image dma p files m held held' ws is left (image_last bytes is_image last one) =
     let after : HeldAfter (write image bytes (Ok tt) ∷ []) held held' = subst (λ x. HeldAfter x held held') one left in
     after.2 ∙ after.1 ∙ ap (λ h. insert_known h image bytes) is ∙ ap (λ x. Some (after_writes m x)) (sym one)

@@ -1,7 +1,5 @@
 -- What the program answers where files hold a policy, or an image that is sound for one, and a record of its devices.
 use Rattle.std.proofs.Common.{◌≡◌, ℕ, List, Option, None, Some, refl, sym, ap, ◌∙◌}
-use Rattle.std.specs.Prelude.{IsTrue}
-use Rattle.std.proofs.lemmas.List.Elements.{All-weaker}
 use Rattle.image_pack.specs.Faults.{unpacked}
 use Rattle.image_pack.proofs.Theorem.{back}
 use Rattle.dma_tables.specs.DmaFile.{dma_file}
@@ -12,19 +10,13 @@ use Rattle.image_pack.specs.Image.{image as image_form}
 use Rattle.image_pack.specs.declared.parts.Image.{Image}
 use Rattle.image_pack.proofs.ImageLaws.{image_laws}
 use Rattle.muen_build.specs.Refusals.{accepted_policy_of}
-use Rattle.muen_build.proofs.Refusing.{accepted_lawful}
 use Rattle.muen_outside.specs.Store.{Store}
 use Rattle.policy_lawful.specs.Contents.{Held}
 use Rattle.policy_lawful.specs.source.Source.{Source}
 use Rattle.record_text.specs.DeviceRecord.{DeviceRecord}
-use Rattle.record_text.specs.Law.{NamesEachOnce}
 use Rattle.record_text.specs.Reading.{record_of}
-use Rattle.muen_num.specs.Numbers.{are_distinct}
 use Rattle.proof_runs.proofs.ImageRuns.{image_bench_is, image_runs}
-use Rattle.flow_report.specs.TwoTexts.{HasDistinctOrders, PrintsMembersAlike}
-use Rattle.flow_report.proofs.TwoEnds.{printed_alike}
 use Rattle.proof_runs.specs.Fit.{Fit}
-use Rattle.proof_runs.proofs.RecordFacts.{record_is_read}
 use Rattle.subject_model.specs.Trace.{trace_of}
 use Rattle.muen_top.specs.Answers.{answer_of, boot_answer, dma_answer, input_answer, named_answer, of_file, policy_answer, prints, run_answer, tables_answer, trace_answer, unpacked_answer}
 use Rattle.muen_top.specs.Commands.{boot, run}
@@ -72,21 +64,3 @@ module _ (m : Store) (name inputs : List ℕ) (p : Source) (r : DeviceRecord) (s
         sound_prints (Some dma) (Some wrote.built.tables) (record { bytes = h.bytes; parts = h.built.parts; read = h.read; image = h.built.image; sound = h.built.sound })
         (wrote.built.tables, record { bytes = wrote.bytes; read = wrote.read; file = wrote.built.file }, refl)
         (tables_fit p wrote.built.tables wrote.built.are files h.built.parts h.built.sound h.built.spans)
-
--- ---- whose members are printed alike
-
--- no order of a record that is read names a CPU twice
-distinct_orders : (m : Store) (inputs : List ℕ) (p : Source) (r : DeviceRecord) → HoldsRecord m inputs p r → HasDistinctOrders r
-distinct_orders m inputs p r says =
-    All-weaker (λ (o : ℕ × List ℕ). NamesEachOnce (devices_of p).cpus o.1) (λ (o : ℕ × List ℕ). IsTrue (are_distinct o.1)) (λ o each. each.distinct) r.orders
-    (record_is_read (devices_of p) says.text r says.says).orders
-
-module _ (m : Store) (name inputs : List ℕ) (p : Source) (r : DeviceRecord) (says : HoldsRecord m inputs p r) where
-  pub boot_alike : HoldsPolicy m name p → PrintsMembersAlike p m r
-  boot_alike h = printed_alike p m r (accepted_lawful m h.document p h.accepted) (distinct_orders m inputs p r says)
-
-  pub sound_alike : (files : Held) → HoldsSound m name p files → PrintsMembersAlike p files r
-  sound_alike files h = printed_alike p files r h.sound.lawful (distinct_orders m inputs p r says)
-
-  pub built_alike : (files : Held) → HoldsBuilt m name p files → PrintsMembersAlike p files r
-  built_alike files h = printed_alike p files r h.built.sound.lawful (distinct_orders m inputs p r says)

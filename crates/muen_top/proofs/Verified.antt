@@ -1,5 +1,5 @@
 -- What a verdict that is answered tells of what a store holds.
-use Rattle.std.proofs.Common.{◌≡◌, ℕ, List, Some, None, Result, Ok, Err, refl, sym, ap, subst, ◌∙◌}
+use Rattle.std.proofs.Common.{◌≡◌, ℕ, List, [], Some, None, Result, Ok, Err, refl, ap, subst, ◌∙◌}
 use Rattle.std.specs.FinMap.{get}
 use Rattle.image_pack.specs.Faults.{unpacked}
 use Rattle.image_pack.specs.fault.ImageFault.{ImageFault}
@@ -7,7 +7,6 @@ use Rattle.image_pack.proofs.Theorem.{back}
 use Rattle.image_pack.specs.Image.{image as image_form}
 use Rattle.image_pack.specs.declared.parts.Image.{Image}
 use Rattle.image_pack.proofs.ImageLaws.{image_laws}
-use Rattle.image_soundness.specs.Sound.{IsSound}
 use Rattle.image_verify.proofs.VerdictLaws.{a_fault_is_none_of_a_sound_image, a_sound_image_has_no_fault, no_fault_is_sound}
 use Rattle.image_verify.specs.declared.fault.Fault.{Fault}
 use Rattle.muen_build.specs.Refusals.{fitting_policy_of}
@@ -84,9 +83,13 @@ module _ (m : Store) (image policy : List ℕ) where
           parts = j.parts;
           read = j.image_read;
           image = v.image;
-          sound = subst (λ q. IsSound q m j.parts) v.of_policy (no_fault_is_sound v.expansion m j.parts v.expanded v.image.parts v.verdict);
+          sound = no_fault_is_sound j.p m j.parts v.lawful v.image.parts v.verdict;
         };
       }
+
+  -- .. and nothing was written
+  pub writes_nothing : (ws : List Write) (out out' : SinkState) → IsDone (verify_answer m image policy) ws out out' → ws ≡ []
+  writes_nothing ws out out' did = (is_judged m image policy (λ a. IsDone a ws out out') (λ reason h. h) did).such.0
 
   -- with one it isn't, or a table is read twice
   pub tells_fault : (fault : Fault) → Finds (verify_answer m image policy) (Some fault) → TellsFault m image policy fault
@@ -100,7 +103,7 @@ module _ (m : Store) (image policy : List ℕ) where
         fits = record { document = j.document; read = j.document_read; fits = j.fits };
         read = j.image_read;
         verdict = v;
-        unsound = λ sound. a_fault_is_none_of_a_sound_image v.expansion m j.parts fault v.expanded v.verdict (subst (λ q. IsSound q m j.parts) (sym v.of_policy) sound);
+        unsound = λ sound. a_fault_is_none_of_a_sound_image j.p m j.parts fault v.verdict sound;
       }
 
   module _ (p : Source) (accepted : HoldsPolicy m policy p) (built : HoldsBuilt m image p m) where
@@ -117,5 +120,5 @@ module _ (m : Store) (image policy : List ℕ) where
     pub no_fault : (fault : Fault) → Finds (verify_answer m image policy) (Some fault) → ⊥
     no_fault fault finds =
         let v : HasVerdict p m built.bytes built.built.parts (Some fault) = subst (λ a. Finds a (Some fault)) built_judged finds in
-        let none : Some fault ≡ None = a_sound_image_has_no_fault v.expansion m built.built.parts (Some fault) v.expanded v.verdict (subst (λ q. IsSound q m built.built.parts) (sym v.of_policy) built.built.sound) built.built.paths in
+        let none : Some fault ≡ None = a_sound_image_has_no_fault p m built.built.parts (Some fault) v.verdict built.built.sound built.built.paths in
         cc (none)

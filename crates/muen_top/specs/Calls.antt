@@ -11,9 +11,7 @@ use Rattle.muen_top.specs.Asked.{Asks}
 use Rattle.muen_top.specs.Commands.{Command, build, command_of, run}
 use Rattle.muen_top.specs.FilesSeen.{OverLooks}
 use Rattle.muen_top.specs.Images.{Wrote}
-use Rattle.image_verify.specs.FaultText.{fault_text}
-use Rattle.image_verify.specs.declared.fault.Fault.{Fault}
-use Rattle.muen_top.specs.Reports.{Ends, reason_text, refusal_status, sound_text, status_of, Told, Reported}
+use Rattle.muen_top.specs.Reports.{Ends, sound_text, status_of, Reported}
 use Rattle.muen_top.specs.Verdicts.{Finds, HasVerdict}
 use Rattle.muen_top.specs.declared.outcome.Outcome.{Outcome}
 use Rattle.muen_top.specs.declared.outcome.Outcome.TheVariants.{Done, Stopped, OutputFault}
@@ -131,31 +129,3 @@ FilesFailed words old new = FaultOfFiles (answer_to words) (looks_since old new)
 -- memory was refused to the call: where that was for the last write that was made, what stands under its name may have changed
 abbrev pub MemoryRefused : List (List ℕ) → History → History → Type 0
 MemoryRefused words old new = WantOfMemory (answer_to words) (looks_since old new) (writes_since old new)
-
--- of the answers that print nothing, those on a policy, on a missing or too long file, on an image, on tables, and on a record. A
--- refusal of the policy may be for a file that it names: which of the two it is, its status says
-abbrev pub RefusesPolicy : SinkState → SinkState → Answer → Type 0
-RefusesPolicy err err' (stops (refused refusal)) = (refusal_status refusal ≡ statuses.PolicyRefused) × Told (reason_text (refused refusal)) err err'
-RefusesPolicy err err' _ = ⊥
-
-abbrev pub LacksFile : SinkState → SinkState → Answer → Type 0
-LacksFile err err' (stops (missing name)) = Told (reason_text (missing name)) err err'
-LacksFile err err' (stops (too_long name n)) = Told (reason_text (too_long name n)) err err'
-LacksFile err err' (stops (refused refusal)) = (refusal_status refusal ≡ statuses.FileMissing) × Told (reason_text (refused refusal)) err err'
-LacksFile err err' _ = ⊥
-
-abbrev pub RefusesImage : SinkState → SinkState → Answer → Type 0
-RefusesImage err err' (stops (image_refused fault)) = Told (reason_text (image_refused fault)) err err'
-RefusesImage err err' _ = ⊥
-
-abbrev pub RefusesDma : SinkState → SinkState → Answer → Type 0
-RefusesDma err err' (stops (dma_refused fault)) = Told (reason_text (dma_refused fault)) err err'
-RefusesDma err err' _ = ⊥
-
-abbrev pub RefusesRecord : SinkState → SinkState → Answer → Type 0
-RefusesRecord err err' (stops (record_refused fault)) = Told (reason_text (record_refused fault)) err err'
-RefusesRecord err err' _ = ⊥
-
--- the verdict has this fault
-abbrev pub FindsFault : SinkState → SinkState → Answer → Type 0
-FindsFault err err' answer = (fault : Fault) × Finds answer (Some fault) × Told (fault_text fault) err err'

@@ -18,7 +18,6 @@ use Rattle.muen_outside.specs.States.{Look, SinkState, Write}
 use Rattle.muen_outside.specs.Store.{Store, reading_of, whole}
 use Rattle.policy_lawful.specs.Contents.{Held}
 use Rattle.policy_lawful.specs.source.Source.{Source}
-use Rattle.flow_report.specs.TwoTexts.{PrintsMembersAlike}
 use Rattle.proof_runs.specs.Fit.{Fit}
 use Rattle.record_text.specs.DeviceRecord.{DeviceRecord}
 use Rattle.record_text.specs.Reading.{record_of}
@@ -124,18 +123,13 @@ pub record TellsFault (m : Store) (image policy : List ℕ) (fault : Fault) : Ty
 abbrev pub PrintsText : List ℕ → SinkState → SinkState → Status → Type 0
 PrintsText text out out' status = IsFault status ⊎ ((status ≡ statuses.Done) × Appended text out out')
 
--- the text of this policy's system is put; and of each member of a set of subjects that is closed in it, the same is printed in every
--- other system that agrees on the set
-abbrev pub PrintsSystem : Source → Held → DeviceRecord → SinkState → SinkState → Status → Type 0
-PrintsSystem p files r out out' status = PrintsText (trace_of p files r) out out' status × PrintsMembersAlike p files r
-
 -- ---- the headline, over stores of which something is so
 
 -- `boot`, where the store holds a policy that is accepted and a record of its devices: the text of the policy's system is put
 abbrev pub BootPrintsOver : List (List ℕ) → (Store → Type 0) → SinkState → SinkState → Status → Type 0
 BootPrintsOver words Is out out' status =
     (m : Store) (policy inputs : List ℕ) (p : Source) (r : DeviceRecord) → Is m → command_of words ≡ Some (boot policy inputs)
-    → HoldsPolicy m policy p → HoldsRecord m inputs p r → PrintsSystem p m r out out' status
+    → HoldsPolicy m policy p → HoldsRecord m inputs p r → PrintsText (trace_of p m r) out out' status
 
 -- `run`, where it holds an image that is sound for a policy over these or other files, and the tables that are handed in fit it;
 -- or none are, and no domain of devices lets one write
@@ -143,14 +137,14 @@ abbrev pub RunOfSoundPrintsOver : List (List ℕ) → (Store → Type 0) → Sin
 RunOfSoundPrintsOver words Is out out' status =
     (m : Store) (image inputs : List ℕ) (dma : Option (List ℕ)) (tables : Option DmaFile) (p : Source) (built_of : Held) (r : DeviceRecord) → Is m
     → command_of words ≡ Some (run image inputs dma) → (held : HoldsSound m image p built_of) → HandsIn m dma tables → Fit p held.parts tables
-    → HoldsRecord m inputs p r → PrintsSystem p built_of r out out' status
+    → HoldsRecord m inputs p r → PrintsText (trace_of p built_of r) out out' status
 
 -- .. and where it holds the image that `build` has written for it, and the tables, if any are handed in
 abbrev pub RunOfBuiltPrintsOver : List (List ℕ) → (Store → Type 0) → SinkState → SinkState → Status → Type 0
 RunOfBuiltPrintsOver words Is out out' status =
     (m : Store) (image inputs : List ℕ) (dma : Option (List ℕ)) (p : Source) (built_of : Held) (r : DeviceRecord) → Is m
     → command_of words ≡ Some (run image inputs dma) → (held : HoldsBuilt m image p built_of) → HandsInBuilt m p held.built.parts dma
-    → HoldsRecord m inputs p r → PrintsSystem p built_of r out out' status
+    → HoldsRecord m inputs p r → PrintsText (trace_of p built_of r) out out' status
 
 -- ---- over every store that agrees with the call's looks
 

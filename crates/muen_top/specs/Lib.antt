@@ -9,13 +9,17 @@ pub mod GeneratedFiles
 pub mod Headline
 pub mod Images
 pub mod Kept
+pub mod LoadLaws
 pub mod LoadText
 pub mod Loads
 pub mod Parsed
 pub mod PolicyCommands
+pub mod Refusals
 pub mod Reports
 pub mod Runs
 pub mod Statuses
+pub mod Systems
 pub mod Tables
+pub mod TwoCalls
 pub mod Verdicts
 pub mod Verifying

@@ -5,16 +5,19 @@ ghost use Rattle.std.specs.Prelude.{◌≡◌, ◌≢◌, ◌⊎◌, [], IfSome,
 ghost use Rattle.muen_outside.specs.Looks.{AreSingle, HeldAfter, ShowAll, looks_since, writes_since};
 ghost use Rattle.muen_outside.specs.States.{went};
 ghost use Rattle.muen_top.specs.Asked.{Asks};
-ghost use Rattle.muen_top.specs.Calls.{Answered, DoesAnswer, EndsAnswered, FilesFailed, FindsFault, IsFault, LacksFile, MemoryRefused, PrintsFront, RefusesDma, RefusesImage, RefusesPolicy, RefusesRecord};
+ghost use Rattle.muen_top.specs.Calls.{DoesAnswer, EndsAnswered, FilesFailed, IsFault, MemoryRefused, PrintsFront};
 ghost use Rattle.muen_top.specs.Commands.{command_of};
 ghost use Rattle.muen_top.specs.Complete.{IsComplete};
 ghost use Rattle.muen_top.specs.Headline.{BootPrintsSystem, BuildWritesImage, RunOfBuiltPrintsSystem, RunOfSoundPrintsSystem, VerifyAcceptsBuilt, VerifyTellsFault, VerifyTellsSound};
+ghost use Rattle.muen_top.specs.LoadLaws.{LoadEnds};
 ghost use Rattle.muen_top.specs.Reports.{IsReported};
+ghost use Rattle.muen_top.specs.Systems.{PrintsAlike, RunsSubjectsAlone};
 
 mod boot;
 mod build;
 mod call;
 mod command;
+mod laws;
 mod limits;
 mod load;
 mod loading;
@@ -25,13 +28,16 @@ mod report;
 mod run;
 mod status;
 mod tables;
+mod twice;
 mod verify;
 
 pub use generated_system::{Generated, generate};
+pub use laws::{ends_tell_refusals, generated_systems_are_accepted};
 use muen_outside::{Files, Sink};
 pub use over_held::muen_over_held;
 pub use status::Status;
 use std::alloc::Global;
+pub use twice::muen_twice;
 
 /// Does what the words after the program's name ask for, and answers the status.
 ///
@@ -92,6 +98,11 @@ pub fn muen<F: Files, S: Sink, E: Sink>(
     // and where it holds the image that `build` has written for it, and the tables, or without them as
     // before.
     ensures runs_built { RunOfBuiltPrintsSystem (map string_bytes words.now) (looks_since (F.history files.old) (F.history files.new)) (S.state out.old) (S.state out.new) result }
+    // In each of these systems every subject acts alone: its view is that of the subject by itself, by what reaches it, and
+    // the run is the runs of its subjects alone, put together. And of each member of a closed set the same is printed in
+    // every other system that agrees on the set.
+    ensures alone { RunsSubjectsAlone (map string_bytes words.now) (looks_since (F.history files.old) (F.history files.new)) }
+    ensures alike { PrintsAlike (map string_bytes words.now) (looks_since (F.history files.old) (F.history files.new)) }
     // Such a one `build` writes under the image's name, and such tables under theirs: a `run` of both prints
     // that text.
     ensures built { BuildWritesImage (map string_bytes words.now) (looks_since (F.history files.old) (F.history files.new)) (writes_since (F.history files.old) (F.history files.new)) result }
@@ -111,17 +122,8 @@ pub fn muen<F: Files, S: Sink, E: Sink>(
     ensures done { result ≡ Status.Done → DoesAnswer (map string_bytes words.now) (F.history files.old) (F.history files.new) (S.state out.old) (S.state out.new) }
     ensures prefix { result ≡ Status.OutputFault → PrintsFront (map string_bytes words.now) (looks_since (F.history files.old) (F.history files.new)) (S.state out.old) (S.state out.new) }
 
-    // On a refusal it is the reason in that answer.
-    ensures refuses_policy { result ≡ Status.PolicyRefused → Answered (map string_bytes words.now) (looks_since (F.history files.old) (F.history files.new)) (RefusesPolicy (E.state err.old) (E.state err.new)) }
-    ensures lacks_file { result ≡ Status.FileMissing → Answered (map string_bytes words.now) (looks_since (F.history files.old) (F.history files.new)) (LacksFile (E.state err.old) (E.state err.new)) }
-    ensures refuses_image { result ≡ Status.ImageRefused → Answered (map string_bytes words.now) (looks_since (F.history files.old) (F.history files.new)) (RefusesImage (E.state err.old) (E.state err.new)) }
-    ensures refuses_dma { result ≡ Status.DmaRefused → Answered (map string_bytes words.now) (looks_since (F.history files.old) (F.history files.new)) (RefusesDma (E.state err.old) (E.state err.new)) }
-    ensures refuses_record { result ≡ Status.RecordRefused → Answered (map string_bytes words.now) (looks_since (F.history files.old) (F.history files.new)) (RefusesRecord (E.state err.old) (E.state err.new)) }
-
-    // With status 9 it is the verdict that the words are answered.
-    ensures finds_fault { result ≡ Status.NotSound → Answered (map string_bytes words.now) (looks_since (F.history files.old) (F.history files.new)) (FindsFault (E.state err.old) (E.state err.new)) }
-
-    // The call ends as the words are answered, but for a fault or want of memory.
+    // The call ends as the words are answered, but for a fault or want of memory: on a refusal, with the reason in that
+    // answer (`ends_tell_refusals`).
     ensures ends { IsFault result ⊎ EndsAnswered (map string_bytes words.now) (looks_since (F.history files.old) (F.history files.new)) (E.state err.old) (E.state err.new) result }
 
     // Where no look, no write and no put fails, and memory suffices, it does the whole of that answer, with its
@@ -133,6 +135,9 @@ pub fn muen<F: Files, S: Sink, E: Sink>(
     ensures no_command { command_of (map string_bytes words.now) ≡ None → (result ≡ Status.Usage) × (F.history files.new ≡ F.history files.old) }
     ensures file_fault { result ≡ Status.FileFault → FilesFailed (map string_bytes words.now) (F.history files.old) (F.history files.new) }
     ensures no_memory { result ≡ Status.NoMemory → MemoryRefused (map string_bytes words.now) (F.history files.old) (F.history files.new) }
+
+    // `load` ends with 0, 7 or 8.
+    ensures loads { LoadEnds (map string_bytes words.now) result }
 
     // One line is put to `err` where the status isn't 0.
     ensures reports { IsReported (E.state err.old) (E.state err.new) result }

@@ -15,5 +15,5 @@ mod spans;
 
 pub use frame_mem::FrameMem;
 pub use memory::{PAGE_BYTES, PhysMem};
-pub use region_mem::RegionMem;
+pub use region_mem::{RegionMem, index_of};
 pub use spans::MemorySpan;

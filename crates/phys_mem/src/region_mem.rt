@@ -21,8 +21,8 @@ pub struct RegionMem {
     ghost rising: { IsRising numbers.items },
 }
 
-// The index of a number among numbers that rise.
-fn find(numbers: &[u64], number: u64) -> Option<usize>
+/// The index of a number among numbers that rise.
+pub fn index_of(numbers: &[u64], number: u64) -> Option<usize>
     requires { IsRising numbers.now }
     ensures { MatchOption result (NoneBelow numbers.now number (length numbers.now)) (IsFirst numbers.now number) }
 {
@@ -56,7 +56,7 @@ impl RegionMem {
     fn find_page(&self, number: u64) -> Option<usize>
         ensures { MatchOption result (IsNowhere self.now.numbers.items self.now.frames.items number) (IsInFrame self.now.numbers.items self.now.frames.items number) }
     {
-        find(&self.numbers, number)
+        index_of(&self.numbers, number)
     }
 }
 

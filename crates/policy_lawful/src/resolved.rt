@@ -215,6 +215,31 @@ pub struct Group {
     pub subjects: Seq<usize>,
 }
 
+impl Group {
+    ghost use Rattle.std.specs.Prelude.{◌==◌};
+    ghost use Rattle.std.specs.List.{list_any};
+
+    /// Whether the subject at an index is a member.
+    pub fn has_member(&self, index: usize) -> bool
+        ensures { result ≡ list_any (λ n. n == index) self.now.subjects }
+    {
+        self.subjects.items().iter().any(|n| *n == index)
+    }
+}
+
+impl Scheduling {
+    ghost use Rattle.std.specs.Prelude.{◌==◌, position};
+    ghost use Rattle.std.specs.List.{list_any};
+
+    /// The number of the first group that has the subject at an index.
+    pub fn group_with(&self, index: usize) -> Option<usize>
+        ensures { result ≡ position (λ g. list_any (λ n. n == index) g.subjects) self.now.groups }
+    {
+        let groups = self.groups.items();
+        groups.iter().position(|group| group.has_member(index))
+    }
+}
+
 /// A major frame.
 #[derive(Debug, Drop)]
 pub struct MajorFrame {

@@ -34,7 +34,7 @@ use Rattle.policy_lawful.specs.declared.resolved.Subject.{Subject}
 use Rattle.policy_lawful.proofs.KeptRules.{rules_of}
 use Rattle.policy_lawful.specs.resources.MsrGrant.{MsrGrant}
 use Rattle.policy_lawful.specs.source.Msrs.{Msrs}
-use Rattle.subject_emit.specs.Mapped.{kernel_first}
+use Rattle.expand_kernel.specs.ByIndex.{kernel_first}
 use Rattle.subject_emit.proofs.KeptMsrs.{msrs_covered}
 
 -- ---- what is read of an area

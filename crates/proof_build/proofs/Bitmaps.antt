@@ -1,12 +1,11 @@
 -- Exactly those accesses of ports and MSRs don't exit that the policy grants the subject.
-use Rattle.std.proofs.Common.{◌≡◌, ℕ, zero, suc, ◌+◌, ◌-◌, ◌*◌, ◌<◌, ◌==◌, Bool, true, false, not, List, [], ◌∷◌, length, map, take, drop, refl, sym, ap, ap₂, ◌∙◌, arith, inl, inr, length-drop}
-use Rattle.std.specs.Prelude.{◌&&◌, ◌||◌, nat_le, nat_lt, if◌then◌else◌}
-use Rattle.std.specs.List.{flat_map, list_all, list_any}
+use Rattle.std.proofs.Common.{◌≡◌, ℕ, zero, suc, ◌+◌, ◌*◌, ◌<◌, ◌==◌, Bool, true, not, List, [], ◌∷◌, length, map, take, drop, refl, sym, ap, ◌∙◌, arith, inl, inr, length-drop}
+use Rattle.std.specs.Prelude.{◌&&◌, nat_le}
+use Rattle.std.specs.List.{list_all, list_any}
 use Rattle.std.proofs.lemmas.Bool.{cases_Bool, leb-true, lt-ltb}
-use Rattle.std.proofs.lemmas.Bool.Decides.{nat_tests}
 use Rattle.std.proofs.lemmas.List.{take_all}
-use Rattle.std.proofs.lemmas.List.Folds.{list_all-append, list_any-append}
-use Rattle.expand_kernel.specs.Resources.{Msr, are_granted, is_granted, msr_grant, each_msr_in, msrs_of, port_ranges_of, ports_of}
+use Rattle.std.proofs.lemmas.List.Folds.{list_all-append}
+use Rattle.expand_kernel.specs.Resources.{are_granted, is_granted, msr_grant, msrs_of, port_ranges_of, ports_of}
 use Rattle.expand_kernel.proofs.GrantedMsrs.{msr_granted}
 use Rattle.image_emit.specs.Made.{IsMade, Made, image_of, policy_of}
 use Rattle.image_emit.proofs.BySubject.{each_subject}
@@ -16,18 +15,16 @@ use Rattle.image_soundness.specs.Memory.{bytes_at, page_at}
 use Rattle.image_soundness.specs.Sound.{ForEachSubject, HasBitmaps}
 use Rattle.subject_emit.specs.Ports.{is_granted as is_port_granted, is_granted_access}
 use Rattle.machine_layout.specs.Exits.{msr_exits, port_exits}
-use Rattle.policy_lawful.specs.MsrGrants.{allows, has_msr, is_granted as is_msr_granted}
-use Rattle.muen_num.proofs.Lists.{list_any-map}
+use Rattle.policy_lawful.specs.MsrGrants.{is_granted as is_msr_granted}
 use Rattle.muen_num.specs.Range.{numbers_below}
 use Rattle.muen_num.specs.declared.limits.TheConstants.{LAST_PORT, PAGE}
 use Rattle.muen_num.specs.declared.tag.TagPart.TheVariants.{Iobm, Msrbm}
 use Rattle.policy_lawful.specs.Resolution.{Resolution, source_of, subject_named}
 use Rattle.policy_lawful.specs.declared.resolved.Subject.{Subject as ResolvedSubject}
 use Rattle.policy_lawful.specs.resources.PortRange.{PortRange}
-use Rattle.policy_lawful.specs.source.Msrs.{Msrs}
 use Rattle.policy_lawful.specs.source.Source.{Source}
 use Rattle.policy_lawful.specs.source.Subject.{Subject}
-use Rattle.subject_emit.specs.Mapped.{kernel_first}
+use Rattle.expand_kernel.specs.ByIndex.{kernel_first}
 
 -- ---- ports
 

@@ -1,30 +1,35 @@
 -- What the spans hold that aren't the kernel's: the things of the policy, in their order.
-use Rattle.std.proofs.Common.{◌≡◌, ℕ, suc, ◌+◌, ◌*◌, ◌/◌, ◌≤◌, All, Bool, true, false, not, cond, List, [], ◌∷◌, ◌++◌, length, map, get_or, drop, Option, Some, refl, sym, ap, ◌∙◌, subst, arith, length-append}
-use Rattle.std.specs.Prelude.{replicate, slice_get, slice_index_or}
+use Rattle.std.proofs.Common.{◌≡◌, ℕ, suc, ◌+◌, ◌*◌, ◌/◌, ◌≤◌, All, Bool, true, false, not, cond, List, [], ◌∷◌, ◌++◌, length, map, Option, Some, None, refl, sym, ap, ◌∙◌, subst, arith, length-append}
+use Rattle.std.specs.Prelude.{option_map, replicate, slice_get, slice_index_or}
 use Rattle.std.specs.List.{AllZip, enumerate_from, filter, flat_map, zip}
-use Rattle.std.proofs.lemmas.List.{map-append}
-use Rattle.std.proofs.lemmas.List.Elements.{All-append, All-from_recursion, All-head, All-map, All-tail, filter-append}
-use Rattle.std.proofs.lemmas.Option.{get_or_from_slice_get, slice_get_within}
-use Rattle.expand_kernel.specs.ByIndex.{brought_at, channel_region, kernel_for, kernel_for_each, own_region, provided_region}
+use Rattle.std.proofs.lemmas.List.{length-map, map-append}
+use Rattle.std.proofs.lemmas.List.Elements.{All-append, All-from_recursion, All-head, All-map, All-nil, All-tail, filter-append}
+use Rattle.std.proofs.lemmas.Option.{get_or_from_slice_get, slice_get-map, slice_get_within}
+use Rattle.expand_kernel.specs.ByIndex.{kernel_for, kernel_for_each}
 use Rattle.policy_lawful.specs.ByIndex.{provided_at, memories_of}
 use Rattle.expand_kernel.specs.thing.Region.{Region}
+use Rattle.expand_kernel.specs.thing.Thing.{Thing as NumberedThing}
 use Rattle.image_emit.specs.Made.{IsMade, Made, content_at, image_of, kernel_bytes, policy_of, region_bytes}
-use Rattle.image_soundness.specs.ThingBytes.{thing_bytes}
+use Rattle.image_soundness.specs.ThingBytes.{bytes_held, thing_bytes}
 use Rattle.image_emit.proofs.ByNumber.{as_many_addresses, by_number_is}
 use Rattle.image_emit.proofs.ContentLengths.{whole_regions, whole_size}
-use Rattle.muen_num.proofs.PiecesOfLists.{flat_map_at, zip_append, zip_map_both, zip_pieces}
+use Rattle.muen_num.proofs.PiecesOfLists.{flat_map_at, zip_append}
 use Rattle.image_emit.proofs.PlanDevices.{kept_memories}
 use Rattle.image_emit.proofs.RegionSizes.{first_regions, last_regions, regions_are}
-use Rattle.image_soundness.proofs.ThingBytes.{memory_bytes_are, memory_sizes_are, region_bytes_are, region_sizes_are}
-use Rattle.image_soundness.proofs.ThingsInOrder.{memory_thing, memory_things, provided_things, region_things, things_are}
-use Rattle.image_soundness.specs.Memory.{Span}
+use Rattle.image_soundness.proofs.ThingBytes.{bytes_are, size_is}
+use Rattle.image_soundness.specs.Memory.{Span, bytes_of}
 use Rattle.image_soundness.specs.Sound.{AreContents, IsSpanOf, is_kernel, kind_of, thing_spans}
 use Rattle.image_pack.specs.declared.parts.SpanPart.{SpanPart}
 use Rattle.muen_num.proofs.Lists.{all_flat, all_front, filter-map, get_left, map-flat_map, map-map}
 use Rattle.muen_num.specs.declared.limits.TheConstants.{PAGE}
-use Rattle.policy_lawful.specs.Resolution.{source_of}
-use Rattle.policy_lawful.specs.Contents.{Held, initial_bytes}
-use Rattle.policy_lawful.specs.Thing.{Thing, channel, declared_size, region, thing_tag}
+use Rattle.policy_lawful.proofs.ThingsByIndex.{things_by_index}
+use Rattle.policy_lawful.proofs.ThingsDiffer.{item_found}
+use Rattle.policy_lawful.specs.Resolution.{Resolution, source_of}
+use Rattle.policy_lawful.specs.Contents.{Held}
+use Rattle.policy_lawful.specs.Thing.{Item, Thing, channel, device_memory, item_of, items_of, provided, region, state, things_of}
+use Rattle.policy_lawful.specs.Things.{AreDeclared, IsThingOf, brought_by, brought_things, channel_thing, device_thing, device_things, device_things_of, own_thing, placed_things, provided_thing, region_kind, region_of_thing, things_by_number}
+use Rattle.policy_lawful.specs.declared.resolved.ComponentUse.{ComponentUse}
+use Rattle.policy_lawful.specs.source.Component.{Component}
 use Rattle.policy_lawful.specs.source.DeviceMemory.{DeviceMemory}
 use Rattle.policy_lawful.specs.source.Source.{Source}
 use Rattle.span_emit.specs.Spans.{device_span, region_span, region_spans, span_kind}
@@ -59,12 +64,12 @@ devices_kept : (n : ℕ) (xs : List (List ℕ × DeviceMemory)) → filter keeps
 devices_kept n [] = refl
 devices_kept n (x ∷ xs) = ap (λ ss. device_span (n, x) ∷ ss) (devices_kept (n + 1) xs)
 
-brought_kept : (m : Made) → All (IsKept true) (flat_map (brought_at (policy_of m).components) (policy_of m).subjects)
-unfolding brought_at
-brought_kept m =
-    all_flat (IsKept true) (brought_at (policy_of m).components)
-    (λ s. All-map (IsKept true) (provided_region s.name) (provided_at (policy_of m).components s.component) (λ k d l. refl))
-    (policy_of m).subjects
+abbrev IsThing : NumberedThing → Type 0
+IsThing t = IsKept true (region_of_thing t)
+
+brought_kept : (components : List Component) (subject : List ℕ) (o : Option ComponentUse) → All IsThing (brought_by components subject o)
+brought_kept components subject None = All-nil IsThing
+brought_kept components subject (Some used) = All-map IsThing (provided_thing subject used.used) (enumerate_from 0 (provided_at components (Some used))) (λ k d l. refl)
 
 last_kept : (m : Made) → All (IsKept false) (last_regions m)
 unfolding kernel_for_each
@@ -74,13 +79,17 @@ last_kept m =
 
 -- of each region that isn't the kernel's
 first_kept : (m : Made) → All (IsKept true) (first_regions m)
+unfolding placed_things
 first_kept m =
     let r = policy_of m in
-    All-append (IsKept true) (map own_region r.memory ++ map channel_region r.channels) (flat_map (brought_at r.components) r.subjects)
-    (All-append (IsKept true) (map own_region r.memory) (map channel_region r.channels)
-    (All-map (IsKept true) own_region r.memory (λ k d l. refl))
-    (All-map (IsKept true) channel_region r.channels (λ k d l. refl)))
-    (brought_kept m)
+    let own = map own_thing (enumerate_from 0 r.memory) in
+    let channels = map channel_thing r.channels in
+    All-map (IsKept true) region_of_thing (placed_things r)
+    (All-append IsThing (own ++ channels) (flat_map (brought_things r.components) r.subjects)
+    (All-append IsThing own channels
+    (All-map IsThing own_thing (enumerate_from 0 r.memory) (λ k d l. refl))
+    (All-map IsThing channel_thing r.channels (λ k d l. refl)))
+    (all_flat IsThing (brought_things r.components) (λ s. brought_kept r.components s.name s.component) r.subjects))
 
 abbrev pub with_content : Made → SpanPart → Span
 with_content m s = (s, content_at m s)
@@ -106,78 +115,80 @@ thing_spans_are m h =
 
 -- ---- what each has
 
--- the tag and the kind of a region are those of a thing
-pub record IsRegionOf (t : Thing) (y : Region) : Type 0 where
-  pub tag : y.tag ≡ thing_tag t
-  pub kind : span_kind y.kind ≡ kind_of t
+kind_is : (x : Thing) → span_kind (region_kind x) ≡ kind_of x
+kind_is (region name) = refl
+kind_is (channel name) = refl
+kind_is (provided subject logical) = refl
+kind_is (device_memory device memory) = refl
+kind_is (state subject) = refl
 
-pub regions_of_things : (m : Made) → AllZip IsRegionOf (region_things (policy_of m)) (first_regions m)
-unfolding brought_at
-regions_of_things m =
-    let r = policy_of m in
-    zip_append IsRegionOf (map (λ x. region x.name) r.memory ++ map (λ c. channel c.name) r.channels) (map own_region r.memory ++ map channel_region r.channels) (flat_map (provided_things r.components) r.subjects) (flat_map (brought_at r.components) r.subjects)
-    (zip_append IsRegionOf (map (λ x. region x.name) r.memory) (map own_region r.memory) (map (λ c. channel c.name) r.channels) (map channel_region r.channels)
-    (zip_map_both IsRegionOf (λ x. region x.name) own_region (λ x. record { tag = refl; kind = refl }) r.memory)
-    (zip_map_both IsRegionOf (λ c. channel c.name) channel_region (λ c. record { tag = refl; kind = refl }) r.channels))
-    (zip_pieces IsRegionOf (provided_things r.components) (brought_at r.components)
-    (λ s. zip_map_both IsRegionOf _ (provided_region s.name) (λ x. record { tag = refl; kind = refl }) (provided_at r.components s.component))
-    r.subjects)
+abbrev pub memory_thing : List ℕ × DeviceMemory → NumberedThing
+memory_thing x = device_thing x.0 x.1
 
-heads : {X : Type 0} (x y : X) (xs ys : List X) → x ∷ xs ≡ y ∷ ys → x ≡ y
-heads x y xs ys h = ap (λ zs. get_or zs 0 x) h
+-- the devices' memory, by number
+pub memories_are : (r : Resolution) → device_things r ≡ map memory_thing (memories_of r.devices)
+unfolding device_things
+memories_are r =
+    flat_map_at device_things_of (λ d. map memory_thing (map (λ m. (d.name, m)) d.memory)) r.devices (λ k d at. sym (map-map memory_thing (λ m. (d.name, m)) d.memory))
+    ∙ sym (map-flat_map memory_thing (λ d. map (λ m. (d.name, m)) d.memory) r.devices)
 
-tails : {X : Type 0} (x y : X) (xs ys : List X) → x ∷ xs ≡ y ∷ ys → xs ≡ ys
-tails x y xs ys h = ap (λ zs. drop 1 zs) h
+module _ (files : Held) (r : Resolution) where
+  abbrev p : Source
+  p = source_of r
 
-module _ (files : Held) (p : Source) where
-  abbrev bytes : Thing → List ℕ
-  bytes = initial_bytes p files
+  -- the span of a thing by number has what is declared of it
+  record IsHeld (t : NumberedThing) (e : Span) : Type 0 where
+    tag : e.0.tag ≡ t.tag
+    kind : e.0.kind ≡ span_kind t.kind
+    size : PAGE * e.0.pages ≡ t.size
+    bytes : bytes_of e ≡ bytes_held files r t
 
-  region_has : (n address : ℕ) (t : Thing) (y : Region) (b held : List ℕ) → IsRegionOf t y → b ≡ bytes t → declared_size p t ≡ Some y.size → IsWhole y → held ≡ b
-      → IsSpanOf p files t (region_span (n, (y, address)), held)
-  region_has n address t y b held of is size whole has = record {
-    tag = of.tag;
-    kind = of.kind;
-    size = size ∙ ap Some (sym (whole_size y.size whole.pages));
-    bytes = ap (λ d. cond d (replicate (PAGE * (y.size / PAGE)) 0) held) whole.no_device ∙ has ∙ is;
+  region_has : (n address : ℕ) (t : NumberedThing) (held : List ℕ) → IsWhole (region_of_thing t) → held ≡ bytes_held files r t → IsHeld t (region_span (n, (region_of_thing t, address)), held)
+  region_has n address t held whole has = record {
+    tag = refl;
+    kind = refl;
+    size = whole_size t.size whole.pages;
+    bytes = ap (λ d. cond d (replicate (PAGE * (t.size / PAGE)) 0) held) whole.no_device ∙ has;
   }
 
-  region_spans_have : (look : ℕ → List ℕ) (n : ℕ) (ts : List Thing) (ys : List Region) (ps : List ℕ) (bs : List (List ℕ)) → AllZip IsRegionOf ts ys → length ys ≤ length ps
-      → bs ≡ map bytes ts → map (declared_size p) ts ≡ map (λ y. Some y.size) ys → All IsWhole ys → ((k : ℕ) (b : List ℕ) → slice_get bs k ≡ Some b → look (n + k) ≡ b)
-      → AllZip (IsSpanOf p files) ts (map (λ s. (s, look s.number)) (map region_span (enumerate_from n (zip ys ps))))
-  region_spans_have look n [] [] ps bs of long is sizes whole looks = tt
-  region_spans_have look n [] (y ∷ ys) ps bs of long is sizes whole looks = absurd of
-  region_spans_have look n (t ∷ ts) [] ps bs of long is sizes whole looks = absurd of
-  region_spans_have look n (t ∷ ts) (y ∷ ys) [] bs of long is sizes whole looks = absurd (omega (arith, long))
-  region_spans_have look n (t ∷ ts) (y ∷ ys) (a ∷ ps) [] of long is sizes whole looks = absurd cc
-  region_spans_have look n (t ∷ ts) (y ∷ ys) (a ∷ ps) (b ∷ bs) of long is sizes whole looks =
+  regions_have : (look : ℕ → List ℕ) (n : ℕ) (ts : List NumberedThing) (ps : List ℕ) → length ts ≤ length ps → All IsWhole (map region_of_thing ts) → ((k : ℕ) (t : NumberedThing) → slice_get ts k ≡ Some t → look (n + k) ≡ bytes_held files r t)
+      → AllZip IsHeld ts (map (λ s. (s, look s.number)) (map region_span (enumerate_from n (zip (map region_of_thing ts) ps))))
+  regions_have look n [] ps long whole looks = tt
+  regions_have look n (t ∷ ts) [] long whole looks = absurd (omega (arith, long))
+  regions_have look n (t ∷ ts) (a ∷ ps) long whole looks =
       let first : n + 0 ≡ n = omega arith in (
-        region_has n a t y b (look n) of.0 (heads b (bytes t) bs (map bytes ts) is) (heads (declared_size p t) (Some y.size) (map (declared_size p) ts) (map (λ y. Some y.size) ys) sizes) (All-head IsWhole y ys whole) (ap look (sym first) ∙ looks 0 b refl),
-        region_spans_have look (n + 1) ts ys ps bs of.1 (omega (arith, long)) (tails b (bytes t) bs (map bytes ts) is) (tails (declared_size p t) (Some y.size) (map (declared_size p) ts) (map (λ y. Some y.size) ys) sizes) (All-tail IsWhole y ys whole)
-            (λ k c at. let next : n + 1 + k ≡ n + suc k = omega arith in ap look next ∙ looks (suc k) c at),
+        region_has n a t (look n) (All-head IsWhole (region_of_thing t) (map region_of_thing ts) whole) (ap look (sym first) ∙ looks 0 t refl),
+        regions_have look (n + 1) ts ps (omega (arith, long)) (All-tail IsWhole (region_of_thing t) (map region_of_thing ts) whole)
+            (λ k u at. let next : n + 1 + k ≡ n + suc k = omega arith in ap look next ∙ looks (suc k) u at),
       )
 
-  memory_has : (n : ℕ) (x : List ℕ × DeviceMemory) (held : List ℕ) → replicate x.1.size 0 ≡ bytes (memory_thing x) → Some x.1.size ≡ declared_size p (memory_thing x) → IsPhysical x.1
-      → IsSpanOf p files (memory_thing x) (device_span (n, x), held)
-  memory_has n x held is sized physical =
+  memory_has : (n : ℕ) (x : List ℕ × DeviceMemory) (held : List ℕ) → IsPhysical x.1 → IsHeld (memory_thing x) (device_span (n, x), held)
+  memory_has n x held physical =
       let size : PAGE * (x.1.size / PAGE) ≡ x.1.size = whole_size x.1.size physical.pages in
-      record {
-        tag = refl;
-        kind = refl;
-        size = sym sized ∙ ap Some (sym size);
-        bytes = ap (λ k. replicate k 0) size ∙ is;
-      }
+      record { tag = refl; kind = refl; size = size; bytes = ap (λ k. replicate k 0) size }
 
-  memory_spans_have : (look : ℕ → List ℕ) (n : ℕ) (xs : List (List ℕ × DeviceMemory)) → map (λ x. replicate x.1.size 0) xs ≡ map bytes (map memory_thing xs)
-      → map (λ x. Some x.1.size) xs ≡ map (declared_size p) (map memory_thing xs) → All (λ x. IsPhysical x.1) xs
-      → AllZip (IsSpanOf p files) (map memory_thing xs) (map (λ s. (s, look s.number)) (map device_span (enumerate_from n xs)))
-  memory_spans_have look n [] is sizes physical = tt
-  memory_spans_have look n (x ∷ xs) is sizes physical = (
-    memory_has n x (look n) (heads _ (bytes (memory_thing x)) _ (map bytes (map memory_thing xs)) is) (heads _ (declared_size p (memory_thing x)) _ (map (declared_size p) (map memory_thing xs)) sizes)
-        (All-head (λ (x : List ℕ × DeviceMemory). IsPhysical x.1) x xs physical),
-    memory_spans_have look (n + 1) xs (tails _ (bytes (memory_thing x)) _ (map bytes (map memory_thing xs)) is) (tails _ (declared_size p (memory_thing x)) _ (map (declared_size p) (map memory_thing xs)) sizes)
-        (All-tail (λ (x : List ℕ × DeviceMemory). IsPhysical x.1) x xs physical),
-  )
+  memories_have : (look : ℕ → List ℕ) (n : ℕ) (xs : List (List ℕ × DeviceMemory)) → All (λ x. IsPhysical x.1) xs → AllZip IsHeld (map memory_thing xs) (map (λ s. (s, look s.number)) (map device_span (enumerate_from n xs)))
+  memories_have look n [] physical = tt
+  memories_have look n (x ∷ xs) physical =
+      (memory_has n x (look n) (All-head (λ (x : List ℕ × DeviceMemory). IsPhysical x.1) x xs physical), memories_have look (n + 1) xs (All-tail (λ (x : List ℕ × DeviceMemory). IsPhysical x.1) x xs physical))
+
+  span_of : (i : Item) (t : NumberedThing) (e : Span) → item_of p i.thing ≡ Some i → IsThingOf r p i t → IsHeld t e → IsSpanOf p files i.thing e
+  span_of i t e found is held = record {
+    tag = held.tag ∙ (λ j. (is.region j).tag);
+    kind = held.kind ∙ (λ j. span_kind (is.region j).kind) ∙ kind_is i.thing;
+    size = size_is r i found t is ∙ ap Some (sym held.size);
+    bytes = held.bytes ∙ sym (bytes_are r i found t is files);
+  }
+
+  spans_of_items : (items : List Item) (ts : List NumberedThing) (es : List Span) → ((k : ℕ) (i : Item) → slice_get items k ≡ Some i → item_of p i.thing ≡ Some i) → AreDeclared r items ts → AllZip IsHeld ts es
+      → AllZip (IsSpanOf p files) (map (λ i. i.thing) items) es
+  spans_of_items [] [] [] found are held = tt
+  spans_of_items [] [] (e ∷ es) found are held = absurd held
+  spans_of_items [] (t ∷ ts) es found are held = absurd are
+  spans_of_items (i ∷ items) [] es found are held = absurd are
+  spans_of_items (i ∷ items) (t ∷ ts) [] found are held = absurd held
+  spans_of_items (i ∷ items) (t ∷ ts) (e ∷ es) found are held =
+      (span_of i t e (found 0 i refl) are.0 held.0, spans_of_items items ts es (λ k j at. found (suc k) j at) are.1 held.1)
 
 -- ---- all
 
@@ -189,27 +200,6 @@ addresses_enough m h =
     let both = length-append (first_regions m) (last_regions m) in
     omega (arith, addresses, all, both)
 
--- the policy declares their sizes
-region_sizes : (m : Made) → IsMade m → map (declared_size (source_of (policy_of m))) (region_things (policy_of m)) ≡ map (λ y. Some y.size) (first_regions m)
-unfolding brought_at
-region_sizes m h =
-    let r = policy_of m in
-    let size : Region → Option ℕ = λ y. Some y.size in
-    let memory = map own_region r.memory in
-    let channels = map channel_region r.channels in
-    let brought = flat_map (brought_at r.components) r.subjects in
-    let of_memory : map size memory ≡ map (λ x. Some x.size) r.memory = map-map size own_region r.memory in
-    let of_channels : map size channels ≡ map (λ c. Some c.size) r.channels = map-map size channel_region r.channels in
-    let of_brought : map size brought ≡ flat_map (λ s. map (λ x. Some x.size) (provided_at r.components s.component)) r.subjects =
-    map-flat_map size (brought_at r.components) r.subjects
-    ∙ flat_map_at (λ s. map size (brought_at r.components s)) (λ s. map (λ x. Some x.size) (provided_at r.components s.component)) r.subjects
-    (λ k s at. map-map size (provided_region s.name) (provided_at r.components s.component)) in
-    region_sizes_are r h.resolved
-    ∙ sym (
-    map-append size (memory ++ channels) brought
-    ∙ ap (λ xs. xs ++ map size brought) (map-append size memory channels)
-    ∙ (λ i. of_memory i ++ of_channels i ++ of_brought i))
-
 first_whole : (m : Made) → IsMade m → All IsWhole (first_regions m)
 first_whole m h = all_front IsWhole (first_regions m) (last_regions m) (subst (All IsWhole) (regions_are m h) (whole_regions m h))
 
@@ -219,15 +209,20 @@ looked m k b at = get_or_from_slice_get (region_bytes m) k b [] (get_left m.thin
 
 -- **the contents**: the spans that aren't the kernel's are the things of the policy
 pub contents : (files : Held) (m : Made) → IsMade m → m.things ≡ thing_bytes files (policy_of m) → AreContents (source_of (policy_of m)) files (image_of m)
+unfolding things_of
 contents files m h held =
     let r = policy_of m in
-    let p = source_of r in
+    let placed = placed_things r in
     let look : ℕ → List ℕ = λ n. slice_index_or (region_bytes m) n [] in
-    let regions : AllZip (IsSpanOf p files) (region_things r) (map (with_content m) (spans_of_regions m)) =
-    region_spans_have files p look 0 (region_things r) (first_regions m) m.placed.addresses m.things (regions_of_things m) (addresses_enough m h) (held ∙ region_bytes_are files r h.resolved) (region_sizes m h) (first_whole m h)
-    (λ k b at. let number : 0 + k ≡ k = omega arith in ap look number ∙ looked m k b at) in
-    let memory : AllZip (IsSpanOf p files) (memory_things r) (map (with_content m) (spans_of_memory m)) =
-    memory_spans_have files p look (length m.placed.expanded.regions) (memories_of r.devices) (memory_bytes_are files r h.resolved) (memory_sizes_are r h.resolved) (kept_memories m h) in
-    subst (λ ts. AllZip (IsSpanOf p files) ts (thing_spans (image_of m))) (sym (things_are r h.resolved))
-    (subst (AllZip (IsSpanOf p files) (region_things r ++ memory_things r)) (sym (thing_spans_are m h ∙ map-append (with_content m) (spans_of_regions m) (spans_of_memory m)))
-    (zip_append (IsSpanOf p files) (region_things r) (map (with_content m) (spans_of_regions m)) (memory_things r) (map (with_content m) (spans_of_memory m)) regions memory))
+    let many = length-map placed region_of_thing in
+    let regions : AllZip (IsHeld files r) placed (map (with_content m) (spans_of_regions m)) =
+    regions_have files r look 0 placed m.placed.addresses (omega (arith, many, addresses_enough m h)) (first_whole m h)
+    (λ k t at.
+    let number : 0 + k ≡ k = omega arith in
+    ap look number ∙ looked m k (bytes_held files r t) (ap (λ bs. slice_get bs k) held ∙ slice_get-map (bytes_held files r) placed k ∙ ap (option_map (bytes_held files r)) at)) in
+    let memory : AllZip (IsHeld files r) (device_things r) (map (with_content m) (spans_of_memory m)) =
+    subst (λ ts. AllZip (IsHeld files r) ts (map (with_content m) (spans_of_memory m))) (sym (memories_are r)) (memories_have files r look (length m.placed.expanded.regions) (memories_of r.devices) (kept_memories m h)) in
+    subst (AllZip (IsSpanOf (source_of r) files) (things_of (source_of r))) (sym (thing_spans_are m h ∙ map-append (with_content m) (spans_of_regions m) (spans_of_memory m)))
+    (spans_of_items files r (items_of (source_of r)) (things_by_number r) (map (with_content m) (spans_of_regions m) ++ map (with_content m) (spans_of_memory m))
+    (item_found (source_of r) h.resolved.names) (things_by_index r h.resolved)
+    (zip_append (IsHeld files r) placed (map (with_content m) (spans_of_regions m)) (device_things r) (map (with_content m) (spans_of_memory m)) regions memory))

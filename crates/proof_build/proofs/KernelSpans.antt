@@ -4,7 +4,7 @@ use Rattle.std.specs.Prelude.{option_map, slice_get}
 use Rattle.ept_emit.specs.Pages.{ept_pages}
 use Rattle.event_emit.specs.declared.event_tables.EventTables.{EventTables}
 use Rattle.expand_kernel.specs.granted.Grants.{Grants}
-use Rattle.expand_kernel.specs.ByIndex.{view_ranges}
+use Rattle.expand_kernel.specs.ByIndex.{granted_ranges, kernel_first}
 use Rattle.expand_kernel.specs.Regions.{anywhere, kernel_regions}
 use Rattle.expand_kernel.specs.thing.RegionKind.TheVariants.{Kernel}
 use Rattle.image_emit.specs.Made.{IsMade, Made, image_of, policy_of}
@@ -21,12 +21,11 @@ use Rattle.policy_lawful.specs.Resolution.{source_of}
 use Rattle.policy_lawful.specs.declared.resolved.Subject.{Subject}
 use Rattle.proof_build.specs.Built.{HasKernelSpans, kernel_tag}
 use Rattle.proof_build.proofs.Tables.{reads_own}
-use Rattle.subject_emit.specs.Mapped.{kernel_first}
 use Rattle.subject_emit.specs.declared.subject_pages.SubjectPages.{SubjectPages}
 
 module _ (m : Made) (h : IsMade m) (k : ℕ) (s : Subject) (g : Grants) (t : EventTables) (q : SubjectPages) (at : IsAtIndex m k s g t q) where
   -- the tag of one of the five
-  pub tagged : (c size : ℕ) (part : TagPart) → slice_get (kernel_regions s.name (ept_pages (view_ranges g.views))) c ≡ Some (anywhere Kernel s.name part size)
+  pub tagged : (c size : ℕ) (part : TagPart) → slice_get (kernel_regions s.name (ept_pages (granted_ranges g.windows))) c ≡ Some (anywhere Kernel s.name part size)
       → tag_at (image_of m) (kernel_first (policy_of m) k + c) ≡ Some (kernel_tag s.name part)
   tagged c size part e =
       ap (option_map (λ (e : Span). e.0.tag))

@@ -15,7 +15,7 @@ use Rattle.policy_lawful.proofs.SourceElements.{many_subjects}
 use Rattle.policy_lawful.specs.Resolution.{source_of}
 use Rattle.policy_lawful.specs.declared.resolved.Subject.{Subject}
 use Rattle.region_alloc.specs.Placed.{Placement}
-use Rattle.subject_emit.specs.Mapped.{brought_before}
+use Rattle.policy_lawful.specs.Things.{placed_things}
 
 -- of five numbers in a row these
 own_numbers : ℕ → ℕ → List ℕ
@@ -59,7 +59,7 @@ none_shared m i j d l within =
     let a = part_at m.placed 0 es i d (omega (arith, l, within)) in
     let b = part_at m.placed 0 es j d within in
     (λ t. share_a_span (a.1 t) (b.1 t))
-    ∙ other_numbers (length (policy_of m).memory + length (policy_of m).channels + brought_before (policy_of m) (length (policy_of m).subjects)) (0 + i) (0 + j) (omega (arith, l))
+    ∙ other_numbers (length (placed_things (policy_of m))) (0 + i) (0 + j) (omega (arith, l))
 
 pub own_pages : (m : Made) → IsMade m → HaveOwnPages (source_of (policy_of m)) (image_of m)
 own_pages m h =

@@ -11,7 +11,7 @@ use Rattle.ept_emit.specs.Emitted.{eptp_of}
 use Rattle.machine_layout.specs.Reads.{Reads}
 use Rattle.event_emit.specs.declared.event_tables.EventTables.{EventTables}
 use Rattle.expand_kernel.specs.granted.Grants.{Grants}
-use Rattle.expand_kernel.specs.ByIndex.{view_ranges}
+use Rattle.expand_kernel.specs.ByIndex.{granted_ranges, kernel_first}
 use Rattle.expand_kernel.specs.Regions.{anywhere}
 use Rattle.expand_kernel.specs.thing.RegionKind.TheVariants.{Kernel}
 use Rattle.image_soundness.specs.Paths.{HasOnePathPerTable}
@@ -28,10 +28,9 @@ use Rattle.muen_num.specs.declared.limits.TheConstants.{PAGE}
 use Rattle.muen_num.specs.declared.tag.TagPart.TheVariants.{Ept}
 use Rattle.policy_lawful.specs.declared.resolved.Subject.{Subject}
 use Rattle.span_emit.specs.SpansOf.{spans_of}
-use Rattle.subject_emit.specs.Mapped.{kernel_first}
 use Rattle.subject_emit.specs.Pages.{tables_at}
 use Rattle.subject_emit.specs.declared.subject_pages.SubjectPages.{SubjectPages}
-use Rattle.subject_emit.proofs.Numbered.{kernel_at_index}
+use Rattle.subject_emit.proofs.TablesReady.{kernel_at}
 
 -- ---- tables are whole pages apart
 
@@ -47,7 +46,7 @@ record IsReadAt (m : Made) (k long page : ℕ) : Type 0 where
 
 module _ (m : Made) (h : IsMade m) (k : ℕ) (s : Subject) (g : Grants) (t : EventTables) (q : SubjectPages) (at : IsAtIndex m k s g t q) where
   abbrev many : ℕ
-  many = ept_pages (view_ranges g.views)
+  many = ept_pages (granted_ranges g.windows)
 
   pub whole : tables_at m.placed k % 4096 ≡ 0
   whole =
@@ -66,14 +65,14 @@ module _ (m : Made) (h : IsMade m) (k : ℕ) (s : Subject) (g : Grants) (t : Eve
 -- tables of two subjects share no page
 module _ (m : Made) (h : IsMade m) (j k page : ℕ) (p : SubjectPart) (o : SubjectPart) (a : SubjectAt m j p) (b : SubjectAt m k o) where
   abbrev long_of : Grants → ℕ
-  long_of g = ept_pages (view_ranges g.views) * 4096
+  long_of g = ept_pages (granted_ranges g.windows) * 4096
 
   apart : j < k → IsReadAt m j (long_of a.granted) page → IsReadAt m k (long_of b.granted) page → ⊥
   apart l x y =
       let first = kernel_first (policy_of m) j + 1 in
       let second = kernel_first (policy_of m) k + 1 in
-      let one = kernel_at_index m.placed (placed_of m h) j 1 a.subject a.granted (anywhere Kernel a.subject.name Ept (long_of a.granted)) a.is.subject a.is.granted refl in
-      let other = kernel_at_index m.placed (placed_of m h) k 1 b.subject b.granted (anywhere Kernel b.subject.name Ept (long_of b.granted)) b.is.subject b.is.granted refl in
+      let one = kernel_at m.placed (placed_of m h) j 1 a.subject a.granted (anywhere Kernel a.subject.name Ept (long_of a.granted)) a.is.subject a.is.granted refl in
+      let other = kernel_at m.placed (placed_of m h) k 1 b.subject b.granted (anywhere Kernel b.subject.name Ept (long_of b.granted)) b.is.subject b.is.granted refl in
       let as_many = as_many_addresses m h in
       let there = slice_get_within m.placed.expanded.regions second _ other in
       let before = whole m h j a.subject a.granted a.raising a.kept a.is in

@@ -7,7 +7,7 @@ use Rattle.ept_emit.specs.Entries.{word_at}
 use Rattle.ept_emit.specs.Pages.{ept_pages}
 use Rattle.event_emit.specs.declared.event_tables.EventTables.{EventTables}
 use Rattle.expand_kernel.specs.granted.Grants.{Grants}
-use Rattle.expand_kernel.specs.ByIndex.{view_ranges}
+use Rattle.expand_kernel.specs.ByIndex.{granted_ranges, kernel_first}
 use Rattle.image_emit.specs.Made.{IsMade, Made, content_at, image_of, policy_of, subject_part}
 use Rattle.image_emit.proofs.ByNumber.{span_numbered}
 use Rattle.image_emit.proofs.BySubject.{IsAtIndex, each_subject}
@@ -22,7 +22,6 @@ use Rattle.policy_lawful.specs.declared.resolved.Subject.{Subject}
 use Rattle.proof_build.specs.Built.{HasNoSpareTables, IsTablePage}
 use Rattle.proof_build.proofs.Paths.{whole}
 use Rattle.proof_build.proofs.Tables.{has_tables, tables_long}
-use Rattle.subject_emit.specs.Mapped.{kernel_first}
 use Rattle.subject_emit.specs.Pages.{tables_at}
 use Rattle.subject_emit.specs.declared.subject_pages.SubjectPages.{SubjectPages}
 use Rattle.subject_emit.proofs.SamePages.{pages_same}
@@ -74,7 +73,7 @@ page_of_zeros tables k size is room none =
 
 module _ (m : Made) (h : IsMade m) (k : ℕ) (s : Subject) (g : Grants) (t : EventTables) (q : SubjectPages) (at : IsAtIndex m k s g t q) where
   abbrev many : ℕ
-  many = ept_pages (view_ranges g.views)
+  many = ept_pages (granted_ranges g.windows)
 
   -- a page of the span that isn't read is zero
   page_so : (j : ℕ) → j < many → IsReadBy (memory_of (image_of m)) (eptp_of (tables_at m.placed k)) (2 ^ 48 - 1) (tables_at m.placed k / 4096 + j) ⊎ ((i : ℕ) → i < 512 → word_at q.tables (512 * j + i) ≡ 0)
@@ -89,7 +88,7 @@ module _ (m : Made) (h : IsMade m) (k : ℕ) (s : Subject) (g : Grants) (t : Eve
       let one = kernel_span m h k s g t q at 1 (many * PAGE) Ept in
       let number = kernel_first (policy_of m) k + 1 in
       let aligned = whole m h k s g t q at in
-      let same = pages_same m.placed k g in
+      let same = pages_same m.placed g in
       let pages : one.pages ≡ many = omega arith in
       record {
         number = number;

@@ -11,7 +11,7 @@ use Rattle.muen_num.specs.declared.limits.TheConstants.{PAGE}
 use Rattle.muen_num.specs.declared.tag.TagPart.TheVariants.{State}
 use Rattle.policy_lawful.specs.Resolution.{source_of}
 use Rattle.image_soundness.specs.StatePage.{page_bytes}
-use Rattle.subject_emit.specs.Mapped.{kernel_first}
+use Rattle.expand_kernel.specs.ByIndex.{kernel_first}
 use Rattle.image_soundness.specs.States.{started}
 
 pub states : (m : Made) → IsMade m → ForEachSubject (source_of (policy_of m)) (image_of m) (IsFresh (image_of m))

@@ -7,7 +7,7 @@ use Rattle.ept_emit.specs.Pages.{ept_pages}
 use Rattle.ept_emit.specs.Emitted.{HasTables, eptp_of}
 use Rattle.event_emit.specs.declared.event_tables.EventTables.{EventTables}
 use Rattle.expand_kernel.specs.granted.Grants.{Grants}
-use Rattle.expand_kernel.specs.ByIndex.{view_ranges}
+use Rattle.expand_kernel.specs.ByIndex.{granted_ranges}
 use Rattle.image_emit.specs.Made.{IsMade, Made, image_of, policy_of}
 use Rattle.proof_build.proofs.PagesThere.{page_there}
 use Rattle.image_emit.proofs.BySubject.{IsAtIndex, each_subject}
@@ -30,14 +30,14 @@ use Rattle.subject_emit.proofs.SamePages.{pages_same}
 
 module _ (m : Made) (h : IsMade m) (k : ℕ) (s : Subject) (g : Grants) (t : EventTables) (q : SubjectPages) (at : IsAtIndex m k s g t q) where
   abbrev many : ℕ
-  many = ept_pages (view_ranges g.views)
+  many = ept_pages (granted_ranges g.windows)
 
   -- the span of the subject's tables
   abbrev tables_span : SpanPart
   tables_span = kernel_span m h k s g t q at 1 (many * PAGE) Ept
 
   pub tables_long : length q.tables ≡ 4096 * many
-  tables_long = at.pages.tables.len ∙ ap (λ n. 4096 * n) (pages_same m.placed k g)
+  tables_long = at.pages.tables.len ∙ ap (λ n. 4096 * n) (pages_same m.placed g)
 
   -- has so many pages
   span_pages : tables_span.pages ≡ many

@@ -1,7 +1,7 @@
 -- What an image of a policy has beside being sound: its spans are the policy's regions and devices, what a subject's part
 -- numbers is the subject's own, tables ascend along a walk, what no walk reads of them is zero,
 -- and its pages are the greatest and have the memory types of what they show (Intel SDM volume 3, "VMX Support for Address Translation").
-use Rattle.std.specs.Prelude.{◌≡◌, ◌⊎◌, ℕ, suc, ◌+◌, ◌*◌, ◌/◌, ◌%◌, ◌<◌, ◌≤◌, ◌&&◌, nat_le, Bool, true, List, ◌++◌, length, map, replicate, slice_get, Ok, Some}
+use Rattle.std.specs.Prelude.{◌≡◌, ◌⊎◌, ℕ, ◌+◌, ◌*◌, ◌/◌, ◌%◌, ◌<◌, ◌≤◌, ◌&&◌, nat_le, Bool, true, List, ◌++◌, length, map, replicate, Ok, Some}
 use Rattle.std.specs.List.{All, find, list_any}
 use Rattle.std.specs.Option.{IfSome}
 use Rattle.std.specs.Str.{bytes_eq}

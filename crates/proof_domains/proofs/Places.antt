@@ -4,7 +4,7 @@ use Rattle.std.specs.Prelude.{not, option_map, slice_get}
 use Rattle.std.specs.List.{enumerate_from, flat_map}
 use Rattle.std.proofs.lemmas.Option.{slice_get-map}
 use Rattle.std.proofs.lemmas.Map.Keys.{any_passes_from_place}
-use Rattle.dma_emit.specs.Regions.{kernel_regions_of, regions_of}
+use Rattle.dma_emit.specs.Regions.{region_of, regions_of}
 use Rattle.dma_tables.specs.ImageConditions.{KeepsConditions}
 use Rattle.dma_tables.specs.parts.Image.{Image}
 use Rattle.dma_tables.specs.parts.SpanPart.{SpanPart}
@@ -12,7 +12,7 @@ use Rattle.proof_build.specs.Memory.{Span, by_number}
 use Rattle.proof_build.specs.Sound.{IsSound, address_of, is_kernel, thing_spans}
 use Rattle.policy_lawful.specs.Contents.{Held}
 use Rattle.policy_lawful.specs.Resolution.{source_of}
-use Rattle.policy_lawful.specs.Thing.{channel, component_by, device_memory, region, same_thing, things_of}
+use Rattle.policy_lawful.specs.Thing.{channel, component_by, device_memory, region, region_item, same_thing, things_of}
 use Rattle.policy_lawful.specs.source.Region.{Region as SourceRegion}
 use Rattle.policy_lawful.specs.source.Source.{Source}
 use Rattle.proof_build.specs.Built.{HasSpans}
@@ -21,9 +21,8 @@ use Rattle.proof_start.proofs.SpansOfThings.{listed_span}
 use Rattle.dma_emit.specs.Placed.{IsPlaced, Placement}
 use Rattle.proof_build.specs.Spans.{device_spans, region_span, region_spans}
 use Rattle.policy_lawful.proofs.SameThings.{same_thing_self}
-use Rattle.dma_emit.specs.ByIndex.{channel_region, own_region, provided_regions}
 use Rattle.policy_lawful.proofs.Items.{provided_by, things_are}
-use Rattle.dma_emit.proofs.ByKind.{regions_are}
+use Rattle.dma_emit.proofs.OwnRegions.{region_at}
 use Rattle.muen_num.proofs.Options.{from_some, one_value}
 use Rattle.muen_num.proofs.Pairs.{other_at, zipped_at}
 use Rattle.muen_num.proofs.Lists.{at_left, numbered_at}
@@ -65,11 +64,9 @@ module _ (x : Placement) (placed : IsPlaced x) (files : Held) (i : Image) (keeps
   same_addresses : spans.addresses ≡ x.addresses
   same_addresses = let e : Ok spans.addresses ≡ Ok x.addresses = sym spans.are ∙ placed.placement in cc (e)
 
-  region_at : (k : ℕ) (r : SourceRegion) → slice_get p.memory k ≡ Some r → slice_get (regions_of p) k ≡ Some (own_region r)
-  region_at k r e =
-      ap (λ rs. slice_get rs k) (regions_are p)
-      ∙ front_of_four (map own_region p.memory) (map channel_region p.channels) (flat_map (λ s. provided_regions s.name (component_by p s.component)) p.subjects) (flat_map (kernel_regions_of p) p.subjects) k (own_region r)
-      (mapped_at own_region p.memory k r e)
+  region_there : (k : ℕ) (r : SourceRegion) → slice_get p.memory k ≡ Some r → slice_get x.expanded.regions k ≡ Some (region_of (region_item r))
+  unfolding source_of
+  region_there = region_at x placed
 
   -- the span of a region of memory, among those by number
   record IsAt (k : ℕ) (r : SourceRegion) : Type 0 where
@@ -82,14 +79,16 @@ module _ (x : Placement) (placed : IsPlaced x) (files : Held) (i : Image) (keeps
 
   is_at : (k : ℕ) (r : SourceRegion) → slice_get p.memory k ≡ Some r → IsAt k r
   is_at k r e =
-      let region = region_at k r e in
-      let other = other_at _ x.expanded.regions x.addresses k (own_region r) placed.inside (ap (λ rs. slice_get rs k) placed.expansion.regions ∙ region) in
+      let y = region_of (region_item r) in
+      let there = region_there k r e in
+      let region : slice_get (regions_of p) k ≡ Some y = sym (ap (λ rs. slice_get rs k) placed.expansion.regions) ∙ there in
+      let other = other_at _ x.expanded.regions x.addresses k y placed.inside there in
       let address : ℕ = other.0 in
       let among : slice_get spans.addresses k ≡ Some address = ap (λ ns. slice_get ns k) same_addresses ∙ other.1 in
-      let s : SpanPart = region_span (0 + k, (own_region r, address)) in
+      let s : SpanPart = region_span (0 + k, (y, address)) in
       let listed : slice_get (region_spans (regions_of p) spans.addresses) k ≡ Some s =
-      mapped_at region_span (enumerate_from 0 (zip (regions_of p) spans.addresses)) k (0 + k, (own_region r, address))
-      (numbered_at 0 (zip (regions_of p) spans.addresses) k (own_region r, address) (zipped_at (regions_of p) spans.addresses k (own_region r) address region among)) in
+      mapped_at region_span (enumerate_from 0 (zip (regions_of p) spans.addresses)) k (0 + k, (y, address))
+      (numbered_at 0 (zip (regions_of p) spans.addresses) k (y, address) (zipped_at (regions_of p) spans.addresses k y address region among)) in
       let whole : slice_get (map (λ (e : Span). e.0) (by_number i)) k ≡ Some s = ap (λ ss. slice_get ss k) spans.spans ∙ at_left (region_spans (regions_of p) spans.addresses) (device_spans (length (regions_of p)) p.devices) k s listed in
       let found = from_some (λ (e : Span). e.0) (slice_get (by_number i) k) s (sym (slice_get-map (λ (e : Span). e.0) (by_number i) k) ∙ whole) in
       record {

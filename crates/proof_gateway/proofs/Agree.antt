@@ -20,9 +20,10 @@ use Rattle.subject_model.specs.Clock.{inputs_at}
 use Rattle.subject_model.specs.DeviceRecord.{NamedInput, port_input, irq_input}
 use Rattle.subject_model.specs.System.{is_shown, start_of, subject_named}
 use Rattle.proof_isolation.specs.Agree.{Agree, AgreeFor, WritesTheSame, is_handover, irq_to, is_first, only_to, own_slot, plain_frame, input_reaches_member, unchosen}
+use Rattle.proof_isolation.proofs.WrittenOut.{own_by}
 use Rattle.proof_gateway.specs.Gateway.{with_black, plain, keys, slots, cipher, members, network}
 use Rattle.proof_gateway.proofs.Contents.{same_contents}
-use Rattle.proof_gateway.proofs.Members.{OfMembers, each_member, members_have_no_ports, own_by}
+use Rattle.proof_gateway.proofs.Members.{OfMembers, each_member, members_have_no_ports}
 
 -- ---- inputs that reach no member
 

@@ -1,42 +1,24 @@
 -- The bytes at the start of what the windows of members show: the same whatever `black` is.
 use Rattle.std.proofs.Common.{◌≡◌, ℕ, true, false, List, [], ◌∷◌, ◌++◌, map, refl, sym, ap, subst, ◌∙◌, inl, inr, true≢false}
 use Rattle.std.specs.Prelude.{Option, Some, None, codes}
-use Rattle.std.specs.List.{AllByRecursion, find, flat_map, list_any}
+use Rattle.std.specs.List.{AllByRecursion, find, flat_map}
 use Rattle.std.specs.Option.{option_map_or}
 use Rattle.std.proofs.lemmas.Bool.{cases_Bool}
-use Rattle.policy_lawful.specs.Contents.{Held, content_bytes, initial_bytes}
-use Rattle.policy_lawful.specs.Thing.{Item, Thing, channel, channel_item, component_by, device_items, item_of, items_of, placed_items, provided, provided_items, region, region_item, same_thing, state, things_of}
+use Rattle.policy_lawful.specs.Contents.{Held}
+use Rattle.policy_lawful.specs.Thing.{Item, Thing, channel, channel_item, component_by, device_items, item_of, items_of, placed_items, provided, provided_items, region, region_item, same_thing}
 use Rattle.policy_lawful.specs.Windows.{Window, windows_of}
 use Rattle.policy_lawful.specs.source.Mapping.{Mapping}
 use Rattle.policy_lawful.specs.source.Region.{Region}
 use Rattle.policy_lawful.specs.source.Source.{Source}
 use Rattle.policy_lawful.proofs.NoFiles.{in_no_file, same_content}
 use Rattle.policy_lawful.proofs.SameThings.{same_things}
-use Rattle.subject_model.proofs.StartLists.{made_of}
 use Rattle.subject_model.specs.Alone.{thing_in}
-use Rattle.subject_model.specs.System.{first_page, is_shown, start_of}
+use Rattle.subject_model.specs.System.{is_shown, start_of}
+use Rattle.proof_isolation.proofs.WrittenOut.{at_start}
 use Rattle.proof_gateway.specs.Gateway.{with_black, plain, keys, slots, cipher}
 use Rattle.proof_gateway.proofs.Members.{OfMembers}
 
 -- ---- of what is declared of a thing
-
-bytes_of_item : (p : Source) (f : Held) (x : Thing) (i : Item) → item_of p x ≡ Some i → initial_bytes p f x ≡ content_bytes f i.size i.content
-unfolding initial_bytes
-bytes_of_item p f x i is = ap (λ o. option_map_or (λ i. content_bytes f i.size i.content) o []) is
-
-listed : (x : Thing) (items : List Item) (i : Item) → find (λ i. same_thing i.thing x) items ≡ Some i → list_any (λ y. same_thing y x) (map (λ i. i.thing) items) ≡ true
-listed x [] i is = absurd (cc (is))
-listed x (j ∷ items) i is =
-    elim (cases_Bool (same_thing j.thing x)) [ inl t ↦ rw t refl | inr n ↦ rw n (listed x items i (let g = rw n at is in g)) ]
-
-is_listed : (p : Source) (x : Thing) (i : Item) → item_of p x ≡ Some i → list_any (λ y. same_thing y x) (things_of p) ≡ true
-unfolding item_of things_of
-is_listed p x i is = listed x (items_of p) i is
-
-at_start : (p : Source) (f : Held) (x : Thing) (i : Item) → item_of p x ≡ Some i → thing_in (start_of p f).things x ≡ Some (content_bytes f i.size i.content)
-unfolding start_of
-at_start p f x i is =
-    made_of (initial_bytes p f) (things_of p) (map (λ s. (state s.name, first_page s)) p.subjects) x (is_listed p x i is) ∙ ap Some (bytes_of_item p f x i is)
 
 same_at_start : (p q : Source) (f g : Held) (x : Thing) (o : Option Item) → item_of p x ≡ o → item_of q x ≡ o → option_map_or (λ i. in_no_file i.content) o false ≡ true
     → thing_in (start_of p f).things x ≡ thing_in (start_of q g).things x

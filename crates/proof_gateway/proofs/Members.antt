@@ -1,32 +1,22 @@
 -- Whatever holds of each of the four members holds of a member; and what a policy says of members, whatever `black` is.
-use Rattle.std.proofs.Common.{◌≡◌, ℕ, Bool, true, List, [], ◌∷◌, filter, refl, sym, ap, subst, ◌∙◌, ◌+◌, inl, inr, true≢false}
+use Rattle.std.proofs.Common.{◌≡◌, ℕ, true, List, [], ◌∷◌, filter, refl, sym, ap, ◌∙◌, ◌+◌, true≢false}
 use Rattle.std.specs.Prelude.{Some}
-use Rattle.std.specs.List.{AllByRecursion, find, list_any}
+use Rattle.std.specs.List.{list_any}
 use Rattle.std.specs.Str.{bytes_eq}
-use Rattle.std.proofs.lemmas.Bool.{cases_Bool}
 use Rattle.proof_isolation.specs.Flows.{is_member}
 use Rattle.proof_isolation.specs.Range.{numbers_below}
 use Rattle.proof_isolation.specs.limits.TheConstants.{LAST_PORT}
-use Rattle.policy_lawful.specs.Windows.{windows_of}
 use Rattle.policy_lawful.specs.source.Mapping.{Mapping}
 use Rattle.policy_lawful.specs.source.Region.{Region}
 use Rattle.policy_lawful.specs.source.Source.{Source}
 use Rattle.policy_lawful.specs.source.Subject.{Subject}
-use Rattle.subject_model.specs.Alone.{own_of}
 use Rattle.subject_model.specs.Resources.{port_ranges_of, ports_of}
 use Rattle.policy_lawful.specs.PortRanges.{has_port}
 use Rattle.subject_model.specs.System.{subject_named}
+use Rattle.proof_isolation.proofs.WrittenOut.{of_found}
 use Rattle.proof_gateway.specs.Gateway.{with_black, plain, keys, slots, cipher, members}
 
 -- ---- by cases over the members
-
-found : {X : Type 0} (P : X → Type 0) (test : X → Bool) (xs : List X) → AllByRecursion P xs → (x : X) → find test xs ≡ Some x → P x
-found P test [] all x h = absurd (cc (h))
-found P test (y ∷ ys) all x h =
-    elim (cases_Bool (test y)) [
-      | inl t ↦ let g = rw t at h in let is : y ≡ x = cc (g) in subst P is all.0
-      | inr n ↦ found P test ys all.1 x (let g = rw n at h in g)
-    ]
 
 pub record OfMembers (P : Subject → Type 0) : Type 0 where
   pub of_plain : P plain
@@ -37,7 +27,7 @@ pub record OfMembers (P : Subject → Type 0) : Type 0 where
 pub each_member : (P : Subject → Type 0) (regions : List Region) (windows : List Mapping) (code : List ℕ) → OfMembers P
     → (s : Subject) → is_member members s ≡ true → subject_named (with_black regions windows code) s.name ≡ Some s → P s
 each_member P regions windows code of s member is =
-    found (λ s. is_member members s ≡ true → P s) (λ u. bytes_eq u.name s.name) (with_black regions windows code).subjects
+    of_found (λ s. is_member members s ≡ true → P s) (λ u. bytes_eq u.name s.name) (with_black regions windows code).subjects
     (λ _. of.of_plain, (λ _. of.of_keys, (λ _. of.of_slots, (λ _. of.of_cipher, (λ h. absurd (true≢false (sym h)), tt))))) s is member
 
 -- ---- a member is given no port
@@ -60,9 +50,3 @@ members_have_no_ports regions windows code = let p = with_black regions windows 
   of_slots = no_ports p slots refl;
   of_cipher = no_ports p cipher refl;
 }
-
--- ---- what a member is given for itself, and which events it raises
-
-pub own_by : (p q : Source) (s : Subject) → windows_of p s ≡ windows_of q s → ports_of p s ≡ ports_of q s → own_of p s ≡ own_of q s
-unfolding own_of
-own_by p q s windows ports = cc (windows, ports)

@@ -11,9 +11,10 @@ mod Turners
 mod BothRaise
 mod BothTurns
 mod CpuTurns
-mod SeenWrites
+pub mod SeenWrites
 mod MergedInputs
 mod MergedTurns
 pub mod TwoSystems
 mod TwoTexts
 pub mod TwoEnds
+pub mod WrittenOut

@@ -30,7 +30,7 @@ use Rattle.proof_isolation.proofs.BothRaise.{change_thing_alike}
 
 module _ (p : Source) (members : List (List ℕ)) where
   -- what a window of a member shows is seen
-  seen_by : (s : Subject) → is_member members s ≡ true → subject_named p s.name ≡ Some s → (x : Thing) → is_shown (windows_of p s) x ≡ true → is_seen p members x ≡ true
+  pub seen_by : (s : Subject) → is_member members s ≡ true → subject_named p s.name ≡ Some s → (x : Thing) → is_shown (windows_of p s) x ≡ true → is_seen p members x ≡ true
   seen_by s member is x shown =
       any_in (λ s. is_member members s && is_shown (windows_of p s) x) p.subjects s (find_in (λ x. bytes_eq x.name s.name) p.subjects s is).0 (and_from (is_member members s) (is_shown (windows_of p s) x) member shown)
 

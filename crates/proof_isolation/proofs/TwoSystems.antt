@@ -1,12 +1,12 @@
 -- The views of members of a closed set are the same in two systems that agree on it.
-use Rattle.std.proofs.Common.{◌≡◌, ℕ, zero, suc, ◌<◌, ◌≤◌, Bool, true, false, cond, List, [], ◌∷◌, map, filter, min, Option, Some, None, refl, sym, ap, subst, ◌∙◌, inl, inr, arith}
+use Rattle.std.proofs.Common.{◌≡◌, ℕ, zero, suc, ◌<◌, ◌≤◌, Bool, true, false, cond, List, [], ◌∷◌, ◌++◌, map, filter, min, Option, Some, None, refl, sym, ap, subst, ◌∙◌, inl, inr, arith}
 use Rattle.std.specs.Prelude.{◌==◌, ◌&&◌, codes, option_and_then, option_map, slice_get, unwrap_or}
 use Rattle.std.specs.List.{find, list_any}
 use Rattle.std.specs.Option.{option_map_or}
 use Rattle.std.specs.Str.{bytes_eq}
 use Rattle.std.proofs.lemmas.Bool.{and_from, and_parts, eq-eqb, eqb-true, true_from_ne_false}
 use Rattle.std.proofs.lemmas.List.{length-map}
-use Rattle.std.proofs.lemmas.List.Elements.{recursion_from_All}
+use Rattle.std.proofs.lemmas.List.Elements.{filter-append, recursion_from_All}
 use Rattle.std.proofs.lemmas.Option.{slice_get-map, slice_get_within}
 use Rattle.std.proofs.lemmas.Slice.Eq.{bytes_eq-Decides}
 use Rattle.subject_model.specs.Resources.{msrs_of}
@@ -49,10 +49,12 @@ use Rattle.subject_model.specs.Alone.{own_of, thing_in}
 use Rattle.subject_model.specs.Clock.{begins, inputs_at, line_writes, order_at, pick_in, run_of, system, takes, ticks_of_majors}
 use Rattle.subject_model.specs.System.{System, is_shown, named, start_of, subject_named, system_turn}
 use Rattle.subject_model.specs.View.{ran_through, seen_in, through, view_of}
+use Rattle.proof_views.specs.AloneRun.{before}
 use Rattle.proof_views.proofs.ActiveMembers.{begun_listed}
 use Rattle.proof_views.proofs.Unmoved.{by_irq}
 use Rattle.proof_isolation.specs.Agree.{Agree, AgreeOnFrames, WritesTheSame, chosen, holds_member, is_first, own_slot, plain_frame, input_reaches_member, unchosen}
 use Rattle.proof_isolation.specs.Alike.{AreAlike, AreAlikeFor, AreSameViews, is_active}
+use Rattle.proof_isolation.specs.MemberLines.{is_of}
 use Rattle.proof_isolation.specs.Laws.{MembersSeeTheSame, SetsOfFlowsAreEnough}
 use Rattle.proof_isolation.proofs.Alike.{same_cpu, same_entry, same_name, same_windows}
 use Rattle.proof_isolation.proofs.CpuTurns.{SameSlots}
@@ -111,11 +113,11 @@ input_frame p (memory_input device memory offset bytes) y = refl
 input_frame p (irq_input device irq) y = (by_irq (irq_of p device irq) y).frame
 input_frame p (dma_input device address bytes) y = ap (λ z. z.frame) (line_things (line_writes p device address bytes) y)
 
-inputs_frame : (p : Source) (is : List NamedInput) (y : System) → (all_taken (system p) is y).frame ≡ y.frame
+pub inputs_frame : (p : Source) (is : List NamedInput) (y : System) → (all_taken (system p) is y).frame ≡ y.frame
 inputs_frame p [] y = refl
 inputs_frame p (i ∷ is) y = inputs_frame p is (takes p i y) ∙ input_frame p i y
 
-turns_frame : (p : Source) (tick : ℕ) (order : List ℕ) (y : System) → (turns (system p) tick order y).state.frame ≡ y.frame
+pub turns_frame : (p : Source) (tick : ℕ) (order : List ℕ) (y : System) → (turns (system p) tick order y).state.frame ≡ y.frame
 turns_frame p tick [] y = refl
 turns_frame p tick (c ∷ cs) y = turns_frame p tick cs (system_turn p c tick y).state ∙ turn_frame p c tick y
 
@@ -146,6 +148,20 @@ filter_through test cpu kept (c ∷ cs) =
           ]
     ] refl
 
+filter_before : (test : ℕ → Bool) (cpu : ℕ) → test cpu ≡ true → (order : List ℕ) → filter test (before cpu order) ≡ before cpu (filter test order)
+filter_before test cpu kept [] = refl
+filter_before test cpu kept (c ∷ cs) =
+    elim (c == cpu) as (λ b. (c == cpu) ≡ b → filter test (cond b [] (c ∷ before cpu cs)) ≡ before cpu (cond (test c) (c ∷ filter test cs) (filter test cs))) [
+      | true ↦ λ e.
+          let here : test c ≡ true = ap test (eqb-true c cpu e) ∙ kept in
+          sym (ap (λ b. before cpu (cond b (c ∷ filter test cs) (filter test cs))) here ∙ ap (λ b. cond b [] (c ∷ before cpu (filter test cs))) e)
+      | false ↦ λ e.
+          elim (test c) as (λ b. cond b (c ∷ filter test (before cpu cs)) (filter test (before cpu cs)) ≡ before cpu (cond b (c ∷ filter test cs) (filter test cs))) [
+            | true ↦ ap (λ xs. c ∷ xs) (filter_before test cpu kept cs) ∙ sym (ap (λ b. cond b [] (c ∷ before cpu (filter test cs))) e)
+            | false ↦ filter_before test cpu kept cs
+          ]
+    ] refl
+
 -- ---- who chooses frames
 
 -- the subject that chooses frames may write their region
@@ -158,6 +174,10 @@ chooser p lawful t is =
     let memory = none_both _ _ declared.1 in
     let writer = none_both _ _ memory.1 in
     unless_none (list_any (λ s. bytes_eq s.name t.subject && writes p t.region s) p.subjects) (two (codes "tau0") t.region) writer.0
+
+-- a subject is found by its name
+pub itself : (p : Source) → IsLawful p → (s : Subject) → In s p.subjects → subject_named p s.name ≡ Some s
+itself p lawful s within = let at = index_in p.subjects s within in found_by_name (λ (s : Subject). s.name) p.subjects (unique p (rules_of lawful).rule_1).subjects at.0 s at.1
 
 -- so it sees it, and is a member where there is one
 module _ (p : Source) (lawful : IsLawful p) (members : List (List ℕ)) (closed : IsClosed p members) (m : Subject) (in_m : In m p.subjects) (member : is_member members m ≡ true) where
@@ -172,10 +192,6 @@ module _ (p : Source) (lawful : IsLawful p) (members : List (List ℕ)) (closed 
       let at = any_some (λ w. same_thing w.thing x && allows w.rights Write) windows h in
       any_in (λ w. same_thing w.thing x) windows at.one at.within (and_parts (same_thing at.one.thing x) (allows at.one.rights Write) at.passes).0
 
-  -- who has a name is found by it
-  itself : (s : Subject) → In s p.subjects → subject_named p s.name ≡ Some s
-  itself s within = let at = index_in p.subjects s within in found_by_name (λ (s : Subject). s.name) p.subjects (unique p (rules_of lawful).rule_1).subjects at.0 s at.1
-
   its_chooser : (t : Tau0) → p.scheduling.tau0 ≡ Some t → Chooser t
   its_chooser t is =
       let at = any_some (λ s. bytes_eq s.name t.subject && writes p t.region s) p.subjects (chooser p lawful t is) in
@@ -183,7 +199,7 @@ module _ (p : Source) (lawful : IsLawful p) (members : List (List ℕ)) (closed 
       let plans : by_plan p at.one ≡ true = ap (λ o. option_map_or (λ t. bytes_eq t.subject at.one.name) o false) is ∙ (bytes_eq-Decides t.subject at.one.name).1 (sym ((bytes_eq-Decides at.one.name t.subject).0 parts.0)) in
       record {
         one = at.one;
-        is = itself at.one at.within;
+        is = itself p lawful at.one at.within;
         inside = true_from_ne_false (is_member members at.one) (λ e. no_flow p members closed at.one m at.within in_m member e (flows_by p at.one m (inr (inr (inr (inl plans))))));
         shown = sees (windows_of p at.one) (region t.region) parts.1;
       }
@@ -265,6 +281,51 @@ module _ (p q : Source) (lawful : IsLawful p) (lawful_too : IsLawful q) (members
             (turns_frame p n (order_at p r n) y ∙ inputs_frame p (inputs_at r n) (begins p n (run_p n)))
             (turns_frame q n (order_at q t n) z ∙ inputs_frame q (inputs_at t n) (begins q n (run_q n))) at,
       )
+
+  -- after so many ticks they are alike
+  pub alike_after : (n : ℕ) → n ≤ ends → AreAlike p q members (run_p n) (run_q n)
+  alike_after n low = (runs n low).0
+
+  -- the lines of members in the first ticks, in their order
+  pub all_lines : (n : ℕ) → n ≤ ends → filter (is_of members) (run_to (system p) (inputs_at r) (order_at p r) n (start_of p f)).lines ≡ filter (is_of members) (run_to (system q) (inputs_at t) (order_at q t) n (start_of q g)).lines
+  all_lines zero low = refl
+  all_lines (suc n) low =
+      let before = runs n (omega (arith, low)) in
+      let under : n < ends = omega (arith, low) in
+      let y = begun (system p) n (inputs_at r n) (run_p n) in
+      let z = begun (system q) n (inputs_at t n) (run_q n) in
+      let both = turns_both p q lawful lawful_too members closed closed_too f g r t ends agree n (order_at p r n) (order_at q t n) y z (agree.orders n under) (ready n under before.0 before.1) in
+      let left = (run_to (system p) (inputs_at r) (order_at p r) n (start_of p f)).lines in
+      let right = (run_to (system q) (inputs_at t) (order_at q t) n (start_of q g)).lines in
+      filter-append (is_of members) left (turns (system p) n (order_at p r n) y).lines
+      ∙ (λ i. all_lines n (omega (arith, low)) i ++ both.all i)
+      ∙ sym (filter-append (is_of members) right (turns (system q) n (order_at q t n) z).lines)
+
+  -- ---- just before the turn of a member's CPU
+
+  pub record SameBefore (n : ℕ) (w : Subject) (y z : System) : Type 0 where
+    pub alike : AreAlike p q members y z
+    pub slot : own_slot p m y.frame n ≡ own_slot q w z.frame n
+
+  pub before_turn : (n : ℕ) → n < ends → (w : Subject) → subject_named q m.name ≡ Some w
+      → SameBefore n w (turns (system p) n (before m.cpu (order_at p r n)) (begun (system p) n (inputs_at r n) (run_p n))).state (turns (system q) n (before w.cpu (order_at q t n)) (begun (system q) n (inputs_at t n) (run_q n))).state
+  before_turn n low w is =
+      let pair = agree.each m w member found is in
+      let name = same_name p q m w pair.own in
+      let cpu = same_cpu p q m w pair.own in
+      let earlier = runs n (omega (arith, low)) in
+      let holds : holds_member p members m.cpu ≡ true = any_in (λ s. is_member members s && (s.cpu == m.cpu)) p.subjects m in_m (and_from (is_member members m) (m.cpu == m.cpu) member (eq-eqb m.cpu m.cpu refl)) in
+      let in_w = (find_in (λ s. bytes_eq s.name m.name) q.subjects w is).0 in
+      let holds' : holds_member q members w.cpu ≡ true = any_in (λ s. is_member members s && (s.cpu == w.cpu)) q.subjects w in_w (and_from (is_member members w) (w.cpu == w.cpu) (same_member members m w name member) (eq-eqb w.cpu w.cpu refl)) in
+      let orders : filter (holds_member p members) (before m.cpu (order_at p r n)) ≡ filter (holds_member q members) (before w.cpu (order_at q t n)) =
+      filter_before (holds_member p members) m.cpu holds (order_at p r n) ∙ ap (before m.cpu) (agree.orders n low) ∙ ap (λ c. before c (filter (holds_member q members) (order_at q t n))) cpu ∙ sym (filter_before (holds_member q members) w.cpu holds' (order_at q t n)) in
+      let y = begun (system p) n (inputs_at r n) (run_p n) in
+      let z = begun (system q) n (inputs_at t n) (run_q n) in
+      let at = ready n low earlier.0 earlier.1 in
+      record {
+        alike = (turns_both p q lawful lawful_too members closed closed_too f g r t ends agree n (before m.cpu (order_at p r n)) (before w.cpu (order_at q t n)) y z orders at).alike;
+        slot = ap (λ at. own_slot p m at n) (turns_frame p n (before m.cpu (order_at p r n)) y) ∙ at.slots m w member found is ∙ sym (ap (λ at. own_slot q w at n) (turns_frame q n (before w.cpu (order_at q t n)) z));
+      }
 
   -- ---- views
 

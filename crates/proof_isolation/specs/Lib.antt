@@ -7,3 +7,4 @@ pub mod Agree
 pub mod TwoTexts
 pub mod TwoSystems
 pub mod Laws
+pub mod MemberLines

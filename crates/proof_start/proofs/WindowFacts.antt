@@ -50,7 +50,6 @@ use Rattle.muen_num.proofs.Each.{each_append, each_flat, each_some as each_made,
 use Rattle.muen_num.proofs.Lookups.{found_passes, same_self, found_any, found_index}
 use Rattle.subject_model.proofs.PolicyFacts.{found_again}
 use Rattle.policy_lawful.proofs.SameThings.{same_thing_self}
-use Rattle.image_soundness.proofs.ThingFacts.{channel_is_thing, channel_long, device_is_thing, device_long, provided_is_thing, provided_long, region_is_thing, region_long}
 use Rattle.image_soundness.proofs.WindowsOn.{IsOn, each_found, each_window, windows_aligned}
 
 -- ---- what an access reaches

@@ -17,4 +17,4 @@ pub mod ThingsStay
 mod PrivateMemory
 mod PendingVectors
 mod ChannelWriters
-mod ComposedRuns
+pub mod ComposedRuns

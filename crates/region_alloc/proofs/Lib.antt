@@ -1,7 +1,9 @@
+pub mod AddressesFit
 pub mod Apart
 pub mod Carving
 pub mod EachInTurn
 pub mod HasRoom
+pub mod KeptItems
 pub mod Least
 pub mod Lowest
 pub mod Multiples
@@ -11,4 +13,5 @@ pub mod Rooms
 pub mod Sized
 pub mod Sizes
 pub mod Spots
+pub mod ThingAddresses
 pub use Rattle.expand_kernel.proofs.PageCounts

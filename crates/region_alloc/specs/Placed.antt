@@ -1,11 +1,15 @@
 -- A policy whose regions are placed.
-use Rattle.std.specs.Prelude.{◌≡◌, ◌⊎◌, ◌+◌, ◌≤◌, ℕ, ◌<◌, List, length, slice_get, slice_index, Some, Ok, true}
+use Rattle.std.specs.Prelude.{◌≡◌, ◌⊎◌, ◌+◌, ◌≤◌, ℕ, ◌<◌, List, ◌++◌, length, map, slice_get, slice_index, take, unwrap_or, Some, Ok, true}
 use Rattle.std.specs.List.{AllZip}
+use Rattle.expand_kernel.specs.ByIndex.{kernel_first}
 use Rattle.expand_kernel.specs.Expansion.{Expansion, IsExpansion}
 use Rattle.expand_kernel.specs.thing.Region.{Region}
 use Rattle.policy_lawful.specs.Lawful.{IsLawful}
 use Rattle.policy_lawful.specs.Ranges.{in_a_block}
-use Rattle.policy_lawful.specs.Resolution.{IsResolved, source_of}
+use Rattle.policy_lawful.specs.Resolution.{IsResolved, Resolution, source_of}
+use Rattle.policy_lawful.specs.Things.{device_things, placed_things, things_by_number}
+use Rattle.policy_lawful.specs.declared.thing.ThingIndex.{ThingIndex}
+use Rattle.policy_lawful.specs.declared.thing.ThingIndex.TheVariants.{Declared, State as StatePage}
 use Rattle.policy_lawful.specs.source.Block.{Block}
 use Rattle.region_alloc.specs.Placement.{placement_of}
 
@@ -35,3 +39,21 @@ pub record IsPlaced (x : Placement) : Type 0 where
   pub placement : IsPlacement x
   pub inside : AreInside x.expanded.lawful.memory_blocks x.expanded.regions x.addresses
   pub disjoint : AreDisjoint x.expanded.regions x.addresses
+
+-- ---- addresses by number
+
+-- where things lie: those that are placed, then the devices' memory
+abbrev pub thing_addresses : Placement → List ℕ
+thing_addresses x =
+    take (length (placed_things x.expanded.lawful)) x.addresses
+    ++ map (λ t. unwrap_or t.fixed 0) (device_things x.expanded.lawful)
+
+-- where what has this number lies
+abbrev pub address_of : Placement → ThingIndex → ℕ
+address_of x (Declared n) = slice_index (thing_addresses x) n
+address_of x (StatePage k) = slice_index x.addresses (kernel_first x.expanded.lawful k)
+
+-- it is there
+abbrev pub IsThere : Resolution → ThingIndex → Type 0
+IsThere r (Declared n) = n < length (things_by_number r)
+IsThere r (StatePage k) = k < length r.subjects

@@ -1,11 +1,12 @@
 //! Policies whose regions are placed.
-ghost use Rattle.std.specs.Prelude.{◌≡◌, Ok};
+ghost use Rattle.std.specs.Prelude.{◌≡◌, Ok, unwrap_or};
 ghost use Rattle.policy_lawful.specs.Resolution.{source_of};
-ghost use Rattle.region_alloc.specs.Placed.{AreDisjoint, AreInside, IsPlaced};
+ghost use Rattle.region_alloc.specs.Placed.{AreDisjoint, AreInside, IsPlaced, IsThere, address_of};
 ghost use Rattle.region_alloc.specs.Placement.{placement_of};
 
 use expand_kernel::Expanded;
 use muen_num::Seq;
+use policy_lawful::{Thing, ThingIndex};
 use std::marker::Model;
 
 /// A lawful policy with all that follows from it, and the address of each region.
@@ -54,5 +55,34 @@ impl Placed {
         ensures disjoint { AreDisjoint self.now.expanded.regions result.now }
     {
         self.addresses.items()
+    }
+
+    /// Where what has this number lies.
+    pub fn address_of(&self, thing: ThingIndex) -> u64
+        requires { IsThere self.now.expanded.lawful thing }
+        ensures { result ≡ address_of self.now thing }
+    {
+        let addresses = self.addresses();
+        match thing {
+            ThingIndex::Declared(number) => {
+                let policy = self.expanded().lawful().resolved();
+                let placed = policy.placed_things().len();
+                if number < placed {
+                    return addresses[number];
+                }
+                fixed_address(&policy.device_things()[number - placed])
+            }
+            ThingIndex::State(subject) => addresses[self.expanded().kernel_first(subject)],
+        }
+    }
+}
+
+// Where a thing has to be; 0, where it may be anywhere.
+fn fixed_address(thing: &Thing) -> u64
+    ensures { result ≡ unwrap_or thing.now.fixed 0 }
+{
+    match thing.fixed {
+        None => 0,
+        Some(address) => address,
     }
 }

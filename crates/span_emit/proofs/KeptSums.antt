@@ -3,13 +3,12 @@ use Rattle.std.proofs.Common.{◌≡◌, ℕ, ◌+◌, ◌≤◌, List, [], ◌�
 use Rattle.std.specs.List.{flat_map, sum_by}
 use Rattle.std.specs.Option.{option_map_or}
 use Rattle.std.proofs.lemmas.List.{length-map}
-use Rattle.std.proofs.lemmas.List.Concat.{length-flat_map}
 use Rattle.std.proofs.lemmas.List.Sums.{sum_by-append, sum_by-cons}
-use Rattle.expand_kernel.specs.Regions.{kernel_regions_of, regions_of}
+use Rattle.expand_kernel.specs.Regions.{kernel_regions_of, region_of, regions_of}
 use Rattle.muen_num.proofs.Lists.{sum_by-map}
-use Rattle.muen_num.specs.declared.limits.TheConstants.{KERNEL_REGIONS, MOST_BLOCK_BYTES, MOST_DEVICE_BYTES, MOST_DEVICE_WINDOWS, MOST_REGIONS}
+use Rattle.muen_num.specs.declared.limits.TheConstants.{MOST_BLOCK_BYTES, MOST_DEVICE_BYTES, MOST_DEVICE_WINDOWS, MOST_REGIONS}
 use Rattle.policy_lawful.specs.Rules.{offence_20, regions_for}
-use Rattle.policy_lawful.specs.Thing.{component_by}
+use Rattle.policy_lawful.specs.Thing.{Item, channel_item, component_by, placed_items, provided_item, provided_items, region_item}
 use Rattle.policy_lawful.specs.source.Component.{Component}
 use Rattle.policy_lawful.specs.source.Device.{Device}
 use Rattle.policy_lawful.specs.source.DeviceMemory.{DeviceMemory}
@@ -17,48 +16,35 @@ use Rattle.policy_lawful.specs.source.Source.{Source}
 use Rattle.policy_lawful.specs.source.Subject.{Subject}
 use Rattle.policy_lawful.specs.ByIndex.{memories_of}
 use Rattle.policy_lawful.proofs.KeptLimits.{limits_kept}
-use Rattle.expand_kernel.specs.ByIndex.{channel_region, own_region, provided_region, provided_regions}
-use Rattle.expand_kernel.proofs.ByKind.{regions_are}
 
 -- ---- how many regions
 
-provided_length : (subject : List ℕ) (c : Option Component) → length (provided_regions subject c) ≡ option_map_or (λ c. length c.provides) c 0
+abbrev brought_to : Source → Subject → List Item
+brought_to p s = provided_items s.name (component_by p s.component)
+
+provided_length : (subject : List ℕ) (c : Option Component) → length (provided_items subject c) ≡ option_map_or (λ c. length c.provides) c 0
 provided_length subject None = refl
-provided_length subject (Some c) = length-map c.provides (provided_region subject)
+provided_length subject (Some c) = length-map c.provides (provided_item subject)
 
-abbrev brought_to : Source → Subject → ℕ
-brought_to p s = length (provided_regions s.name (component_by p s.component))
-
-regions_for_is : (p : Source) (s : Subject) → regions_for p s ≡ brought_to p s + KERNEL_REGIONS
-regions_for_is p s = let e = provided_length s.name (component_by p s.component) in omega arith
-
-sums_for : (p : Source) (ss : List Subject) → sum_by (regions_for p) ss ≡ sum_by (brought_to p) ss + sum_by (λ s. length (kernel_regions_of p s)) ss
-sums_for p [] = refl
-sums_for p (s ∷ ss) =
-    let kernel : length (kernel_regions_of p s) ≡ KERNEL_REGIONS = refl in
-    let here = regions_for_is p s in
-    let rest = sums_for p ss in
-    let a = sum_by-cons (regions_for p) s ss in
-    let b = sum_by-cons (brought_to p) s ss in
-    let c = sum_by-cons (λ s. length (kernel_regions_of p s)) s ss in
-    omega arith
+each_for : (p : Source) (ss : List Subject) → length (flat_map (brought_to p) ss) + length (flat_map (kernel_regions_of p) ss) ≡ sum_by (regions_for p) ss
+each_for p [] = refl
+each_for p (s ∷ ss) =
+    let here = provided_length s.name (component_by p s.component) in
+    let brought = length-append (brought_to p s) (flat_map (brought_to p) ss) in
+    let kernel = length-append (kernel_regions_of p s) (flat_map (kernel_regions_of p) ss) in
+    omega (arith, here, brought, kernel, each_for p ss, sum_by-cons (regions_for p) s ss)
 
 regions_length : (p : Source) → length (regions_of p) ≡ length p.memory + length p.channels + sum_by (regions_for p) p.subjects
+unfolding regions_of placed_items
 regions_length p =
-    let own = map own_region p.memory in
-    let ends = map channel_region p.channels in
-    let provided = flat_map (λ s. provided_regions s.name (component_by p s.component)) p.subjects in
-    let kernel = flat_map (kernel_regions_of p) p.subjects in
-    let all = ap length (regions_are p) in
-    let three = length-append ((own ++ ends) ++ provided) kernel in
-    let two = length-append (own ++ ends) provided in
+    let own = map region_item p.memory in
+    let ends = map channel_item p.channels in
+    let brought = flat_map (brought_to p) p.subjects in
+    let all = length-append (map region_of (placed_items p)) (flat_map (kernel_regions_of p) p.subjects) in
+    let placed = length-map (placed_items p) region_of in
+    let two = length-append (own ++ ends) brought in
     let one = length-append own ends in
-    let a : length own ≡ length p.memory = length-map p.memory own_region in
-    let b : length ends ≡ length p.channels = length-map p.channels channel_region in
-    let c : length provided ≡ sum_by (brought_to p) p.subjects = length-flat_map (λ s. provided_regions s.name (component_by p s.component)) p.subjects in
-    let d : length kernel ≡ sum_by (λ s. length (kernel_regions_of p s)) p.subjects = length-flat_map (kernel_regions_of p) p.subjects in
-    let e = sums_for p p.subjects in
-    omega arith
+    omega (arith, all, placed, two, one, length-map p.memory region_item, length-map p.channels channel_item, each_for p p.subjects)
 
 -- ---- the memory of devices
 

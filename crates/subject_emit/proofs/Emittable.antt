@@ -10,11 +10,11 @@ use Rattle.expand_kernel.specs.granted.Grants.{Grants}
 use Rattle.machine_layout.specs.Walks.{entry_size}
 use Rattle.policy_lawful.specs.Rules.{is_guest, is_page_size}
 use Rattle.muen_num.specs.Numbers.{is_page_aligned}
-use Rattle.policy_lawful.specs.declared.view.View.{View}
-use Rattle.region_alloc.specs.Placed.{Placement}
-use Rattle.subject_emit.specs.Mapped.{leaf_for, mapped, mapped_windows, shown_address}
-use Rattle.subject_emit.specs.Shows.{IsShown}
-use Rattle.subject_emit.proofs.AddressesFit.{AreAt}
+use Rattle.expand_kernel.specs.Numbered.{IsWhole}
+use Rattle.expand_kernel.specs.granted.GrantedWindow.{GrantedWindow}
+use Rattle.region_alloc.proofs.AddressesFit.{AreAt, whole_fits}
+use Rattle.region_alloc.specs.Placed.{IsPlaced, Placement, address_of}
+use Rattle.subject_emit.specs.Mapped.{leaf_for, mapped, mapped_windows}
 
 -- ---- the greatest page
 
@@ -37,27 +37,25 @@ fits_leaf guest address p g =
 
 -- ---- one window
 
-emittable : (x : Placement) (k : ℕ) (v : View) → is_guest v.guest v.size ≡ true → AreAt (shown_address x k v.shows) v.size → IsEmittable (mapped x k v)
-emittable x k v guest at =
-    let both = and_parts (is_page_aligned v.guest && is_page_size v.size) (nat_le (v.guest + v.size) (2 ^ 48)) guest in
-    let range = and_parts (is_page_aligned v.guest) (is_page_size v.size) both.0 in
-    let size = and_parts (is_page_aligned v.size) _ range.1 in
-    let aligned : v.guest % 4096 ≡ 0 = eqb-true (v.guest % 4096) 0 range.0 in
+emittable : (x : Placement) (w : GrantedWindow) → is_guest w.guest w.size ≡ true → AreAt (address_of x w.thing) w.size → IsEmittable (mapped x w)
+emittable x w guest at =
+    let both = and_parts (is_page_aligned w.guest && is_page_size w.size) (nat_le (w.guest + w.size) (2 ^ 48)) guest in
+    let range = and_parts (is_page_aligned w.guest) (is_page_size w.size) both.0 in
+    let size = and_parts (is_page_aligned w.size) _ range.1 in
+    let aligned : w.guest % 4096 ≡ 0 = eqb-true (w.guest % 4096) 0 range.0 in
     record {
-      some = ltb-true 0 v.size size.1;
+      some = ltb-true 0 w.size size.1;
       guest = aligned;
-      size = eqb-true (v.size % 4096) 0 size.0;
+      size = eqb-true (w.size % 4096) 0 size.0;
       address = at.whole;
-      end = leb-true (v.guest + v.size) (2 ^ 48) both.1;
+      end = leb-true (w.guest + w.size) (2 ^ 48) both.1;
       address_end = at.end;
-      aligned = fits_leaf v.guest (shown_address x k v.shows) at.whole aligned;
+      aligned = fits_leaf w.guest (address_of x w.thing) at.whole aligned;
     }
 
 -- ---- all
 
-pub all_emittable : (x : Placement) (k : ℕ) (g : Grants) → All (λ v. is_guest v.guest v.size ≡ true) g.views → All (IsShown x.expanded.lawful k) g.views
-    → ((v : View) → IsShown x.expanded.lawful k v → AreAt (shown_address x k v.shows) v.size)
-    → All IsEmittable (mapped_windows x k g)
-all_emittable x k g guests shown at =
-    All-map IsEmittable (mapped x k) g.views
-    (λ i d l. emittable x k (get_or g.views i d) (guests i d l) (at (get_or g.views i d) (shown i d l)))
+pub all_emittable : (x : Placement) → IsPlaced x → (g : Grants) → All (λ w. is_guest w.guest w.size ≡ true) g.windows → All (IsWhole x.expanded.lawful) g.windows → All IsEmittable (mapped_windows x g)
+all_emittable x placed g guests whole =
+    All-map IsEmittable (mapped x) g.windows
+    (λ i d l. let w = get_or g.windows i d in emittable x w (guests i d l) (whole_fits x placed w (whole i d l)))

@@ -1,11 +1,6 @@
 pub mod Emittable
 pub mod Joined
 pub mod KeptMsrs
-pub mod KeptSizes
-pub mod Numbered
-pub mod Pieces
-pub mod AddressesFit
-pub mod Rooms
 pub mod SamePages
-pub mod ShownViews
 pub mod TablesReady
+pub mod Wholes

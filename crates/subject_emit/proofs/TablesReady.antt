@@ -1,76 +1,86 @@
 -- A subject of a placed policy has what its tables need.
-use Rattle.std.proofs.Common.{◌≡◌, ℕ, ◌+◌, ◌*◌, ◌<◌, length, get_or, Some, refl, ap, subst, sym, ◌∙◌, arith}
+use Rattle.std.proofs.Common.{◌≡◌, ℕ, ◌+◌, ◌*◌, ◌<◌, List, length, get_or, Some, refl, ap, subst, sym, ◌∙◌, arith}
 use Rattle.std.specs.Prelude.{slice_get}
 use Rattle.std.proofs.lemmas.Option.{get_or_from_slice_get, slice_get_within}
 use Rattle.std.proofs.lemmas.Slice.Zip.{AllZip-long}
 use Rattle.ept_emit.specs.Pages.{AreApart, ept_pages, ranges_of}
+use Rattle.expand_kernel.proofs.GrantedWindows.{guests_granted, windows_whole}
 use Rattle.expand_kernel.specs.Grants.{AreGrantsOf}
 use Rattle.expand_kernel.specs.granted.Grants.{Grants}
-use Rattle.expand_kernel.specs.ByIndex.{CanMap, view_ranges}
-use Rattle.expand_kernel.specs.Regions.{anywhere}
+use Rattle.expand_kernel.specs.ByIndex.{CanMap, granted_ranges, kernel_first}
+use Rattle.expand_kernel.specs.Regions.{anywhere, kernel_regions}
 use Rattle.expand_kernel.specs.thing.Region.{Region}
 use Rattle.expand_kernel.specs.thing.RegionKind.TheVariants.{Kernel}
-use Rattle.expand_kernel.proofs.Numbering.{can_map_granted}
+use Rattle.expand_kernel.proofs.Numbering.{can_map_granted, kernel_region_at, regions_many}
 use Rattle.muen_num.proofs.Pairs.{first_at}
 use Rattle.muen_num.specs.declared.limits.TheConstants.{PAGE}
 use Rattle.muen_num.specs.declared.tag.TagPart.TheVariants.{Ept}
+use Rattle.policy_lawful.specs.Resolution.{Resolution}
+use Rattle.policy_lawful.specs.declared.resolved.Subject.{Subject}
+use Rattle.region_alloc.proofs.AddressesFit.{AreAt, kernel_fits}
 use Rattle.region_alloc.specs.Placed.{IsPlaced, Placement}
-use Rattle.subject_emit.specs.Mapped.{kernel_first, mapped_windows}
+use Rattle.subject_emit.specs.Mapped.{mapped_windows}
+use Rattle.subject_emit.specs.Pages.{tables_at}
 use Rattle.subject_emit.specs.Ready.{IsReady}
 use Rattle.subject_emit.proofs.Emittable.{all_emittable}
-use Rattle.subject_emit.proofs.KeptSizes.{guests_granted}
-use Rattle.subject_emit.proofs.Numbered.{has_addresses, kernel_at_index}
-use Rattle.subject_emit.proofs.AddressesFit.{shown_at, tables_there}
 use Rattle.subject_emit.proofs.SamePages.{pages_same, ranges_same}
-use Rattle.subject_emit.proofs.ShownViews.{granted_shown}
 
-pub ready : (x : Placement) (k : ℕ) (g : Grants) → IsPlaced x → slice_get x.expanded.grants k ≡ Some g → IsReady x k g
-ready x k g placed at =
-    let s = first_at (AreGrantsOf x.expanded.lawful) x.expanded.lawful.subjects x.expanded.grants k g placed.expansion.grants at in
-    let shown = granted_shown x.expanded.lawful k s.0 g s.1 s.2 in
-    let guests = guests_granted x.expanded.lawful placed.lawful placed.resolved k s.0 g s.1 s.2 in
-    let emittable = all_emittable x k g guests shown (λ v h. shown_at x placed k v.size v.shows h) in
-    let can : CanMap g.views =
-    subst (λ g. CanMap g.views) (get_or_from_slice_get x.expanded.grants k g g at)
-    (can_map_granted x.expanded.lawful x.expanded.grants placed.resolved placed.lawful placed.expansion.grants k g (slice_get_within x.expanded.grants k g at)) in
-    let tables = tables_there x placed k s.0 g s.1 at in
-    let ranges = ranges_same x k g in
-    let same = pages_same x k g in
-    let end = tables.end in
-    record {
-      there = slice_get_within x.expanded.lawful.subjects k s.0 s.1;
-      addresses = has_addresses x placed;
-      shown = shown;
-      emittable = emittable;
-      apart = subst AreApart (sym ranges) can.apart;
-      at = tables.whole;
-      end = omega (arith, same, end);
-    }
+module _ (x : Placement) (placed : IsPlaced x) where
+  abbrev r : Resolution
+  r = x.expanded.lawful
 
--- the region of the tables has a number, and as many bytes as they take
-module _ (x : Placement) (k : ℕ) (g : Grants) (placed : IsPlaced x) (at : slice_get x.expanded.grants k ≡ Some g) where
-  tables_region : Region
-  tables_region = anywhere Kernel (first_at (AreGrantsOf x.expanded.lawful) x.expanded.lawful.subjects x.expanded.grants k g placed.expansion.grants at).0.name Ept (ept_pages (view_ranges g.views) * PAGE)
+  -- addresses are as many as regions
+  pub addresses_many : length x.addresses ≡ kernel_first r (length r.subjects)
+  addresses_many = AllZip-long _ x.expanded.regions x.addresses placed.inside ∙ regions_many r placed.resolved x.expanded.grants placed.expansion.grants x.expanded.regions placed.expansion.regions
 
-  region_is : slice_get x.expanded.regions (kernel_first x.expanded.lawful k + 1) ≡ Some tables_region
-  unfolding tables_region
-  region_is =
-      let s = first_at (AreGrantsOf x.expanded.lawful) x.expanded.lawful.subjects x.expanded.grants k g placed.expansion.grants at in
-      kernel_at_index x placed k 1 s.0 g (anywhere Kernel s.0.name Ept (ept_pages (view_ranges g.views) * PAGE)) s.1 at refl
+  -- a region of the kernel has its number
+  pub kernel_at : (k j : ℕ) (s : Subject) (g : Grants) (y : Region) → slice_get r.subjects k ≡ Some s → slice_get x.expanded.grants k ≡ Some g
+      → slice_get (kernel_regions s.name (ept_pages (granted_ranges g.windows))) j ≡ Some y → slice_get x.expanded.regions (kernel_first r k + j) ≡ Some y
+  kernel_at = kernel_region_at r placed.resolved x.expanded.grants placed.expansion.grants x.expanded.regions placed.expansion.regions
 
-  pub region_there : kernel_first x.expanded.lawful k + 1 < length x.expanded.regions
-  region_there = slice_get_within x.expanded.regions (kernel_first x.expanded.lawful k + 1) tables_region region_is
+  module _ (k : ℕ) (g : Grants) (at : slice_get x.expanded.grants k ≡ Some g) where
+    tables_region : List ℕ → Region
+    tables_region name = anywhere Kernel name Ept (ept_pages (granted_ranges g.windows) * PAGE)
 
-  pub region_size : (d : Region) → (get_or x.expanded.regions (kernel_first x.expanded.lawful k + 1) d).size ≡ PAGE * ept_pages (ranges_of (mapped_windows x k g))
-  unfolding tables_region
-  region_size d =
-      let same = pages_same x k g in
-      ap (λ (r : Region). r.size) (get_or_from_slice_get x.expanded.regions (kernel_first x.expanded.lawful k + 1) tables_region d region_is)
-      ∙ omega (arith, same)
+    subject : (s : Subject) × (slice_get r.subjects k ≡ Some s) × AreGrantsOf r s g
+    subject = first_at (AreGrantsOf r) r.subjects x.expanded.grants k g placed.expansion.grants at
 
-  -- all numbers fit
-  pub all_there : kernel_first x.expanded.lawful (length x.expanded.lawful.subjects) ≡ length x.expanded.regions
-  all_there = sym (has_addresses x placed) ∙ AllZip-long _ x.expanded.regions x.addresses placed.inside
+    pub subject_there : k < length r.subjects
+    subject_there = slice_get_within r.subjects k subject.0 subject.1
 
-  pub subject_there : k < length x.expanded.lawful.subjects
-  subject_there = (let s = first_at (AreGrantsOf x.expanded.lawful) x.expanded.lawful.subjects x.expanded.grants k g placed.expansion.grants at in slice_get_within x.expanded.lawful.subjects k s.0 s.1)
+    -- the region of the tables has a number, and as many bytes as they take
+    region_is : slice_get x.expanded.regions (kernel_first r k + 1) ≡ Some (tables_region subject.0.name)
+    unfolding tables_region
+    region_is = kernel_at k 1 subject.0 g (tables_region subject.0.name) subject.1 at refl
+
+    pub region_there : kernel_first r k + 1 < length x.expanded.regions
+    region_there = slice_get_within x.expanded.regions (kernel_first r k + 1) (tables_region subject.0.name) region_is
+
+    pub region_size : (d : Region) → (get_or x.expanded.regions (kernel_first r k + 1) d).size ≡ PAGE * ept_pages (ranges_of (mapped_windows x g))
+    unfolding tables_region
+    region_size d =
+        let same = pages_same x g in
+        ap (λ (y : Region). y.size) (get_or_from_slice_get x.expanded.regions (kernel_first r k + 1) (tables_region subject.0.name) d region_is)
+        ∙ omega (arith, same)
+
+    pub tables_there : AreAt (tables_at x k) (ept_pages (granted_ranges g.windows) * 4096)
+    unfolding tables_region
+    tables_there = kernel_fits x placed (kernel_first r k + 1) (tables_region subject.0.name) region_is refl refl
+
+    pub ready : IsReady x k g
+    ready =
+        let whole = windows_whole r placed.resolved k subject.0 subject.1 g subject.2 in
+        let guests = guests_granted r placed.resolved k subject.0 subject.1 placed.lawful g subject.2 in
+        let can : CanMap g.windows =
+        subst (λ g. CanMap g.windows) (get_or_from_slice_get x.expanded.grants k g g at)
+        (can_map_granted r x.expanded.grants placed.lawful placed.expansion.grants k g (slice_get_within x.expanded.grants k g at)) in
+        let same = pages_same x g in
+        let end = tables_there.end in
+        record {
+          there = subject_there;
+          whole = whole;
+          emittable = all_emittable x placed g guests whole;
+          apart = subst AreApart (sym (ranges_same x g)) can.apart;
+          at = tables_there.whole;
+          end = omega (arith, same, end);
+        }

@@ -4,6 +4,7 @@ use Rattle.ept_emit.specs.Pages.{ept_pages, ranges_of}
 use Rattle.ept_emit.specs.declared.window.Window.{Window}
 use Rattle.ept_emit.specs.Emitted.{AreAscending, AreReadAlone, AreReadOrZero, AreTranslating, HaveGreatestPages, HaveMemoryTypes, HaveOnePath}
 use Rattle.expand_kernel.specs.granted.Grants.{Grants}
+use Rattle.expand_kernel.specs.ByIndex.{kernel_first}
 use Rattle.expand_kernel.specs.Regions.{kernel_number}
 use Rattle.expand_kernel.specs.declared.kernel.KernelRegion.TheVariants.{Tables}
 use Rattle.iobm_emit.specs.Ports.{is_granted_access}
@@ -15,7 +16,7 @@ use Rattle.machine_layout.specs.PageFields.{padded}
 use Rattle.policy_lawful.specs.declared.resolved.Subject.{Subject}
 use Rattle.region_alloc.specs.Placed.{Placement}
 use Rattle.state_page.specs.StatePage.{page_bytes}
-use Rattle.subject_emit.specs.Mapped.{kernel_first, mapped_windows}
+use Rattle.subject_emit.specs.Mapped.{mapped_windows}
 use Rattle.subject_emit.specs.declared.subject_pages.SubjectPages.{SubjectPages}
 use Rattle.state_page.specs.States.{started}
 
@@ -37,7 +38,7 @@ pub record AreTablesOf (windows : List Window) (at : ℕ) (tables : List ℕ) : 
 -- the pages of the subject at an index, which is granted this
 pub record ArePages (x : Placement) (subject : ℕ) (s : Subject) (g : Grants) (q : SubjectPages) : Type 0 where
   pub state : q.state ≡ page_bytes (started s.entry)
-  pub tables : AreTablesOf (mapped_windows x subject g) (tables_at x subject) q.tables
+  pub tables : AreTablesOf (mapped_windows x g) (tables_at x subject) q.tables
   -- bitmap A, then bitmap B
   pub ports_len : length q.ports ≡ 2 * PAGE
   pub ports : (port size : ℕ) → port_exits (take PAGE q.ports) (drop PAGE q.ports) port size ≡ not (is_granted_access g.ports port size)

@@ -4,10 +4,8 @@
 
 mod bitmaps;
 mod mapped;
-mod numbers;
 mod subject_pages;
 mod tables;
 
-pub use numbers::kernel_first;
 pub use subject_pages::{SubjectPages, pages};
 pub use tables::tables_at;

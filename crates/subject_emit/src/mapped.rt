@@ -1,16 +1,15 @@
 //! The windows of a subject as its tables map them.
-ghost use Rattle.std.specs.Prelude.{◌≡◌, map, IfOk, All, option_and_then, slice_get};
-ghost use Rattle.std.specs.Option.{option_map_or};
-ghost use Rattle.subject_emit.specs.Mapped.{leaf_for, mapped, shown_caching, shown_address};
-ghost use Rattle.subject_emit.specs.Shows.{HasAddresses, IsNumbered, IsShown};
+ghost use Rattle.std.specs.Prelude.{◌≡◌, map, IfOk, All};
+ghost use Rattle.expand_kernel.specs.Numbered.{IsWhole};
+ghost use Rattle.expand_kernel.specs.Numbered.{caching_of};
+ghost use Rattle.subject_emit.specs.Mapped.{leaf_for, mapped};
 
-use crate::numbers::{channel_first, kernel_first, provided_first};
 use ept_emit::{Leaf, Window};
+use expand_kernel::GrantedWindow;
 use machine_layout::entries::HUGE_PAGE;
 use muen_num::NoMemory;
 use muen_num::limits::LARGE_PAGE;
-use policy_lawful::source::{Device, Region};
-use policy_lawful::{Caching, Shown, View};
+use policy_lawful::{Caching, Resolved, ThingIndex};
 use region_alloc::Placed;
 use std::alloc::Global;
 
@@ -27,89 +26,48 @@ fn leaf_for(guest: u64, address: u64) -> Leaf
     Leaf::Small
 }
 
-// Where memory of the device at an index lies.
-fn device_address(devices: &[Device], device: usize, memory: usize) -> u64
-    ensures { result ≡ option_map_or (λ m. m.physical_address) (option_and_then (λ d. slice_get d.memory memory) (slice_get devices.now device)) 0 }
+// The memory type of what has this number.
+fn caching_of(policy: &Resolved, thing: ThingIndex) -> Caching
+    ensures { result ≡ caching_of policy.now thing }
 {
-    match devices.get(device) {
-        None => 0,
-        Some(device) => match device.memory.items().get(memory) {
-            None => 0,
-            Some(memory) => memory.physical_address,
+    match thing {
+        ThingIndex::Declared(number) => match policy.things().get(number) {
+            None => Caching::Wb,
+            Some(thing) => thing.caching,
         },
+        ThingIndex::State(_) => Caching::Wb,
     }
 }
 
-// Where what the subject at an index is shown lies.
-fn shown_address(placed: &Placed, subject: usize, shows: Shown) -> u64
-    requires addresses { HasAddresses placed.now }
-    requires numbered { IsNumbered placed.now subject shows }
-    ensures { result ≡ shown_address placed.now subject shows }
+#[tactic(auto, using(crate::proofs::Wholes::whole_there))]
+fn mapped(placed: &Placed, window: &GrantedWindow) -> Window
+    requires { IsWhole placed.now.expanded.lawful window.now }
+    ensures { result ≡ mapped placed.now window.now }
 {
     let policy = placed.expanded().lawful().resolved();
-    let addresses = placed.addresses();
-    match shows {
-        Shown::Memory(region) => addresses[region],
-        Shown::Channel(channel) => addresses[channel_first(policy) + channel],
-        Shown::Provided(region) => addresses[provided_first(policy, subject) + region],
-        Shown::Device(device, memory) => device_address(policy.devices(), device, memory),
-        Shown::State(other) => addresses[kernel_first(policy, other)],
-    }
-}
-
-// The memory type of the region at an index.
-fn region_caching(memory: &[Region], region: usize) -> Caching
-    ensures { result ≡ option_map_or (λ m. m.caching) (slice_get memory.now region) Caching.Wb }
-{
-    match memory.get(region) {
-        None => Caching::Wb,
-        Some(region) => region.caching,
-    }
-}
-
-// The memory type of what is shown.
-fn shown_caching(placed: &Placed, shows: Shown) -> Caching
-    ensures { result ≡ shown_caching placed.now shows }
-{
-    let policy = placed.expanded().lawful().resolved();
-    match shows {
-        Shown::Memory(region) => region_caching(policy.memory(), region),
-        Shown::Device(_, _) => Caching::Uc,
-        Shown::Channel(_) | Shown::Provided(_) | Shown::State(_) => Caching::Wb,
-    }
-}
-
-// A window of the subject at an index.
-fn mapped(placed: &Placed, subject: usize, view: &View) -> Window
-    requires addresses { HasAddresses placed.now }
-    requires shown { IsShown placed.now.expanded.lawful subject view.now }
-    ensures { result ≡ mapped placed.now subject view.now }
-{
-    let address = shown_address(placed, subject, view.shows);
+    let address = placed.address_of(window.thing);
     Window {
-        guest: view.guest,
-        size: view.size,
+        guest: window.guest,
+        size: window.size,
         address,
-        rights: view.rights,
-        caching: shown_caching(placed, view.shows),
-        leaf: leaf_for(view.guest, address),
+        rights: window.rights,
+        caching: caching_of(policy, window.thing),
+        leaf: leaf_for(window.guest, address),
     }
 }
 
-/// The windows of the subject at an index, which is granted these views.
+/// Windows where what they show lies.
 pub(crate) fn mapped_windows(
     alloc: Global,
     placed: &Placed,
-    subject: usize,
-    views: &[View],
+    granted: &[GrantedWindow],
 ) -> Result<Vec<Window>, NoMemory>
-    requires addresses { HasAddresses placed.now }
-    requires shown { All (IsShown placed.now.expanded.lawful subject) views.now }
-    ensures { IfOk result (λ v. v.items ≡ map (mapped placed.now subject) views.now) }
+    requires { All (IsWhole placed.now.expanded.lawful) granted.now }
+    ensures { IfOk result (λ v. v.items ≡ map (mapped placed.now) granted.now) }
 {
     let mut windows = Vec::new(alloc);
-    for view in views {
-        windows.push(mapped(placed, subject, view))?;
+    for window in granted {
+        windows.push(mapped(placed, window))?;
     }
     Ok(windows)
 }

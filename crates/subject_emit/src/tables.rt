@@ -6,10 +6,8 @@ ghost use Rattle.ept_emit.specs.Pages.{ept_pages, ranges_of};
 ghost use Rattle.muen_num.specs.declared.limits.TheConstants.{PAGE};
 ghost use Rattle.subject_emit.specs.Ready.{IsReady};
 ghost use Rattle.subject_emit.specs.Pages.{AreTablesOf, tables_at};
-ghost use Rattle.subject_emit.specs.Shows.{HasAddresses};
 
 use crate::mapped::mapped_windows;
-use crate::numbers::kernel_first;
 use ept_emit::emit;
 use expand_kernel::{Grants, KernelRegion};
 use muen_num::{NoMemory, Seq};
@@ -17,13 +15,13 @@ use region_alloc::Placed;
 use std::alloc::Global;
 
 /// The physical address at which the tables of the subject at an index lie.
+#[tactic(auto, using(crate::proofs::TablesReady::addresses_many))]
 pub fn tables_at(placed: &Placed, subject: usize) -> u64
-    requires addresses { HasAddresses placed.now }
-    requires there { subject < length placed.now.expanded.lawful.subjects }
+    requires { subject < length placed.now.expanded.lawful.subjects }
     ensures { result ≡ tables_at placed.now subject }
 {
-    let policy = placed.expanded().lawful().resolved();
-    placed.addresses()[KernelRegion::Tables.number(kernel_first(policy, subject))]
+    let first = placed.expanded().kernel_first(subject);
+    placed.addresses()[KernelRegion::Tables.number(first)]
 }
 
 // The tables of the subject at an index, which is granted this and whose tables have so many bytes.
@@ -35,10 +33,10 @@ fn emitted(
     bytes: u64,
 ) -> Result<Seq<u8>, NoMemory>
     requires ready { IsReady placed.now subject granted.now }
-    requires bytes { bytes ≡ PAGE * ept_pages (ranges_of (mapped_windows placed.now subject granted.now)) }
-    ensures { IfOk result (AreTablesOf (mapped_windows placed.now subject granted.now) (tables_at placed.now subject)) }
+    requires bytes { bytes ≡ PAGE * ept_pages (ranges_of (mapped_windows placed.now granted.now)) }
+    ensures { IfOk result (AreTablesOf (mapped_windows placed.now granted.now) (tables_at placed.now subject)) }
 {
-    let windows = mapped_windows(alloc, placed, subject, granted.views.items())?;
+    let windows = mapped_windows(alloc, placed, granted.windows.items())?;
     let mut tables = vec![in alloc; 0u8; bytes as usize]?;
     emit(&windows, tables_at(placed, subject), tables.as_mut_slice());
     Ok(Seq::of(tables))
@@ -54,12 +52,12 @@ pub(crate) fn tables(
     granted: &Grants,
 ) -> Result<Seq<u8>, NoMemory>
     requires granted { slice_get placed.now.expanded.grants subject ≡ Some granted.now }
-    ensures tables { IfOk result (AreTablesOf (mapped_windows placed.now subject granted.now) (tables_at placed.now subject)) }
+    ensures tables { IfOk result (AreTablesOf (mapped_windows placed.now granted.now) (tables_at placed.now subject)) }
     ensures placed { IsPlaced placed.now }
 {
     let expanded = placed.expanded();
     let regions = expanded.regions();
-    let first = kernel_first(expanded.lawful().resolved(), subject);
+    let first = expanded.kernel_first(subject);
     let region = &regions[KernelRegion::Tables.number(first)];
     emitted(alloc, placed, subject, granted, region.size)
 }

@@ -6,17 +6,21 @@ use std::alloc::Global;
 use std::test::Fail;
 
 // The files of the calls below. The bytes of `wait` are those of `bytes`, and its source is `printed`.
-const FILES: [(&str, &str); 6] = [
+const FILES: [(&str, &str); 10] = [
     ("wait", "wait: HLT ; for an event\n JMP wait\n.byte 1, -1"),
     ("empty", ""),
     ("word", "\n  HALT"),
     ("number", "LI r1, 0x1_0000_0000"),
     ("label", "JMP there"),
     ("text", "JMP 0\n"),
+    ("numbers", "k = 5"),
+    ("named", "LI r1, k"),
+    ("faulty", "k = 5\nm = k"),
+    ("twice", "\nk = 6"),
 ];
 
 const USAGE: &str =
-    "1 muen_asm: usage: hex SOURCE, lines SOURCE BASE, bin SOURCE FILE, text FILE\n";
+    "1 muen_asm: usage: hex SOURCE, lines SOURCE BASE, bin SOURCE FILE, text FILE, hex NAMES SOURCE, lines NAMES SOURCE BASE, bin NAMES SOURCE FILE\n";
 
 // They; the calls of these numbers fail.
 fn files(alloc: Global, fails: Vec<u64>) -> Result<MemFiles, Fail> {
@@ -83,6 +87,29 @@ const CALLS: &[(&str, &str)] = &[
     ("hex absent", "3 muen_asm: missing file absent\n"),
     ("text absent", "3 muen_asm: missing file absent\n"),
     ("bin wait made", "0 "),
+    ("hex numbers named", "0 0110000005000000\n"),
+    (
+        "lines numbers named 8",
+        "0 0000000000000008  0110000005000000  LI r1, 5\n",
+    ),
+    ("bin numbers named one", "0 "),
+    (
+        "hex faulty named",
+        "2 muen_asm: file faulty, line 2, column 5: want a number\n",
+    ),
+    (
+        "lines numbers twice 0",
+        "2 muen_asm: file twice, line 2, column 1: the name stands before\n",
+    ),
+    (
+        "bin faulty word unmade",
+        "2 muen_asm: file faulty, line 2, column 5: want a number\n",
+    ),
+    ("hex absent named", "3 muen_asm: missing file absent\n"),
+    ("hex numbers absent", "3 muen_asm: missing file absent\n"),
+    ("hex numbers named more", USAGE),
+    ("bin numbers named numbers", USAGE),
+    ("bin numbers named named", USAGE),
 ];
 
 #[test]
@@ -97,6 +124,7 @@ fn answers(rt: HostRuntime) -> Result<(), Fail> {
     let bytes = b"\x17\0\0\0\0\0\0\0\x0d\0\0\0\xf8\xff\xff\xff\x01\xff";
     assert!(rt; files.get("made") == Some(bytes.as_slice()));
     assert!(rt; files.get("unmade").is_none());
+    assert!(rt; files.get("one") == Some(b"\x01\x10\0\0\x05\0\0\0".as_slice()));
     Ok(())
 }
 
@@ -135,7 +163,13 @@ fn the_longest_files(rt: HostRuntime) -> Result<(), Fail> {
 #[test]
 fn files_that_fail(rt: HostRuntime) -> Result<(), Fail> {
     let alloc = rt.alloc();
-    for (call_that_fails, words) in [(0, "hex wait"), (0, "text wait"), (1, "bin wait made")] {
+    for (call_that_fails, words) in [
+        (0, "hex wait"),
+        (0, "text wait"),
+        (1, "bin wait made"),
+        (0, "hex numbers named"),
+        (1, "hex numbers named"),
+    ] {
         let mut files = files(alloc, vec![in alloc; call_that_fails]?)?;
         let mut out = MemSink::make(alloc, 200, Vec::new(alloc), 0)?;
         let answer = call(alloc, words, &mut files, &mut out)?;
@@ -154,6 +188,7 @@ fn files_that_fail_too_late(rt: HostRuntime) -> Result<(), Fail> {
         (1, "text wait"),
         (1, "bin word made"),
         (2, "bin wait made"),
+        (2, "hex numbers named"),
     ] {
         let mut files = files(alloc, vec![in alloc; call_that_fails]?)?;
         let mut out = MemSink::make(alloc, 200, Vec::new(alloc), 0)?;

@@ -4,12 +4,13 @@ function decimal(text) {
   return /^[0-9a-f]{1,16}$/.test(digits) ? `${digits} hexadecimal is ${BigInt(`0x${digits}`)} decimal` : "";
 }
 
-// hexadecimal numbers tell what they are in decimal; of what happened, the values and the offsets
+// hexadecimal numbers tell what they are in decimal: those that stand alone, and those in what is told of turns
 document.addEventListener("mouseover", event => {
-  const cell = event.target.closest && event.target.closest(".number, #what, #around td:last-child");
-  if (!cell || cell.title) return;
-  const text = cell.textContent.trim(), values = [...text.matchAll(/(?:= |[+])([0-9a-f]+)(?![0-9a-z_])/g)].map(match => match[1]);
-  cell.title = (cell.classList.contains("number") ? [text] : values).map(decimal).join("; ");
+  const cell = event.target.closest && event.target.closest(".number, #told .mono:not(.input), #around td, #pointed");
+  if (!cell) return;
+  const text = cell.textContent.trim();
+  const values = cell.classList.contains("number") ? [text] : [...text.matchAll(HEXADECIMAL)].map(match => match[1]).filter(digits => parseInt(digits, 16) > 9);
+  cell.title = [...new Set(values)].map(decimal).join("; ");
 });
 
 function bindMatrix() {

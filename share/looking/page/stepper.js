@@ -191,16 +191,28 @@ class Stepper {
     row("instruction", element("span", run.text("code", turn) || run.kinds[run.kind[turn]][0], { class: "mono", id: "code" }));
     if (run.text("source", turn)) row("source", element("span", run.text("source", turn), { class: "mono", id: "source" }));
     row("what happened", element("span", run.text("what", turn) || run.kinds[run.kind[turn]][0], { class: "mono", id: "what" }));
-    for (const [, , , text] of this.inputsOf(turn)) row("input", element("span", text, { class: "mono" }));
+    for (const number of this.inputsOf(turn)) {
+      const [, , , text, decimals] = run.inputs[number];
+      row("input", element("span", text, { class: "mono input", title: decimals }));
+      for (const reader of run.readers.get(number) || []) row("read by", this.way(reader));
+    }
+    for (const number of run.sources.get(turn) || []) row("from, dma", this.wayTo(number));
     for (const arrow of run.to.get(turn) || []) row(`from, ${run.arrow_kinds[arrow[2]][0]}`, this.way(arrow[0]));
     for (const arrow of run.from.get(turn) || []) row(`to, ${run.arrow_kinds[arrow[2]][0]}`, this.way(arrow[1]));
     told.append(facts, this.registers(turn));
   }
 
-  // the inputs of the turn's tick
+  // the numbers of the inputs of the turn's tick
   inputsOf(turn) {
     const tick = this.run.tick[turn], { inputs } = this.run, at = firstFrom(inputs, tick, one => one[0]);
-    return inputs.slice(at, firstFrom(inputs, tick + 1, one => one[0])).slice(0, 8);
+    return [...Array(Math.min(firstFrom(inputs, tick + 1, one => one[0]) - at, 8)).keys()].map(one => at + one);
+  }
+
+  wayTo(number) {
+    const [tick, , device, text, decimals] = this.run.inputs[number];
+    const way = element("button", `${tick} ${device} ${text}`, { class: "way input", type: "button", title: decimals });
+    way.addEventListener("click", () => this.goTo(tick));
+    return way;
   }
 
   way(turn) {

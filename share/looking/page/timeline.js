@@ -11,6 +11,16 @@ function firstFrom(list, value, of) {
   return low;
 }
 
+// of each key that pairs have the list of their values
+function gathered(pairs, key, value) {
+  const found = new Map();
+  for (const pair of pairs) {
+    if (!found.has(pair[key])) found.set(pair[key], []);
+    found.get(pair[key]).push(value === undefined ? pair : pair[value]);
+  }
+  return found;
+}
+
 class Run {
   constructor(data) {
     Object.assign(this, data);
@@ -29,12 +39,11 @@ class Run {
     this.lanes = data.subjects.map((_, who) => who).sort((one, other) => data.subjects[one].cpu - data.subjects[other].cpu || one - other);
     this.laneOf = [];
     this.lanes.forEach((who, lane) => { this.laneOf[who] = lane; });
-    this.from = new Map();
-    this.to = new Map();
-    for (const arrow of data.arrows) {
-      this.from.set(arrow[0], [...(this.from.get(arrow[0]) || []), arrow]);
-      this.to.set(arrow[1], [...(this.to.get(arrow[1]) || []), arrow]);
-    }
+    this.from = gathered(data.arrows, 0);
+    this.to = gathered(data.arrows, 1);
+    // the turns that read an input first, and the inputs that a turn reads
+    this.readers = gathered(data.reads, 0, 1);
+    this.sources = gathered(data.reads, 1, 0);
   }
 
   text(column, turn) { return this.texts[this.turns[column][turn]]; }
@@ -233,15 +242,17 @@ class Timeline {
     const pen = this.pen, [, letter, colour, hatched] = this.run.kinds[kind];
     pen.fillStyle = colour;
     pen.fillRect(x, y, wide, high);
-    if (hatched && (wide < LETTER_CELL || high < 12)) {
-      pen.fillStyle = "#fff";
-      const lean = letter === "O" ? 3 : 2;
-      for (let line = y + 1; line < y + high - .5; line += lean + 1) pen.fillRect(x, line, wide, lean - 1.2);
-    }
+    if (hatched && (wide < LETTER_CELL || high < 12)) this.hatch(letter, x, y, wide, high);
     pen.strokeStyle = this.colour("edge");
     pen.lineWidth = .5;
     if (wide > 2) pen.strokeRect(x + .25, y + .25, wide - .5, high - .5);
     return letter;
+  }
+
+  hatch(letter, x, y, wide, high) {
+    const lean = letter === "O" ? 3 : 2;
+    this.pen.fillStyle = "#fff";
+    for (let line = y + 1; line < y + high - .5; line += lean + 1) this.pen.fillRect(x, line, wide, lean - 1.2);
   }
 
   // the first turn that is seen, and the one behind the last
@@ -302,8 +313,10 @@ class Timeline {
       }
     }
     bars.forEach((list, kind) => {
-      pen.fillStyle = run.kinds[kind][2];
+      const [, letter, colour, hatched] = run.kinds[kind];
+      pen.fillStyle = colour;
       for (const [x, y, high] of list) pen.fillRect(x, y, this.column, high);
+      if (hatched) for (const [x, y, high] of list) this.hatch(letter, x, y, this.column, high);
     });
     if (chosen >= 0) {
       pen.fillStyle = this.colour("bad");
@@ -312,24 +325,34 @@ class Timeline {
   }
 
   drawArrows() {
-    const { run, pen } = this, [begin, end] = this.seen();
-    let at = firstFrom(run.arrows, begin, arrow => arrow[1]), drawn = 0;
-    for (; at < run.arrows.length && drawn < MOST_ARROWS && run.tick[run.arrows[at][0]] < this.end; at++, drawn++) {
-      const [source, target, kind] = run.arrows[at];
-      if (source >= end && target >= end) break;
-      this.arrow(source, target, kind);
-    }
-    pen.setLineDash([]);
+    const { run } = this;
+    this.drawEach(run.arrows, arrow => run.tick[arrow[0]], arrow => this.arrow(...arrow));
+    this.drawEach(run.reads, read => run.inputs[read[0]][0], read => this.readArrow(...read));
+  }
+
+  // of arrows, which are sorted by the turn that they lead to, those that are seen
+  drawEach(arrows, tickOf, done) {
+    const begin = firstFrom(arrows, this.seen()[0], arrow => arrow[1]);
+    for (let at = begin; at < Math.min(arrows.length, begin + MOST_ARROWS) && tickOf(arrows[at]) < this.end; at++) done(arrows[at]);
   }
 
   arrow(source, target, kind) {
-    const { run, pen } = this, [name, , dashes] = run.arrow_kinds[kind], half = this.scale / 2;
-    const start = Math.max(this.x(run.tick[source]) + half, this.left), end = this.x(run.tick[target]) + half;
+    const { run } = this, [name, , dashes] = run.arrow_kinds[kind];
     let top = this.y(run.who[source]), bottom = this.y(run.who[target]);
-    const down = top < bottom, same = top === bottom;
-    if (down) top += this.bar; else if (!same) bottom += this.bar;
-    const bend = same ? top - 12 : (top + bottom) / 2;
-    const chosen = source === this.chosen || target === this.chosen;
+    if (top < bottom) top += this.bar; else if (top > bottom) bottom += this.bar;
+    this.curve([run.tick[source], top], [run.tick[target], bottom], name, dashes, [source, target].includes(this.chosen));
+  }
+
+  // from a device's input to the turn of a subject that reads first what it wrote
+  readArrow(number, turn) {
+    const { run } = this, begin = [run.inputs[number][0], INPUTS - 2], end = [run.tick[turn], this.y(run.who[turn])];
+    this.curve(begin, end, "accent", "7 2 1.5 2", turn === this.chosen);
+  }
+
+  // from a tick and a height to others
+  curve([tick, top], [later, bottom], name, dashes, chosen) {
+    const { pen } = this, half = this.scale / 2, start = Math.max(this.x(tick) + half, this.left), end = this.x(later) + half;
+    const bend = top === bottom ? top - 12 : (top + bottom) / 2, tip = top > bottom ? 1 : -1;
     pen.strokeStyle = pen.fillStyle = this.colour(name);
     pen.lineWidth = chosen ? 2.6 : 1.1;
     pen.setLineDash(dashes ? dashes.split(" ").map(Number) : []);
@@ -338,7 +361,6 @@ class Timeline {
     pen.bezierCurveTo(start, bend, end, bend, end, bottom);
     pen.stroke();
     pen.setLineDash([]);
-    const tip = down || same ? -1 : 1;
     pen.beginPath();
     pen.moveTo(end, bottom);
     pen.lineTo(end - 3, bottom + 6 * tip);

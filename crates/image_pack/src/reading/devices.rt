@@ -24,8 +24,11 @@ fn is_listed(names: &[Name], name: &Name) -> bool
     names.iter().any(|other| other == name)
 }
 
-// A name that isn't one of these.
-fn new_name_of<'a>(names: &[Name], bytes: &'a [u8]) -> Result<(Name, &'a [u8]), FormError>
+/// The name that the bytes begin with, and what is behind it. It isn't one of these.
+///
+/// # Errors
+/// No name stands there, or one of these does.
+pub fn new_name_of<'a>(names: &[Name], bytes: &'a [u8]) -> Result<(Name, &'a [u8]), FormError>
     ensures { Gives (λ x. (x.0, x.1.now)) result ((only (λ n. not (is_listed_name names.now n)) Field.Name name).read bytes.now) }
 {
     match name_of(bytes) {

@@ -2,7 +2,7 @@ use Rattle.std.proofs.Common.{◌≡◌, None, length, option_map, position, sym
 use Rattle.std.specs.Str.{bytes_eq}
 use Rattle.dma_emit.specs.Domains.{region_mapped}
 use Rattle.dma_emit.proofs.Found.{none_by_position}
-use Rattle.dma_emit.proofs.PlacesThere.{addresses_long, position_within}
+use Rattle.dma_emit.proofs.PlacesThere.{number_there, position_within}
 use Rattle.dma_emit.proofs.MappedAt.{mapped_at}
 use Rattle.dma_emit.proofs.windows.mapped.Goals as goal
 
@@ -19,10 +19,9 @@ bounds-addresses-number c =
     let memory = c.memory-memory.result.now in
     let is : memory ≡ c.args.placed.now.expanded.lawful.memory = c.memory-memory.ensures.value ∙ ap (λ r. r.memory) (c.resolved.ensures.value ∙ c.lawful.ensures ∙ ap (λ x. x.lawful) c.expanded.ensures.value) in
     let within = position_within (λ r. bytes_eq r.name c.args.mapping.now.region) memory c.in_ok-number.number (sym c.region_number.ensures ∙ c.in_ok-number.was) in
-    let long = addresses_long c.args.placed.now c.expanded.ensures.placed in
     let many = ap length is in
-    let same = ap length c.addresses.ensures.value in
-    omega arith
+    let there = number_there c.args.placed.now c.expanded.ensures.placed c.in_ok-number.number (omega (arith, within, many)) in
+    omega (arith, there, ap length c.addresses.ensures.value)
 
 pub returns : goal.returns
 returns c =

@@ -9,11 +9,9 @@ use Rattle.policy_lawful.specs.Resolution.{IsResolved, Resolution, source_of}
 use Rattle.policy_lawful.specs.Thing.{placed_items}
 use Rattle.policy_lawful.specs.Things.{AreDeclared}
 
-pub of_kernel-requires-clause-views : goal.of_kernel-requires-clause-views
-of_kernel-requires-clause-views c =
-    let same = c.resolved-policy.ensures.value in
+pub of_kernel-requires-clause-windows : goal.of_kernel-requires-clause-windows
+of_kernel-requires-clause-windows c =
     can_map_granted c.args.lawful.now c.args.grants.now
-    (subst IsResolved same c.subjects-subjects.ensures.resolved)
     c.resolved-policy.ensures.lawful c.requires
 
 pub of_kernel-requires-clause-as_many : goal.of_kernel-requires-clause-as_many
@@ -34,7 +32,7 @@ returns-clause-regions c =
     let subjects = c.subjects-subjects.ensures.value ∙ ap (λ (r : Resolution). r.subjects) same in
     let things = c.placed_things.result.now in
     joined_by_index c.args.lawful.now c.args.grants.now things c.in_ok-kernel.kernel.items c.of.result
-    (subst IsResolved same c.subjects-subjects.ensures.resolved) c.requires
+    c.requires
     (subst (λ (r : Resolution). AreDeclared r (placed_items (source_of r)) things) same c.placed_things.ensures.declared)
     (c.in_ok-kernel.ensures.regions ∙ ap (λ ss. kernel_for_each ss c.args.grants.now) subjects)
     (c.of.ensures ∙ c.in_ok-extend_from_slice.ensures.items ∙ (λ i. c.in_ok-regions.ensures i ++ c.deref.ensures.value i))

@@ -24,7 +24,7 @@ pub returns : goal.returns
 returns c =
     let same = c.resolved-policy.ensures.value in
     let subjects = c.subjects.ensures.value ∙ ap (λ (r : Resolution). r.subjects) same in
-    let groups = c.items.ensures ∙ ap (λ (s : Scheduling). s.groups) (c.scheduling.ensures.value ∙ ap (λ (r : Resolution). r.scheduling) same) in
+    let groups = ap (λ (s : Scheduling). s.groups) (c.scheduling.ensures.value ∙ ap (λ (r : Resolution). r.scheduling) same) in
     let group : c.group_with-group.result ≡ group_with c.args.lawful.now c.args.index =
     c.group_with-group.ensures ∙ ap (λ (gs : List Group). position (λ g. list_any (λ n. n == c.args.index) g.subjects) gs) groups in
     subject_told c.args.lawful.now (subst IsResolved same c.subjects.ensures.resolved) c.resolved-policy.ensures.lawful

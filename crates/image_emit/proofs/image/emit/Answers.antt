@@ -1,6 +1,6 @@
 use Rattle.std.proofs.Common.{◌∙◌, ap, sym, subst, arith, length}
 use Rattle.std.specs.List.{sum_by}
-use Rattle.image_emit.proofs.FewKnown.{are_few, cpus_few, regions_few, spans_few}
+use Rattle.image_emit.proofs.FewKnown.{are_few, cpus_few, memory_few, regions_few, spans_few}
 use Rattle.image_emit.proofs.ImageMade.{image_of_parts, parts_fit}
 use Rattle.event_emit.specs.Named.{AreNamed}
 use Rattle.image_soundness.specs.TablesOf.{AreDevices}
@@ -30,7 +30,7 @@ devices-requires c =
 
 pub choice_of-tau0-requires : goal.choice_of-tau0-requires
 choice_of-tau0-requires c =
-    let few = (are_few c.args.placed.now c.expanded-expanded.ensures.placed).regions in
+    let few = memory_few c.args.placed.now c.expanded-expanded.ensures.placed in
     let same = ap (λ r. length r.memory) c.policy_of-policy.ensures in
     omega (arith, few, same)
 

@@ -70,4 +70,4 @@ returns-in-Some-4 c =
     (subst (IsFirstFailing (SharesWithNone parts) (numbers_below (length parts))) c.in_default-first_by_own_pages.is c.first_by_own_pages.ensures)
     c.in-Some-4.differs c.plan_owner.result
     (subst (IsPlanFault (source_of r) i) c.in-Some-4.is c.in_ok-plan_fault.ensures)
-    (c.plan_owner.ensures ∙ ap (λ (x : Resolution). plan_owner x c.image.result.now c.in-Some-4.differs) c.policy_of-policy.ensures ∙ ap (λ (x : Image). plan_owner r x c.in-Some-4.differs) c.image.ensures.same)
+    (c.plan_owner.ensures ∙ ap (λ (x : Resolution). plan_owner (source_of x) c.image.result.now c.in-Some-4.differs) c.policy_of-policy.ensures ∙ ap (λ (x : Image). plan_owner (source_of r) x c.in-Some-4.differs) c.image.ensures.same)

@@ -14,5 +14,5 @@ tables_fault-requires c =
       files = c.requires.files;
       parts = subst IsParts c.image.view_is c.image.invariant;
       contents = subst (IsContentsFault (source_of r) c.requires.files i) c.in_default.is (c.in_ok-owner.ensures c.requires.files (c.items.ensures ∙ c.requires.are));
-      many = (are_kept r i (λ o. o ≡ None) (subst (FirstOf r i (λ o. o ≡ None) in_order) c.in_default-2.is c.in_ok-fault.ensures)).0.plan.many;
+      many = (are_kept (source_of r) i (λ o. o ≡ None) (subst (FirstOf (source_of r) i (λ o. o ≡ None) in_order) c.in_default-2.is c.in_ok-fault.ensures)).0.plan.many;
     }

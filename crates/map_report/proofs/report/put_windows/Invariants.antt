@@ -1,9 +1,9 @@
 use Rattle.std.proofs.Common.{take}
-use Rattle.std.specs.List.{enumerate_from, flat_map}
+use Rattle.std.specs.List.{flat_map}
 use Rattle.muen_outside.specs.Prints.{Printed}
-use Rattle.map_report.specs.Views.{view_lines, views_at}
+use Rattle.map_report.specs.ByNumber.{granted_line}
 use Rattle.map_report.proofs.report.put_windows.Given as goal
 
-abbrev pub invariant-loop-index : goal.invariant-loop-index
-invariant-loop-index g l =
-    Printed g.S.Sink.state (flat_map (λ x. view_lines l.policy x.1.name (views_at l.grants x.0)) (take l.index (enumerate_from 0 l.subjects))) l.initial.out l.out
+abbrev pub invariant-loop-window : goal.invariant-loop-window
+invariant-loop-window g l =
+    Printed g.S.Sink.state (flat_map (granted_line l.policy l.subject) (take l.window-index l.windows)) l.initial.out l.out

@@ -7,4 +7,4 @@ pub returns : goal.returns
 returns c =
     let t = c.args.self.now in
     let same : length t.numbers.items ≡ length t.frames.items = omega (arith, t.numbers.ok.0, t.frames.ok.0, t.paired) in
-    kept_at t.numbers.items t.frames.items c.args.number _ same (subst (λ (ns : List ℕ). MatchOption c.find.result (NoneBelow ns c.args.number (length ns)) (IsFirst ns c.args.number)) c.deref.ensures.value c.find.ensures)
+    kept_at t.numbers.items t.frames.items c.args.number _ same (subst (λ (ns : List ℕ). MatchOption c.index_of.result (NoneBelow ns c.args.number (length ns)) (IsFirst ns c.args.number)) c.deref.ensures.value c.index_of.ensures)

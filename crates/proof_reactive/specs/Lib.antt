@@ -1,0 +1,5 @@
+pub mod Answering
+pub mod Acting
+pub mod Playing
+pub mod Echo
+pub mod Laws

@@ -1,0 +1,2 @@
+; the key of both gateways
+        .u64 0xa5a5

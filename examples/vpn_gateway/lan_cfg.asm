@@ -1,0 +1,2 @@
+; the first port of the device lan
+        .u64 lan.regs

@@ -1,0 +1,2 @@
+; the first port of the device wan
+        .u64 wan.regs
