@@ -1,13 +1,12 @@
 -- Looks, one after another.
-use Rattle.std.proofs.Common.{◌≡◌, inl, inr, ℕ, true, false, List, [], ◌∷◌, ◌++◌, Option, Some, None, IfSome, sym, ap, subst, ◌∙◌, append-nil, append_assoc}
+use Rattle.std.proofs.Common.{◌≡◌, inl, inr, ℕ, false, List, [], ◌∷◌, ◌++◌, Option, Some, None, IfSome, sym, ap, subst, ◌∙◌, append-nil, append_assoc}
 use Rattle.std.specs.Str.{bytes_eq}
-use Rattle.std.proofs.lemmas.List.Elements.{All-append, All-nil, All-weaker}
 use Rattle.muen_outside.specs.Looks.{HaveNoLookAt, AreSingle, IsPossibleEnd, ShowAll, Shows}
 use Rattle.muen_outside.specs.States.{History, Look, looked}
 use Rattle.muen_outside.specs.Store.{Store}
 use Rattle.muen_outside.proofs.Explained.{told_none}
 use Rattle.policy_lawful.specs.refusal.Refusal.{Refusal}
-use Rattle.muen_build.specs.Accepting.{ErrorSays, Files, Grows, IsAskedBy, AskedNames, StopsAfterLooks, WithGiven}
+use Rattle.muen_build.specs.Accepting.{AreAskedInTurn, ErrorSays, Files, Grows, StopsAfterLooks, WithGiven}
 use Rattle.muen_build.specs.declared.accepted.BuildError.{BuildError}
 use Rattle.muen_build.specs.declared.accepted.BuildError.TheVariants.{FileFault, Refused}
 use Rattle.muen_num.proofs.Lookups.{other_way}
@@ -45,6 +44,19 @@ single_push [] l single possible others = (possible, tt, tt)
 single_push (k ∷ ks) l single possible others =
     (single.0, others_push ks k.name l single.1 (other_way l.name k.name others.0), single_push ks l single.2 possible others.1)
 
+-- ---- looks that are asked for in turn
+
+pub in_turn_both : (Asked : List Look → Look → Type 0) (a ls more : List Look) → AreAskedInTurn Asked a ls → AreAskedInTurn Asked (a ++ ls) more → AreAskedInTurn Asked a (ls ++ more)
+in_turn_both Asked a [] more h k = subst (λ b. AreAskedInTurn Asked b more) (append-nil a) k
+in_turn_both Asked a (l ∷ ls) more h k = (h.0, in_turn_both Asked (a ++ l ∷ []) ls more h.1 (subst (λ b. AreAskedInTurn Asked b more) (sym (append_assoc a (l ∷ []) ls)) k))
+
+-- what is asked for after looks with which all agree that agree with these
+pub in_turn_so : (Asked Asked' : List Look → Look → Type 0) (a before : List Look) → ((m : Store) → ShowAll m before → ShowAll m a)
+    → ((b : List Look) (l : Look) → ((m : Store) → ShowAll m b → ShowAll m a) → Asked b l → Asked' b l) → (ls : List Look) → AreAskedInTurn Asked before ls → AreAskedInTurn Asked' before ls
+in_turn_so Asked Asked' a before shows so [] h = tt
+in_turn_so Asked Asked' a before shows so (l ∷ ls) h =
+    (so before l shows h.0, in_turn_so Asked Asked' a (before ++ l ∷ []) (λ m s. shows m (show_front m before (l ∷ []) s)) so ls h.1)
+
 -- ---- looks that grow
 
 pub no_look : (h : History) → h ≡ looked h []
@@ -53,44 +65,44 @@ no_look h = ap (λ looks. record { looks = looks; writes = h.writes }) (sym (app
 pub looked_both : (h : History) (ls more : List Look) → looked (looked h ls) more ≡ looked h (ls ++ more)
 looked_both h ls more = ap (λ looks. record { looks = looks; writes = h.writes }) (append_assoc h.looks ls more)
 
-pub grows_not : (given : Files) (names : AskedNames) (held : Option Store) (h : History) (a : List Look) → Grows given names held h h a a
-grows_not given names held h a = record {
+pub grows_not : (given : Files) (Asked : List Look → Look → Type 0) (held : Option Store) (h : History) (a : List Look) → Grows given Asked held h h a a
+grows_not given Asked held h a = record {
   more = [];
   grown = sym (append-nil a);
   history = no_look h;
   told = told_none held;
-  asked = All-nil (IsAskedBy names);
+  asked = tt;
   single = λ s. s;
   others = λ name bytes is s. s;
 }
 
-pub grows_on : (given : Files) (names : AskedNames) (held held' : Option Store) (old mid new : History) (a b c : List Look)
-    → held' ≡ held → Grows given names held old mid a b → Grows given names held' mid new b c → Grows given names held old new a c
-grows_on given names held held' old mid new a b c same f g = record {
+pub grows_on : (given : Files) (Asked : List Look → Look → Type 0) (held held' : Option Store) (old mid new : History) (a b c : List Look)
+    → held' ≡ held → Grows given Asked held old mid a b → Grows given Asked held' mid new b c → Grows given Asked held old new a c
+grows_on given Asked held held' old mid new a b c same f g = record {
   more = f.more ++ g.more;
   grown = g.grown ∙ ap (λ looks. looks ++ g.more) f.grown ∙ append_assoc a f.more g.more;
   history = g.history ∙ ap (λ h. looked h g.more) f.history ∙ looked_both old f.more g.more;
   told = told_both held f.more g.more f.told (subst (λ h. IfSome h (λ m. ShowAll m g.more)) same g.told);
-  asked = All-append (IsAskedBy names) f.more g.more f.asked g.asked;
+  asked = in_turn_both Asked a f.more g.more f.asked (subst (λ looks. AreAskedInTurn Asked looks g.more) f.grown g.asked);
   single = λ s. g.single (f.single s);
   others = λ name bytes is s. g.others name bytes is (f.others name bytes is s);
 }
 
--- names that are asked for among more
-pub grows_among : (given : Files) (names names' : AskedNames) (held : Option Store) (old new : History) (a b : List Look)
-    → ((file : List ℕ) → names file ≡ true → names' file ≡ true) → Grows given names held old new a b → Grows given names' held old new a b
-grows_among given names names' held old new a b among g = record {
+-- what is asked for is so too
+pub grows_so : (given : Files) (Asked Asked' : List Look → Look → Type 0) (held : Option Store) (old new : History) (a b : List Look)
+    → ((c : List Look) (l : Look) → ((m : Store) → ShowAll m c → ShowAll m a) → Asked c l → Asked' c l) → Grows given Asked held old new a b → Grows given Asked' held old new a b
+grows_so given Asked Asked' held old new a b so g = record {
   more = g.more;
   grown = g.grown;
   history = g.history;
   told = g.told;
-  asked = All-weaker (IsAskedBy names) (IsAskedBy names') (λ l asked. (among l.name asked.0, asked.1)) g.more g.asked;
+  asked = in_turn_so Asked Asked' a a (λ m s. s) so g.more g.asked;
   single = g.single;
   others = g.others;
 }
 
-pub grows_shows : (given : Files) (names : AskedNames) (held : Option Store) (old new : History) (a b : List Look) → Grows given names held old new a b → (files : Store) → ShowAll files b → ShowAll files a
-grows_shows given names held old new a b g files s = show_front files a g.more (subst (ShowAll files) g.grown s)
+pub grows_shows : (given : Files) (Asked : List Look → Look → Type 0) (held : Option Store) (old new : History) (a b : List Look) → Grows given Asked held old new a b → (files : Store) → ShowAll files b → ShowAll files a
+grows_shows given Asked held old new a b g files s = show_front files a g.more (subst (ShowAll files) g.grown s)
 
 -- ---- how it fails
 
@@ -103,26 +115,26 @@ says_so given looks Refuses Refuses' FileFault so e = e
 
 module _ (given : Files) where
   -- told from an earlier look on
-  pub stops_from : (names : AskedNames) (held held' : Option Store) (old mid new : History) (a b : List Look) (Refuses : Store → Refusal → Type 0) (error : BuildError)
-      → held' ≡ held → Grows given names held old mid a b → StopsAfterLooks given names held' mid new b Refuses error → StopsAfterLooks given names held old new a Refuses error
-  stops_from names held held' old mid new a b Refuses error same g e = record {
+  pub stops_from : (Asked : List Look → Look → Type 0) (held held' : Option Store) (old mid new : History) (a b : List Look) (Refuses : Store → Refusal → Type 0) (error : BuildError)
+      → held' ≡ held → Grows given Asked held old mid a b → StopsAfterLooks given Asked held' mid new b Refuses error → StopsAfterLooks given Asked held old new a Refuses error
+  stops_from Asked held held' old mid new a b Refuses error same g e = record {
     after = e.after;
-    grows = grows_on given names held held' old mid new a b e.after same g e.grows;
+    grows = grows_on given Asked held held' old mid new a b e.after same g e.grows;
     says = e.says;
   }
 
-  -- for more, and with names among more
-  pub stops_so : (names names' : AskedNames) (held : Option Store) (old new : History) (a : List Look) (Refuses Refuses' : Store → Refusal → Type 0) (error : BuildError)
-      → ((file : List ℕ) → names file ≡ true → names' file ≡ true)
+  -- where what is asked for is so too
+  pub stops_so : (Asked Asked' : List Look → Look → Type 0) (held : Option Store) (old new : History) (a : List Look) (Refuses Refuses' : Store → Refusal → Type 0) (error : BuildError)
+      → ((c : List Look) (l : Look) → ((m : Store) → ShowAll m c → ShowAll m a) → Asked c l → Asked' c l)
       → ((r : Refusal) (looks : List Look) → ((files : Store) → ShowAll files looks → ShowAll files a) → WithGiven given looks (λ files. Refuses files r) → WithGiven given looks (λ files. Refuses' files r))
-      → StopsAfterLooks given names held old new a Refuses error → StopsAfterLooks given names' held old new a Refuses' error
-  stops_so names names' held old new a Refuses Refuses' error among so e = record {
+      → StopsAfterLooks given Asked held old new a Refuses error → StopsAfterLooks given Asked' held old new a Refuses' error
+  stops_so Asked Asked' held old new a Refuses Refuses' error among so e = record {
     after = e.after;
-    grows = grows_among given names names' held old new a e.after among e.grows;
-    says = says_so given e.after Refuses Refuses' error (λ r. so r e.after (grows_shows given names held old new a e.after e.grows)) e.says;
+    grows = grows_so given Asked Asked' held old new a e.after among e.grows;
+    says = says_so given e.after Refuses Refuses' error (λ r. so r e.after (grows_shows given Asked held old new a e.after e.grows)) e.says;
   }
 
   -- with no look more
-  pub stops_here : (names : AskedNames) (held : Option Store) (h : History) (a : List Look) (Refuses : Store → Refusal → Type 0) (r : Refusal)
-      → WithGiven given a (λ files. Refuses files r) → StopsAfterLooks given names held h h a Refuses (Refused r)
-  stops_here names held h a Refuses r so = record { after = a; grows = grows_not given names held h a; says = inr so }
+  pub stops_here : (Asked : List Look → Look → Type 0) (held : Option Store) (h : History) (a : List Look) (Refuses : Store → Refusal → Type 0) (r : Refusal)
+      → WithGiven given a (λ files. Refuses files r) → StopsAfterLooks given Asked held h h a Refuses (Refused r)
+  stops_here Asked held h a Refuses r so = record { after = a; grows = grows_not given Asked held h a; says = inr so }

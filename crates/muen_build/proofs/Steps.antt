@@ -4,7 +4,6 @@ use Rattle.std.specs.Prelude.{option_map, if◌then◌else◌}
 use Rattle.std.specs.Str.{bytes_eq}
 use Rattle.std.specs.FinMap.{get}
 use Rattle.std.proofs.lemmas.List.{length-take, length-drop, map_push}
-use Rattle.std.proofs.lemmas.List.Elements.{All-cons, All-nil}
 use Rattle.std.proofs.lemmas.Slice.Eq.{bytes_eq-Decides}
 use Rattle.muen_num.specs.declared.limits.TheConstants.{COMPONENT_FILE_MOST}
 use Rattle.muen_num.specs.declared.tag.Tag.{Tag}
@@ -38,10 +37,10 @@ module _ (given : Files) (file bytes : List ℕ) (is : find_bytes file given ≡
   }
 
   pub given_stops : (held : Option Store) (h : History) (looks : List Look) (error : BuildError) → error ≡ Refused (TooLong file (length bytes)) → COMPONENT_FILE_MOST < length bytes
-      → StopsAfterLooks given (bytes_eq file) held h h looks (NotFound file) error
+      → StopsAfterLooks given (IsAskedBy (bytes_eq file)) held h h looks (NotFound file) error
   given_stops held h looks error long_one many =
-      subst (StopsAfterLooks given (bytes_eq file) held h h looks (NotFound file)) (sym long_one)
-      (stops_here given (bytes_eq file) held h looks (NotFound file) (TooLong file (length bytes))
+      subst (StopsAfterLooks given (IsAskedBy (bytes_eq file)) held h h looks (NotFound file)) (sym long_one)
+      (stops_here given (IsAskedBy (bytes_eq file)) held h looks (NotFound file) (TooLong file (length bytes))
       (λ files s. (refl, given_reads (long (length bytes)) (too_many COMPONENT_FILE_MOST bytes many) files)))
 
 -- ---- a file that was read before
@@ -104,13 +103,13 @@ module _ (given found : Files) (file : List ℕ) (other : find_bytes file given 
           | false ↦ λ ne. refl
         ] refl
 
-    grown : (got : Result Reading FileError) → LooksAt file got held old new → Grows given (bytes_eq file) held old new (looks_of found) (then_look found file got)
+    grown : (got : Result Reading FileError) → LooksAt file got held old new → Grows given (IsAskedBy (bytes_eq file)) held old new (looks_of found) (then_look found file got)
     grown got l = record {
       more = look file COMPONENT_FILE_MOST got ∷ [];
       grown = refl;
       history = l.history;
       told = told_one held (look file COMPONENT_FILE_MOST got) l.told;
-      asked = All-cons (IsAskedBy (bytes_eq file)) (look file COMPONENT_FILE_MOST got) [] (same_self file, refl) (All-nil (IsAskedBy (bytes_eq file)));
+      asked = ((same_self file, refl), tt);
       single = λ s. single_push (looks_of found) (look file COMPONENT_FILE_MOST got) s l.possible (others_found found file new_one);
       others = λ name bytes is s. others_push (looks_of found) name (look file COMPONENT_FILE_MOST got) s (apart_name name bytes is);
     }
@@ -122,8 +121,8 @@ module _ (given found : Files) (file : List ℕ) (other : find_bytes file given 
     looks_are : (after : Files) (bytes : List ℕ) → after ≡ found ++ (file, bytes) ∷ [] → then_look found file (Ok (whole bytes)) ≡ looks_of after
     looks_are after bytes is = sym (map_push file_look found (file, bytes)) ∙ ap looks_of (sym is)
 
-    pub new_grows : (after : Files) (count : ℕ) → IsAdded file found after count held old new → Grows given (bytes_eq file) held old new (looks_of found) (looks_of after)
-    new_grows after count a = subst (Grows given (bytes_eq file) held old new (looks_of found)) (looks_are after a.bytes a.added) (grown (Ok (whole a.bytes)) a.looks)
+    pub new_grows : (after : Files) (count : ℕ) → IsAdded file found after count held old new → Grows given (IsAskedBy (bytes_eq file)) held old new (looks_of found) (looks_of after)
+    new_grows after count a = subst (Grows given (IsAskedBy (bytes_eq file)) held old new (looks_of found)) (looks_are after a.bytes a.added) (grown (Ok (whole a.bytes)) a.looks)
 
     pub new_known : (after : Files) (count : ℕ) → IsAdded file found after count held old new → IsLengthKnown given (looks_of after) file count
     new_known after count a files s = record {
@@ -143,7 +142,7 @@ module _ (given found : Files) (file : List ℕ) (other : find_bytes file given 
     got_says got (Refused (FileFit a b d)) h = absurd h
     got_says got (Refused (NoRoom a b)) h = absurd h
 
-    pub new_stops : (error : BuildError) → ComponentFileNotRead file held old new error → StopsAfterLooks given (bytes_eq file) held old new (looks_of found) (NotFound file) error
+    pub new_stops : (error : BuildError) → ComponentFileNotRead file held old new error → StopsAfterLooks given (IsAskedBy (bytes_eq file)) held old new (looks_of found) (NotFound file) error
     new_stops error n = record { after = then_look found file n.got; grows = grown n.got n.looks; says = got_says n.got error n.says }
 
 -- ---- a content

@@ -1,6 +1,5 @@
 -- What accepting a policy has seen of files, and what it comes to.
-use Rattle.std.specs.Prelude.{◌≡◌, ◌⊎◌, ℕ, Bool, true, List, ◌∷◌, [], ◌++◌, ◌-◌, min, length, map, Option, Some, None, IfSome, Result, Ok, Err}
-use Rattle.std.specs.List.{All}
+use Rattle.std.specs.Prelude.{◌≡◌, ◌⊎◌, ℕ, ◌<◌, Bool, true, List, ◌∷◌, [], ◌++◌, ◌-◌, min, length, map, slice_get, Option, Some, None, IfSome, Result, Ok, Err}
 use Rattle.std.specs.FinMap.{get, insert}
 use Rattle.proof_build.specs.ThingBytes.{thing_bytes}
 use Rattle.muen_num.specs.declared.limits.TheConstants.{COMPONENT_FILE_MOST}
@@ -12,13 +11,14 @@ use Rattle.muen_outside.specs.declared.files.FileError.TheVariants.{Failed}
 use Rattle.policy_lawful.specs.refusal.Refusal.{Refusal}
 use Rattle.policy_lawful.specs.refusal.Refusal.TheVariants.{Missing, TooLong, NoMemory}
 use Rattle.policy_lawful.specs.Resolution.{Resolution, source_of}
+use Rattle.policy_lawful.specs.Thing.{Item, items_of}
 use Rattle.policy_lawful.specs.Things.{content_found, content_told}
 use Rattle.policy_lawful.specs.declared.thing.Thing.{Thing}
 use Rattle.policy_lawful.specs.source.Content.{Content}
 use Rattle.policy_lawful.specs.source.Source.{Source}
 use Rattle.region_alloc.specs.Placed.{Placement}
-use Rattle.muen_build.specs.Looks.{IsAsked, Looked, file_look, is_of_file, names_file}
-use Rattle.muen_build.specs.Refusals.{accepted_policy_of, content_refused, contents_refused}
+use Rattle.muen_build.specs.Looks.{Looked, file_look, is_of_file}
+use Rattle.muen_build.specs.Refusals.{accepted_policy_of, content_refused, contents_refused, item_refused, lawful_policy_of}
 use Rattle.muen_build.specs.declared.accepted.BuildError.{BuildError}
 use Rattle.muen_build.specs.declared.given.Given.{Given}
 use Rattle.muen_build.specs.declared.accepted.BuildError.TheVariants.{FileFault, Refused}
@@ -57,6 +57,39 @@ WithGiven given looks Such = (files : Store) → ShowAll files looks → Such (i
 abbrev pub WithDocument : List ℕ → List ℕ → List Look → (Store → Type 0) → Type 0
 WithDocument name document looks Such = WithGiven ((name, document) ∷ []) looks Such
 
+-- ---- which looks are made
+
+-- looks after others, each of which is asked for after all that come before it
+abbrev pub AreAskedInTurn : (List Look → Look → Type 0) → List Look → List Look → Type 0
+AreAskedInTurn Asked before [] = Unit {0}
+AreAskedInTurn Asked before (l ∷ more) = Asked before l × AreAskedInTurn Asked (before ++ l ∷ []) more
+
+-- **the next look** after others: at the file of a content of the policy, where the contents of all regions of lower numbers fit over
+-- every store that agrees with those looks. So none is made once it is certain why contents are refused
+pub record IsNext (given : Files) (p : Source) (before : List Look) (l : Look) : Type 0 where
+  pub number : ℕ
+  pub item : Item
+  pub there : slice_get (items_of p) number ≡ Some item
+  pub file : is_of_file l.name item.content ≡ true
+  pub most : l.most ≡ COMPONENT_FILE_MOST
+  pub fit : (k : ℕ) (i : Item) → k < number → slice_get (items_of p) k ≡ Some i → WithGiven given before (λ files. item_refused files i ≡ None)
+
+-- it is that by the policy of the document
+pub record IsAsked (given : Files) (document : List ℕ) (before : List Look) (l : Look) : Type 0 where
+  pub policy : Source
+  pub lawful : lawful_policy_of document ≡ Ok policy
+  pub next : IsNext given policy before l
+
+-- looks at component files, each the next one
+abbrev pub AreAsked : Files → List ℕ → List Look → Type 0
+AreAsked given document looks = AreAskedInTurn (IsAsked given document) [] looks
+
+-- .. where the document stands under this name
+abbrev pub AreAskedFor : List ℕ → List ℕ → List Look → Type 0
+AreAskedFor name document looks = AreAsked ((name, document) ∷ []) document looks
+
+-- ---- how a document is accepted
+
 -- the document is accepted as this policy
 abbrev pub Accepts : List ℕ → List Look → List ℕ → Source → Type 0
 Accepts name looks document p = WithDocument name document looks (λ files. accepted_policy_of files document ≡ Ok p)
@@ -74,7 +107,7 @@ ErrorSays given Refuses looks FileFault = EndsInFault looks
 pub record FailsWith (name document : List ℕ) (held : Option Store) (old new : History) (error : BuildError) : Type 0 where
   pub looks : List Look
   pub looked : Looked name held old new looks
-  pub asked : All (IsAsked document) looks
+  pub asked : AreAskedFor name document looks
   pub says : ErrorSays ((name, document) ∷ []) (RefusesDocument document) looks error
 
 -- ---- looks that grow
@@ -83,24 +116,24 @@ pub record FailsWith (name document : List ℕ) (held : Option Store) (old new :
 abbrev pub AskedNames : Type 0
 AskedNames = List ℕ → Bool
 
-abbrev pub IsAskedBy : AskedNames → Look → Type 0
-IsAskedBy names l = (names l.name ≡ true) × (l.most ≡ COMPONENT_FILE_MOST)
+-- whatever looks come before
+abbrev pub IsAskedBy : AskedNames → List Look → Look → Type 0
+IsAskedBy names before l = (names l.name ≡ true) × (l.most ≡ COMPONENT_FILE_MOST)
 
--- looks were made after these, at component files that are asked for; all are each at another name and none at one that is given,
--- where these are so
-pub record Grows (given : Files) (names : AskedNames) (held : Option Store) (old new : History) (before after : List Look) : Type 0 where
+-- looks were made after these, which are asked for; all are each at another name and none at one that is given, where these are so
+pub record Grows (given : Files) (Asked : List Look → Look → Type 0) (held : Option Store) (old new : History) (before after : List Look) : Type 0 where
   pub more : List Look
   pub grown : after ≡ before ++ more
   pub history : new ≡ looked old more
   pub told : IfSome held (λ m. ShowAll m more)
-  pub asked : All (IsAskedBy names) more
+  pub asked : AreAskedInTurn Asked before more
   pub single : AreSingle before → AreSingle after
   pub others : (name bytes : List ℕ) → find_bytes name given ≡ Some bytes → HaveNoLookAt before name → HaveNoLookAt after name
 
 -- looks were made after these, and this is what comes of them all
-pub record StopsAfterLooks (given : Files) (names : AskedNames) (held : Option Store) (old new : History) (before : List Look) (Refuses : Store → Refusal → Type 0) (error : BuildError) : Type 0 where
+pub record StopsAfterLooks (given : Files) (Asked : List Look → Look → Type 0) (held : Option Store) (old new : History) (before : List Look) (Refuses : Store → Refusal → Type 0) (error : BuildError) : Type 0 where
   pub after : List Look
-  pub grows : Grows given names held old new before after
+  pub grows : Grows given Asked held old new before after
   pub says : ErrorSays given Refuses after error
 
 -- ---- contents alone
@@ -117,7 +150,7 @@ pub record LookedBeside (given : Files) (held : Option Store) (old new : History
 pub record HasContents (given : Files) (r : Resolution) (held : Option Store) (old new : History) (things : List (List ℕ)) : Type 0 where
   pub looks : List Look
   pub looked : LookedBeside given held old new looks
-  pub asked : All (IsAskedBy (names_file (source_of r))) looks
+  pub asked : AreAskedInTurn (IsNext given (source_of r)) [] looks
   pub fit : WithGiven given looks (λ files. contents_refused files (source_of r) ≡ None)
   pub are : WithGiven given looks (λ files. things ≡ thing_bytes files r)
 
@@ -128,7 +161,7 @@ RefusesContents p files r = contents_refused files p ≡ Some r
 pub record LacksContents (given : Files) (p : Source) (held : Option Store) (old new : History) (error : BuildError) : Type 0 where
   pub looks : List Look
   pub looked : LookedBeside given held old new looks
-  pub asked : All (IsAskedBy (names_file p)) looks
+  pub asked : AreAskedInTurn (IsNext given p) [] looks
   pub says : ErrorSays given (RefusesContents p) looks error
 
 -- ---- one file
@@ -205,3 +238,15 @@ thing_refused r t files = content_refused files t.tag t.size (thing_content r t)
 -- which file it is of
 abbrev pub thing_names : Resolution → Thing → AskedNames
 thing_names r t name = is_of_file name (thing_content r t)
+
+-- looks were made after these, at the file of a thing's content
+abbrev pub GrowsByThing : Files → Resolution → Thing → Option Store → History → History → List Look → List Look → Type 0
+GrowsByThing given r t held old new before after = Grows given (IsAskedBy (thing_names r t)) held old new before after
+
+-- .. and its content isn't known to fit
+abbrev pub StopsAtThing : Files → Resolution → Thing → Option Store → History → History → List Look → BuildError → Type 0
+StopsAtThing given r t held old new before error = StopsAfterLooks given (IsAskedBy (thing_names r t)) held old new before (Refuses (thing_refused r t)) error
+
+-- .. nor all contents of a policy, of which looks were made at the files, each the next one
+abbrev pub StopsAtContents : Files → Source → Option Store → History → History → BuildError → Type 0
+StopsAtContents given p held old new error = StopsAfterLooks given (IsNext given p) held old new [] (RefusesContents p) error

@@ -1,9 +1,8 @@
 -- What building an image has seen of files, and what it comes to.
 use Rattle.std.specs.Prelude.{◌≡◌, ℕ, List, Option, Ok}
-use Rattle.std.specs.List.{All}
-use Rattle.muen_build.specs.Accepting.{WithDocument}
+use Rattle.muen_build.specs.Accepting.{AreAskedFor, WithDocument}
 use Rattle.muen_build.specs.ImageFor.{IsImageFor}
-use Rattle.muen_build.specs.Looks.{IsAsked, Looked}
+use Rattle.muen_build.specs.Looks.{Looked}
 use Rattle.muen_build.specs.Refusals.{accepted_policy_of}
 use Rattle.muen_outside.specs.States.{History, Look}
 use Rattle.muen_outside.specs.Store.{Store}
@@ -19,5 +18,5 @@ pub record IsBuilt (document : List ℕ) (files : Store) (bytes : List ℕ) : Ty
 pub record Builds (name : List ℕ) (held : Option Store) (old new : History) (document bytes : List ℕ) : Type 0 where
   pub looks : List Look
   pub looked : Looked name held old new looks
-  pub asked : All (IsAsked document) looks
+  pub asked : AreAskedFor name document looks
   pub built : WithDocument name document looks (λ files. IsBuilt document files bytes)

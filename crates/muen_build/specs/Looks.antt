@@ -1,12 +1,11 @@
 -- What a call has looked at.
-use Rattle.std.specs.Prelude.{◌≡◌, ℕ, Bool, true, false, List, Option, IfSome, Ok}
+use Rattle.std.specs.Prelude.{◌≡◌, ℕ, Bool, false, List, Option, IfSome, Ok}
 use Rattle.std.specs.List.{list_any}
 use Rattle.std.specs.Str.{bytes_eq}
 use Rattle.muen_num.specs.declared.limits.TheConstants.{COMPONENT_FILE_MOST, POLICY_MOST}
 use Rattle.muen_outside.specs.Looks.{HaveNoLookAt, AreSingle, ShowAll}
 use Rattle.muen_outside.specs.States.{History, Look, look, looked}
 use Rattle.muen_outside.specs.Store.{Store, whole}
-use Rattle.muen_build.specs.Refusals.{lawful_policy_of}
 use Rattle.policy_lawful.specs.Thing.{items_of}
 use Rattle.policy_lawful.specs.source.Content.{Content}
 use Rattle.policy_lawful.specs.source.Content.TheVariants.{Zero, Fill, Inline, File}
@@ -39,10 +38,3 @@ is_of_file name (File file offset most) = bytes_eq file name
 -- whether a content of the policy is
 abbrev pub names_file : Source → List ℕ → Bool
 names_file p name = list_any (λ i. is_of_file name i.content) (items_of p)
-
--- this look is at a component file that the policy of the document names
-pub record IsAsked (document : List ℕ) (l : Look) : Type 0 where
-  pub policy : Source
-  pub lawful : lawful_policy_of document ≡ Ok policy
-  pub names : names_file policy l.name ≡ true
-  pub most : l.most ≡ COMPONENT_FILE_MOST

@@ -4,8 +4,7 @@ ghost use Rattle.std.specs.Str.{bytes_eq};
 ghost use Rattle.muen_num.specs.Search.{as_refusal};
 ghost use Rattle.muen_outside.specs.Store.{find_bytes, whole};
 ghost use Rattle.policy_lawful.specs.Resolution.{source_of};
-ghost use Rattle.muen_build.specs.Accepting.{ComponentFileNotRead, Grows, IsAdded, IsLengthKnown, LooksAt, NotFound, Passes, Refuses, RefusesContents, StopsAfterLooks, given_files, looks_of, part_length, thing_names, thing_refused};
-ghost use Rattle.muen_build.specs.Looks.{names_file};
+ghost use Rattle.muen_build.specs.Accepting.{ComponentFileNotRead, Grows, IsAdded, IsAskedBy, IsLengthKnown, IsNext, GrowsByThing, LooksAt, NotFound, Passes, StopsAfterLooks, StopsAtContents, StopsAtThing, given_files, looks_of, part_length, thing_refused};
 ghost use Rattle.muen_build.specs.Refusals.{contents_refused, too_long_for};
 ghost use Rattle.muen_build.specs.declared.accepted.BuildError.TheVariants.{Refused};
 ghost use Rattle.policy_lawful.specs.refusal.Refusal.TheVariants.{TooLong};
@@ -103,9 +102,9 @@ fn file_length<F: Files>(
     found: &mut ComponentFiles,
     files: &mut F,
 ) -> Result<u64, BuildError>
-    ensures grows { IfOk result (λ _. Grows (given_files given.now) (bytes_eq file) (F.held files.old) (F.history files.old) (F.history files.new) (looks_of found.old) (looks_of found.new)) }
+    ensures grows { IfOk result (λ _. Grows (given_files given.now) (IsAskedBy (bytes_eq file)) (F.held files.old) (F.history files.old) (F.history files.new) (looks_of found.old) (looks_of found.new)) }
     ensures known { IfOk result (IsLengthKnown (given_files given.now) (looks_of found.new) file) }
-    ensures err { IfErr result (StopsAfterLooks (given_files given.now) (bytes_eq file) (F.held files.old) (F.history files.old) (F.history files.new) (looks_of found.old) (NotFound file)) }
+    ensures err { IfErr result (StopsAfterLooks (given_files given.now) (IsAskedBy (bytes_eq file)) (F.held files.old) (F.history files.old) (F.history files.new) (looks_of found.old) (NotFound file)) }
     ensures held { F.held files.new ≡ F.held files.old }
 {
     if let Some(bytes) = given_bytes(given, file) {
@@ -126,9 +125,9 @@ fn check<F: Files>(
     found: &mut ComponentFiles,
     files: &mut F,
 ) -> Result<(), BuildError>
-    ensures grows { IfOk result (λ _. Grows (given_files given.now) (thing_names policy.now thing.now) (F.held files.old) (F.history files.old) (F.history files.new) (looks_of found.old) (looks_of found.new)) }
+    ensures grows { IfOk result (λ _. GrowsByThing (given_files given.now) policy.now thing.now (F.held files.old) (F.history files.old) (F.history files.new) (looks_of found.old) (looks_of found.new)) }
     ensures passes { IfOk result (λ _. Passes (given_files given.now) (looks_of found.new) (thing_refused policy.now thing.now)) }
-    ensures err { IfErr result (StopsAfterLooks (given_files given.now) (thing_names policy.now thing.now) (F.held files.old) (F.history files.old) (F.history files.new) (looks_of found.old) (Refuses (thing_refused policy.now thing.now))) }
+    ensures err { IfErr result (StopsAtThing (given_files given.now) policy.now thing.now (F.held files.old) (F.history files.old) (F.history files.new) (looks_of found.old)) }
     ensures held { F.held files.new ≡ F.held files.old }
 {
     let Some(content) = policy.content(thing.content) else {
@@ -149,16 +148,16 @@ fn check<F: Files>(
 }
 
 /// The component files that the contents of a policy name, which have room in their regions. Contents
-/// are held against it by number.
+/// are held against it by number, and a file is looked at once all before it fit.
 pub(crate) fn read_contents<F: Files>(
     alloc: Global,
     given: &[Given<'_>],
     policy: &Lawful,
     files: &mut F,
 ) -> Result<ComponentFiles, BuildError>
-    ensures grows { IfOk result (λ found. Grows (given_files given.now) (names_file (source_of policy.now)) (F.held files.old) (F.history files.old) (F.history files.new) [] (looks_of found)) }
+    ensures grows { IfOk result (λ found. Grows (given_files given.now) (IsNext (given_files given.now) (source_of policy.now)) (F.held files.old) (F.history files.old) (F.history files.new) [] (looks_of found)) }
     ensures passes { IfOk result (λ found. Passes (given_files given.now) (looks_of found) (λ files. contents_refused files (source_of policy.now))) }
-    ensures err { IfErr result (StopsAfterLooks (given_files given.now) (names_file (source_of policy.now)) (F.held files.old) (F.history files.old) (F.history files.new) [] (RefusesContents (source_of policy.now))) }
+    ensures err { IfErr result (StopsAtContents (given_files given.now) (source_of policy.now) (F.held files.old) (F.history files.old) (F.history files.new)) }
     ensures held { F.held files.new ≡ F.held files.old }
 {
     let policy = policy.resolved();

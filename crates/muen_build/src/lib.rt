@@ -5,12 +5,11 @@
 
 ghost use Rattle.std.specs.Prelude.{◌≡◌, ℕ, IfOk, IfErr, List, None, Some, Ok};
 ghost use Rattle.std.specs.FinMap as map;
-ghost use Rattle.std.specs.List.{All};
 ghost use Rattle.muen_num.specs.Answers.{Answers, Explains};
 ghost use Rattle.muen_outside.specs.Store.{Store};
 ghost use Rattle.policy_lawful.specs.Resolution.{kept_source, source_of};
-ghost use Rattle.muen_build.specs.Accepting.{Accepts, FailsWith, HasContents, LacksContents, given_files, looks_of, placed_source};
-ghost use Rattle.muen_build.specs.Looks.{IsAsked, Looked};
+ghost use Rattle.muen_build.specs.Accepting.{Accepts, AreAskedFor, FailsWith, HasContents, LacksContents, given_files, looks_of, placed_source};
+ghost use Rattle.muen_build.specs.Looks.{Looked};
 ghost use Rattle.muen_build.specs.Refusals.{laid_policy_of, lawful_policy_of};
 ghost use Rattle.region_alloc.specs.Placement.{no_room};
 
@@ -109,9 +108,10 @@ pub fn accept<F: Files>(
     document: &[u8],
     files: &mut F,
 ) -> Result<Accepted, BuildError>
-    // It made the looks that read these files and no others, each at a name that a content has.
+    // It made the looks that read these files and no others, each at the file of the first content by number
+    // that the looks before it leave open.
     ensures looked { IfOk result (λ a. Looked name.now (F.held files.old) (F.history files.old) (F.history files.new) (looks_of a.files)) }
-    ensures asked { IfOk result (λ a. All (IsAsked document.now) (looks_of a.files)) }
+    ensures asked { IfOk result (λ a. AreAskedFor name.now document.now (looks_of a.files)) }
     // In whatever files agree with its looks, with these bytes under the policy's name, the
     // document is accepted as this policy.
     ensures accepts { IfOk result (λ a. Accepts name.now (looks_of a.files) document.now (source_of a.placed.expanded.lawful)) }

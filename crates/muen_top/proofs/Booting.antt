@@ -1,8 +1,6 @@
 -- What `boot` answers, as its files are read.
 use Rattle.std.proofs.Common.{◌≡◌, inl, inr, ℕ, List, [], ◌∷◌, ◌++◌, Option, Some, Result, Ok, Err, IfErr, IfOk, refl, sym, ap, subst, ◌∙◌, append-nil}
 use Rattle.std.specs.FinMap.{get, insert}
-use Rattle.std.specs.List.{All}
-use Rattle.std.proofs.lemmas.List.Elements.{All-nil}
 use Rattle.image_pack.specs.Faults.{Tells}
 use Rattle.image_pack.specs.fault.ImageFault.{ImageFault}
 use Rattle.image_pack.specs.fault.ImageFault.TheVariants.{Short, Bad, Trailing, NoMemory as NoMemoryForImage}
@@ -12,9 +10,9 @@ use Rattle.image_soundness.specs.Bench.{devices_of}
 use Rattle.image_soundness.specs.Sound.{IsSound}
 use Rattle.image_pack.specs.Parts.{IsImage}
 use Rattle.image_pack.specs.declared.parts.Image.{Image}
-use Rattle.muen_build.specs.Accepting.{Accepts, ErrorSays, FailsWith, Files, RefusesDocument, WithDocument, looks_of}
+use Rattle.muen_build.specs.Accepting.{Accepts, AreAskedFor, ErrorSays, FailsWith, Files, RefusesDocument, WithDocument, looks_of}
 use Rattle.muen_build.specs.ImageFor.{IsImageFor}
-use Rattle.muen_build.specs.Looks.{IsAsked, Looked, document_look}
+use Rattle.muen_build.specs.Looks.{Looked, document_look}
 use Rattle.muen_build.specs.Refusals.{accepted_policy_of}
 use Rattle.muen_build.specs.declared.accepted.BuildError.{BuildError}
 use Rattle.muen_build.specs.declared.accepted.BuildError.TheVariants.{Refused as RefusedPolicy, FileFault as FaultOfFiles}
@@ -79,7 +77,7 @@ rests policy name m = refl
 asks : (policy name : List ℕ) → AsksOn POLICY_MOST policy (AsksBoth policy name) (boot policy name)
 asks policy name = record {
   asks = λ looks a. a;
-  none = λ document. record { components = []; last = []; is = refl; contents = All-nil (IsAsked document); inputs_last = inl refl };
+  none = λ document. record { components = []; last = []; is = refl; contents = tt; inputs_last = inl refl };
 }
 
 by_document : (m : Store) (policy name bytes : List ℕ) (answer : Result Source Refusal) → reading_of (get m policy) POLICY_MOST ≡ whole bytes → accepted_policy_of m bytes ≡ answer → boot_answer m policy name ≡ policy_answer m name answer
@@ -96,7 +94,7 @@ policy_not_read policy name held old new error h = not_read POLICY_MOST policy (
 
 module _ (policy : List ℕ) (held held' : Option Store) (old between : History) (same : held' ≡ held) (document : List ℕ) (saw : Saw held old between (document_look policy document ∷ [])) where
   -- the looks at the document and at component files
-  asks_all : (name : List ℕ) (looks : List Look) → All (IsAsked document) looks → Asks (Some (boot policy name)) (document_look policy document ∷ looks)
+  asks_all : (name : List ℕ) (looks : List Look) → AreAskedFor policy document looks → Asks (Some (boot policy name)) (document_look policy document ∷ looks)
   asks_all name looks asked = record {
     got = Ok (whole document);
     more = looks;
@@ -130,7 +128,7 @@ module _ (policy : List ℕ) (held held' : Option Store) (old between : History)
 
   -- ---- an accepted policy
 
-  module _ (mid : History) (found : Files) (looked : Looked policy held' between mid (looks_of found)) (asked : All (IsAsked document) (looks_of found)) where
+  module _ (mid : History) (found : Files) (looked : Looked policy held' between mid (looks_of found)) (asked : AreAskedFor policy document (looks_of found)) where
     abbrev both : List Look
     both = policy_looks policy document found
 

@@ -1,12 +1,10 @@
 -- What `build` answers, as its files are read, and what comes of its writes.
 use Rattle.std.proofs.Common.{◌≡◌, inl, inr, ℕ, List, [], ◌∷◌, Option, Some, None, IfSome, is_some, option_map, Result, Ok, Err, refl, sym, ap, subst, ◌∙◌, append_assoc}
 use Rattle.std.specs.FinMap.{get, insert}
-use Rattle.std.specs.List.{All}
-use Rattle.std.proofs.lemmas.List.Elements.{All-nil}
 use Rattle.muen_num.specs.declared.limits.TheConstants.{POLICY_MOST}
-use Rattle.muen_build.specs.Accepting.{Accepts, ErrorSays, FailsWith, Files, RefusesDocument, WithDocument, looks_of}
+use Rattle.muen_build.specs.Accepting.{Accepts, AreAskedFor, ErrorSays, FailsWith, Files, RefusesDocument, WithDocument, looks_of}
 use Rattle.muen_build.specs.ImageFor.{IsImageFor}
-use Rattle.muen_build.specs.Looks.{IsAsked, Looked, document_look}
+use Rattle.muen_build.specs.Looks.{Looked, document_look}
 use Rattle.muen_build.specs.Refusals.{accepted_policy_of}
 use Rattle.muen_build.specs.declared.accepted.BuildError.{BuildError}
 use Rattle.muen_build.specs.declared.accepted.BuildError.TheVariants.{Refused as RefusedPolicy, FileFault as FaultOfFiles}
@@ -46,8 +44,8 @@ rests : (policy image : List ℕ) (dma : Option (List ℕ)) → RestsOn POLICY_M
 unfolding build_answer image_next
 rests policy image dma m = refl
 
-asks : (policy image : List ℕ) (dma : Option (List ℕ)) → AsksOn POLICY_MOST policy AsksContents (build policy image dma)
-asks policy image dma = record { asks = λ looks a. a; none = λ document. All-nil (IsAsked document) }
+asks : (policy image : List ℕ) (dma : Option (List ℕ)) → AsksOn POLICY_MOST policy (AsksContents policy) (build policy image dma)
+asks policy image dma = record { asks = λ looks a. a; none = λ document. tt }
 
 by_document : (m : Store) (policy image : List ℕ) (dma : Option (List ℕ)) (bytes : List ℕ) (answer : Result Source Refusal) → reading_of (get m policy) POLICY_MOST ≡ whole bytes → accepted_policy_of m bytes ≡ answer
     → build_answer m policy image dma ≡ image_answer m image dma answer
@@ -59,14 +57,14 @@ by_document m policy image dma bytes answer is eq =
 
 pub policy_not_read : (policy image : List ℕ) (dma : Option (List ℕ)) (held : Option Store) (old new : History) (error : CommandError) → NotRead policy POLICY_MOST held old new error → StopsCommand (build policy image dma) held old new error
 policy_not_read policy image dma held old new error h =
-    not_read POLICY_MOST policy (image_next image dma) AsksContents (build policy image dma) (rests policy image dma) (asks policy image dma) held old new error h
+    not_read POLICY_MOST policy (image_next image dma) (AsksContents policy) (build policy image dma) (rests policy image dma) (asks policy image dma) held old new error h
 
 -- ---- the policy
 
 module _ (policy : List ℕ) (held held' : Option Store) (old between new : History) (same : held' ≡ held) (document : List ℕ) (saw : Saw held old between (document_look policy document ∷ [])) where
   module _ (image : List ℕ) (dma : Option (List ℕ)) where
     -- the looks at the document and at component files
-    asks_all : (looks : List Look) → All (IsAsked document) looks → Asks (Some (build policy image dma)) (document_look policy document ∷ looks)
+    asks_all : (looks : List Look) → AreAskedFor policy document looks → Asks (Some (build policy image dma)) (document_look policy document ∷ looks)
     asks_all looks asked = record { got = Ok (whole document); more = looks; is = refl; goes_on = asked }
 
     abbrev Stops : List Look → CommandError → Type 0
@@ -91,7 +89,7 @@ module _ (policy : List ℕ) (held held' : Option Store) (old between new : Hist
 
   -- ---- an accepted policy
 
-  module _ (found : Files) (looked : Looked policy held' between new (looks_of found)) (asked : All (IsAsked document) (looks_of found)) where
+  module _ (found : Files) (looked : Looked policy held' between new (looks_of found)) (asked : AreAskedFor policy document (looks_of found)) where
     saw_both : Saw held old new (document_look policy document ∷ looks_of found)
     saw_both = saw_contents policy document held held' old between new (looks_of found) same saw looked
 

@@ -1,12 +1,8 @@
 -- Of which systems a call runs the text, their subjects act alone, and members of closed sets are printed alike.
 use Rattle.std.proofs.Common.{ℕ, List}
-use Rattle.std.specs.Prelude.{IsTrue}
-use Rattle.std.proofs.lemmas.List.Elements.{All-weaker}
 use Rattle.flow_report.proofs.TwoEnds.{printed_alike}
-use Rattle.flow_report.specs.TwoTexts.{HasDistinctOrders}
 use Rattle.image_soundness.specs.Bench.{devices_of}
 use Rattle.muen_build.proofs.Refusing.{accepted_lawful}
-use Rattle.muen_num.specs.Numbers.{are_distinct}
 use Rattle.muen_outside.specs.Store.{Store}
 use Rattle.policy_lawful.specs.Contents.{Held}
 use Rattle.policy_lawful.specs.source.Source.{Source}
@@ -15,7 +11,6 @@ use Rattle.proof_views.proofs.AloneViews.{views_alone}
 use Rattle.proof_views.proofs.ComposedRuns.{only_parts, runs_composed, runs_feed}
 use Rattle.proof_views.specs.Laws.{IsLawfulRun}
 use Rattle.record_text.specs.DeviceRecord.{DeviceRecord}
-use Rattle.record_text.specs.Law.{NamesEachOnce}
 use Rattle.muen_top.specs.Systems.{PrintsAlikeOver, RunsSubjectsAloneOver, RunsSystem, by_boot, by_run}
 
 -- the policy is lawful, and each order of a record that is read names each CPU once
@@ -40,8 +35,4 @@ subjects_alone words Is m p files r is runs =
     }
 
 pub alike : (words : List (List ℕ)) (Is : Store → Type 0) → PrintsAlikeOver words Is
-alike words Is m p files r is runs =
-    let lawful : IsLawfulRun p r = lawful_run words m p files r runs in
-    let distinct : HasDistinctOrders r =
-    All-weaker (λ (o : ℕ × List ℕ). NamesEachOnce p.processor.logical_cpus o.1) (λ (o : ℕ × List ℕ). IsTrue (are_distinct o.1)) (λ o each. each.distinct) r.orders lawful.orders in
-    printed_alike p files r lawful.policy distinct
+alike words Is m p files r is runs = let lawful : IsLawfulRun p r = lawful_run words m p files r runs in printed_alike p files r lawful.policy

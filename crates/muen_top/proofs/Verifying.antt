@@ -2,17 +2,15 @@
 use Rattle.std.proofs.Common.{◌≡◌, ◌⊎◌, inl, inr, ℕ, true, false, List, [], ◌∷◌, ◌++◌, Option, Some, None, IfSome, Result, Ok, Err, refl, sym, ap, subst, ◌∙◌, append-nil, append_assoc}
 use Rattle.std.specs.FinMap.{get, insert}
 use Rattle.std.specs.Str.{bytes_eq}
-use Rattle.std.specs.List.{All}
 use Rattle.std.specs.Prelude.{if◌then◌else◌}
-use Rattle.std.proofs.lemmas.List.Elements.{All-weaker}
 use Rattle.image_pack.specs.Faults.{Tells, unpacked}
 use Rattle.image_pack.specs.fault.ImageFault.{ImageFault}
 use Rattle.image_soundness.specs.ThingBytes.{thing_bytes}
 use Rattle.image_pack.specs.Image.{image as image_form}
 use Rattle.image_pack.specs.Parts.{IsImage}
 use Rattle.image_pack.specs.declared.parts.Image.{Image}
-use Rattle.muen_build.specs.Accepting.{ErrorSays, HasContents, IsAskedBy, LacksContents, LookedBeside, RefusesContents, insert_all}
-use Rattle.muen_build.specs.Looks.{IsAsked, names_file}
+use Rattle.muen_build.specs.Accepting.{AreAskedInTurn, ErrorSays, HasContents, IsNext, LacksContents, LookedBeside, RefusesContents, insert_all}
+use Rattle.muen_build.proofs.Accepting.{asked_of}
 use Rattle.muen_build.specs.Refusals.{contents_refused, fitting_policy_of, lawful_policy_of}
 use Rattle.muen_build.specs.declared.accepted.BuildError.{BuildError}
 use Rattle.muen_build.specs.declared.accepted.BuildError.TheVariants.{Refused as RefusedPolicy, FileFault as FaultOfFiles}
@@ -222,7 +220,7 @@ record HasLooked (policy image : List ℕ) (document bytes : List ℕ) (p : Sour
   lawful : lawful_policy_of document ≡ Ok p
   still : held'' ≡ held
   beside : LookedBeside ((policy, document) ∷ (image, bytes) ∷ []) held'' new last looks
-  named : All (IsAskedBy (names_file p)) looks
+  named : AreAskedInTurn (IsNext ((policy, document) ∷ (image, bytes) ∷ []) p) [] looks
 
 module _ {image policy : List ℕ} {held held' held'' : Option Store} {old mid new last : History} {bytes document : List ℕ} {i : Image} {p : Source} {looks : List Look}
     (two : HasDocument image policy held held' old mid new bytes document i) (others : HasLooked policy image document bytes p held held'' new last looks) where
@@ -258,7 +256,7 @@ module _ {image policy : List ℕ} {held held' held'' : Option Store} {old mid n
   asks_all : Asks (Some (verify image policy)) all
   asks_all =
       let two_looks = so_far two in
-      let asked = All-weaker (IsAskedBy (names_file p)) (IsAsked document) (λ l a. record { policy = p; lawful = others.lawful; names = a.0; most = a.1 }) looks others.named in
+      let asked = asked_of ((policy, document) ∷ (image, bytes) ∷ []) document p looks others.lawful others.named in
       record {
         got = Ok (whole bytes);
         more = two_looks.more ++ looks;
@@ -303,7 +301,7 @@ module _ (last : History) {image policy : List ℕ} {held held' held'' : Option 
   two_files = record { first = read; read = has.read }
 
   -- .. and those that the contents name
-  all_files : (looks : List Look) → LookedBeside ((policy, document) ∷ (image, bytes) ∷ []) held'' new last looks → All (IsAskedBy (names_file (source_of r))) looks
+  all_files : (looks : List Look) → LookedBeside ((policy, document) ∷ (image, bytes) ∷ []) held'' new last looks → AreAskedInTurn (IsNext ((policy, document) ∷ (image, bytes) ∷ []) (source_of r)) [] looks
       → HasLooked policy image document bytes (source_of r) held held'' new last looks
   all_files looks beside named = record { lawful = has.lawful; still = still; beside = beside; named = named }
 

@@ -1,12 +1,12 @@
 -- Which files each command looks at, in which order and with which limits.
 use Rattle.std.specs.Prelude.{◌≡◌, ◌⊎◌, ℕ, List, [], ◌∷◌, ◌++◌, Option, Some, None, Result, Ok, Err}
 use Rattle.std.specs.FinMap.{get}
-use Rattle.std.specs.List.{All}
 use Rattle.image_pack.specs.Faults.{unpacked}
 use Rattle.dma_tables.specs.declared.file.DmaFile.{DmaFile}
 use Rattle.image_pack.specs.Image.{image as image_form}
 use Rattle.image_pack.specs.declared.parts.Image.{Image}
-use Rattle.muen_build.specs.Looks.{IsAsked, document_look}
+use Rattle.muen_build.specs.Accepting.{AreAsked, AreAskedFor}
+use Rattle.muen_build.specs.Looks.{document_look}
 use Rattle.muen_build.specs.Refusals.{accepted_policy_of}
 use Rattle.muen_num.specs.declared.limits.TheConstants.{IMAGE_MOST, POLICY_MOST, RECORD_MOST}
 use Rattle.muen_outside.specs.States.{Look, look}
@@ -59,9 +59,9 @@ abbrev pub AsksRecord : List ℕ → List ℕ → Option (List ℕ) → List ℕ
 AsksRecord image inputs dma bytes more =
     (more ≡ []) ⊎ ((i : Image) × (unpacked image_form bytes ≡ Ok i) × AsksRest inputs dma (look image IMAGE_MOST (Ok (whole bytes))) more)
 
--- after a policy's document: component files that its contents name
-abbrev pub AsksContents : List ℕ → List Look → Type 0
-AsksContents document more = All (IsAsked document) more
+-- after the document of a policy that stands under this name: component files that its contents name, each the next one
+abbrev pub AsksContents : List ℕ → List ℕ → List Look → Type 0
+AsksContents policy document more = AreAskedFor policy document more
 
 -- .. and then the record, where the policy is accepted
 abbrev pub AsksInputs : List ℕ → List ℕ → List ℕ → List Look → List Look → Type 0
@@ -72,26 +72,33 @@ pub record AsksBoth (policy inputs document : List ℕ) (more : List Look) : Typ
   pub components : List Look
   pub last : List Look
   pub is : more ≡ components ++ last
-  pub contents : AsksContents document components
+  pub contents : AsksContents policy document components
   pub inputs_last : AsksInputs policy inputs document components last
 
--- after the look at an image: for a policy's document, and then component files that its contents name, where these looks give it
-pub record AsksVerified (policy : List ℕ) (first : Look) (more : List Look) : Type 0 where
+-- after both, over which the document stands under its name: component files
+abbrev pub AsksAfterBoth : List ℕ → List ℕ → List ℕ → List Look → List Look → Type 0
+AsksAfterBoth image policy bytes middle last =
+    (document : List ℕ) × OverLooks (look image IMAGE_MOST (Ok (whole bytes)) ∷ middle) (λ m. get m policy ≡ Some document)
+    × AreAsked ((policy, document) ∷ (image, bytes) ∷ []) document last
+
+-- after the look that gave an image's bytes: for a policy's document, and then component files that its contents name, each the next
+-- one, where these looks give it
+pub record AsksVerified (image policy bytes : List ℕ) (more : List Look) : Type 0 where
   pub middle : List Look
   pub last : List Look
   pub is : more ≡ middle ++ last
   pub document_first : IsAtMost policy POLICY_MOST middle
-  pub contents_last : (last ≡ []) ⊎ ((document : List ℕ) × OverLooks (first ∷ middle) (λ m. get m policy ≡ Some document) × AsksContents document last)
+  pub contents_last : (last ≡ []) ⊎ AsksAfterBoth image policy bytes middle last
 
 -- after the bytes of an image: those, where they are an image
 abbrev pub AsksPolicy : List ℕ → List ℕ → List ℕ → List Look → Type 0
 AsksPolicy image policy bytes more =
-    (more ≡ []) ⊎ ((i : Image) × (unpacked image_form bytes ≡ Ok i) × AsksVerified policy (look image IMAGE_MOST (Ok (whole bytes))) more)
+    (more ≡ []) ⊎ ((i : Image) × (unpacked image_form bytes ≡ Ok i) × AsksVerified image policy bytes more)
 
 -- the looks of a command; those of words with no command's form are none
 abbrev pub Asks : Option Command → List Look → Type 0
 Asks None looks = looks ≡ []
-Asks (Some (build policy image tables)) looks = AsksFirst policy POLICY_MOST AsksContents looks
+Asks (Some (build policy image tables)) looks = AsksFirst policy POLICY_MOST (AsksContents policy) looks
 Asks (Some (boot policy inputs)) looks = AsksFirst policy POLICY_MOST (AsksBoth policy inputs) looks
 Asks (Some (run image inputs dma)) looks = AsksFirst image IMAGE_MOST (AsksRecord image inputs dma) looks
 Asks (Some (map policy)) looks = AsksFirst policy POLICY_MOST (λ document more. more ≡ []) looks

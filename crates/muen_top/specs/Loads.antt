@@ -1,6 +1,5 @@
 -- What reading a command's files comes to.
 use Rattle.std.specs.Prelude.{◌≡◌, ℕ, List, [], ◌∷◌, ◌++◌, Option, Some, None, Result, Ok, Err, option_map}
-use Rattle.std.specs.List.{All}
 use Rattle.std.specs.FinMap.{get}
 use Rattle.image_pack.specs.Faults.{Tells, unpacked}
 use Rattle.image_pack.specs.fault.ImageFault.{ImageFault}
@@ -10,8 +9,8 @@ use Rattle.image_soundness.specs.Sound.{IsSound}
 use Rattle.proof_domains.specs.Built.{HasSpans}
 use Rattle.image_pack.specs.declared.parts.Image.{Image}
 use Rattle.dma_tables.specs.declared.file.DmaFile.{DmaFile}
-use Rattle.muen_build.specs.Accepting.{Accepts, FailsWith, Files, WithDocument, looks_of}
-use Rattle.muen_build.specs.Looks.{IsAsked, Looked, document_look}
+use Rattle.muen_build.specs.Accepting.{Accepts, AreAskedFor, FailsWith, Files, WithDocument, looks_of}
+use Rattle.muen_build.specs.Looks.{Looked, document_look}
 use Rattle.muen_build.specs.declared.accepted.BuildError.{BuildError}
 use Rattle.muen_num.specs.declared.limits.TheConstants.{RECORD_MOST}
 use Rattle.muen_outside.specs.Looks.{HaveNoLookAt}
@@ -156,7 +155,7 @@ policy_looks policy document found = document_look policy document ∷ looks_of 
 pub record IsMadeFromLooks (policy document : List ℕ) (held : Option Store) (old new : History) (found : Files) (i : Image) (tables : DmaFile) : Type 0 where
   pub source : Source
   pub looked : Looked policy held old new (looks_of found)
-  pub asked : All (IsAsked document) (looks_of found)
+  pub asked : AreAskedFor policy document (looks_of found)
   pub accepts : Accepts policy (looks_of found) document source
   pub back : WithDocument policy document (looks_of found) (λ files. IsSound source files i × Fit source i (Some tables))
 
@@ -167,4 +166,4 @@ HasMade policy document held old new m = IsMadeFromLooks policy document held ol
 -- why it gives none: the policy isn't accepted, or memory was refused for the image or the tables
 pub data NotMade (policy document : List ℕ) (held : Option Store) (old new : History) (error : CommandError) : Type 0 where
   refused : (build_error : BuildError) → FailsWith policy document held old new build_error → error ≡ error_of_build build_error → NotMade policy document held old new error
-  unmade : (found : Files) → Looked policy held old new (looks_of found) → All (IsAsked document) (looks_of found) → OnlyMemoryWith policy document found error → NotMade policy document held old new error
+  unmade : (found : Files) → Looked policy held old new (looks_of found) → AreAskedFor policy document (looks_of found) → OnlyMemoryWith policy document found error → NotMade policy document held old new error

@@ -1,28 +1,21 @@
 -- What is printed of the members of the gateway is the same in both others.
 use Rattle.std.proofs.Common.{ℕ, List, [], ◌∷◌, refl}
-use Rattle.std.proofs.lemmas.List.Elements.{All-nil}
-use Rattle.std.specs.Prelude.{IsTrue}
 use Rattle.proof_isolation.specs.Flows.{IsClosed}
 use Rattle.policy_lawful.specs.Lawful.{IsLawful}
 use Rattle.policy_lawful.specs.source.Mapping.{Mapping}
 use Rattle.policy_lawful.specs.source.Region.{Region}
-use Rattle.muen_num.specs.Numbers.{are_distinct}
 use Rattle.proof_isolation.proofs.TwoEnds.{printed_alike}
-use Rattle.proof_isolation.specs.TwoTexts.{HasDistinctOrders}
 use Rattle.proof_gateway.specs.Gateway.{with_black, gateway, other_black, more_memory, black_code, halt_code, pad, on_pad, members, network}
 use Rattle.proof_gateway.specs.Laws.{PrintsMembersAsTheGateway}
 use Rattle.proof_gateway.proofs.Agree.{agree}
 use Rattle.proof_gateway.proofs.Lawful.{closed, closed_with_more, lawful, lawful_with_more}
 
-no_orders : HasDistinctOrders network
-no_orders = All-nil (λ o. IsTrue (are_distinct o.1))
-
 -- whatever `black` is in a second lawful policy in which the set is closed
 alike_with : (regions : List Region) (windows : List Mapping) (code : List ℕ) → IsLawful (with_black regions windows code)
     → IsClosed (with_black regions windows code) members → PrintsMembersAsTheGateway (with_black regions windows code)
 alike_with regions windows code keeps shut f g s w member is there =
-    printed_alike gateway f network (lawful black_code) no_orders (with_black regions windows code) g network members keeps no_orders (closed black_code) shut
-    (agree [] regions [] windows black_code code f g) refl s w member is there
+    printed_alike gateway f network (lawful black_code) (with_black regions windows code) g network members keeps (closed black_code) shut
+    (agree [] regions [] windows black_code code f g) s w member is there
 
 -- whatever program `black` runs
 pub with_program : (code : List ℕ) → PrintsMembersAsTheGateway (with_black [] [] code)

@@ -12,4 +12,4 @@ use Rattle.subject_model.specs.System.{subject_named}
 abbrev pub PrintsMembersAsTheGateway : Source → Type 0
 PrintsMembersAsTheGateway q =
     (f g : Held) (s w : Subject) → is_member members s ≡ true → subject_named gateway s.name ≡ Some s → subject_named q s.name ≡ Some w
-    → ArePrintedAlike gateway q f g network network s w
+    → ArePrintedAlike members gateway q f g network network s w

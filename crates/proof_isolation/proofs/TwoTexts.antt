@@ -1,50 +1,110 @@
--- The lines that are printed of members are the same in two systems that agree on them.
-use Rattle.std.proofs.Common.{◌≡◌, ℕ, zero, suc, ◌<◌, true, List, [], ◌∷◌, ◌++◌, map, min, Some, refl, sym, ap, ◌∙◌, arith}
-use Rattle.std.specs.Prelude.{IsTrue}
-use Rattle.std.specs.List.{All, cons_option, filter_map}
-use Rattle.std.proofs.lemmas.List.{map-append}
-use Rattle.std.proofs.lemmas.List.Elements.{filter_map-append}
-use Rattle.muen_num.specs.Range.{numbers_below}
-use Rattle.policy_lawful.specs.Lawful.{IsLawful}
+-- Lines by their ticks, and the lines that are printed of members in the ticks that two systems have.
+use Rattle.std.proofs.Common.{◌≡◌, ℕ, zero, suc, ◌<◌, ◌≤◌, Bool, true, false, cond, List, [], ◌∷◌, ◌++◌, filter, Option, None, Some, refl, sym, ap, subst, ◌∙◌, inl, inr, arith}
+use Rattle.std.specs.Prelude.{nat_lt}
+use Rattle.std.specs.List.{AllByRecursion}
+use Rattle.std.specs.Option.{IfSome}
+use Rattle.std.proofs.lemmas.Bool.{cases_lt, le-ltb, lt-ltb}
+use Rattle.std.proofs.lemmas.List.Elements.{filter-append}
+use Rattle.muen_num.proofs.Each.{each_cons, mapped}
 use Rattle.policy_lawful.specs.Contents.{Held}
 use Rattle.policy_lawful.specs.source.Source.{Source}
-use Rattle.policy_lawful.specs.source.Subject.{Subject}
+use Rattle.proof_isolation.specs.TwoTexts.{LinesEndWithRuns, lines_below}
+use Rattle.proof_views.proofs.Kept.{turn_cases}
+use Rattle.subject_model.specs.Alone.{own_of, solo_turn}
+use Rattle.subject_model.specs.Clock.{inputs_at, order_at, run_of, system}
 use Rattle.subject_model.specs.DeviceRecord.{DeviceRecord}
-use Rattle.muen_num.specs.Numbers.{are_distinct}
-use Rattle.policy_flows.specs.Flows.{IsClosed, is_member}
-use Rattle.subject_model.specs.Clock.{run_of}
-use Rattle.subject_model.specs.System.{subject_named}
-use Rattle.subject_model.specs.View.{Seen, ran_through, seen_in, view_of}
-use Rattle.proof_views.specs.LinesOf.{lines_of}
-use Rattle.proof_views.proofs.LinesOfViews.{lines_of_views}
-use Rattle.proof_isolation.specs.Agree.{Agree}
-use Rattle.proof_isolation.proofs.Alike.{same_name}
-use Rattle.proof_isolation.proofs.TwoSystems.{in_tick}
+use Rattle.subject_model.specs.Run.{begun, run_to, turns}
+use Rattle.subject_model.specs.System.{System, inbox_of, line_at, start_of, system_turn}
+use Rattle.subject_model.specs.TurnLine.{TurnLine}
 
--- ---- views with the same lines
+-- ---- lists that pass a test, or don't
 
-lines_in : (a b : ℕ → Seen) (n : ℕ) → ((k : ℕ) → k < n → (a k).line ≡ (b k).line) → filter_map (λ v. v.line) (map a (numbers_below n)) ≡ filter_map (λ v. v.line) (map b (numbers_below n))
-lines_in a b zero same = refl
-lines_in a b (suc n) same =
-    let before = lines_in a b n (λ k low. same k (omega (arith, low))) in
-    let last = same n (omega arith) in
-    ap (filter_map (λ v. v.line)) (map-append a (numbers_below n) (n ∷ []))
-    ∙ filter_map-append (λ v. v.line) (map a (numbers_below n)) (a n ∷ [])
-    ∙ ap (λ xs. xs ++ cons_option (a n).line []) before
-    ∙ ap (λ o. filter_map (λ v. v.line) (map b (numbers_below n)) ++ cons_option o []) last
-    ∙ sym (filter_map-append (λ v. v.line) (map b (numbers_below n)) (b n ∷ []))
-    ∙ ap (filter_map (λ v. v.line)) (sym (map-append b (numbers_below n) (n ∷ [])))
+all_pass : {X : Type 0} (test : X → Bool) (xs : List X) → AllByRecursion (λ x. test x ≡ true) xs → filter test xs ≡ xs
+all_pass test [] h = refl
+all_pass test (x ∷ xs) h = ap (λ b. cond b (x ∷ filter test xs) (filter test xs)) h.0 ∙ ap (λ ys. x ∷ ys) (all_pass test xs h.1)
 
-pub same_lines : (p q : Source) (f g : Held) (r t : DeviceRecord) (members : List (List ℕ)) → IsLawful p → IsLawful q → IsClosed p members → IsClosed q members → Agree members p q f g r t (min r.end t.end) → r.end ≡ t.end → All (λ o. IsTrue (are_distinct o.1)) r.orders → All (λ o. IsTrue (are_distinct o.1)) t.orders
-    → (s w : Subject) → is_member members s ≡ true → subject_named p s.name ≡ Some s → subject_named q s.name ≡ Some w → lines_of s.name (run_of p f r).lines ≡ lines_of s.name (run_of q g t).lines
-unfolding view_of
-same_lines p q f g r t members lawful lawful_too closed closed_too agree ends once once_too s w member found is =
-    let name = same_name p q s w (agree.each s w member found is).own in
-    let its : subject_named q w.name ≡ Some w = ap (subject_named q) (sym name) ∙ is in
-    let seen : ℕ → Seen = λ tick. seen_in p s (ran_through p f r s.cpu tick) in
-    let seen_too : ℕ → Seen = λ tick. seen_in q w (ran_through q g t w.cpu tick) in
-    lines_of_views p f r s lawful found once
-    ∙ lines_in seen seen_too r.end (λ n low. (in_tick p q lawful lawful_too members closed closed_too f g r t (min r.end t.end) agree s member found n (omega (arith, low, ends)) w is).line)
-    ∙ ap (λ n. filter_map (λ v. v.line) (map seen_too (numbers_below n))) ends
-    ∙ sym (lines_of_views q g t w lawful_too its once_too)
-    ∙ ap (λ n. lines_of n (run_of q g t).lines) (sym name)
+none_passes : {X : Type 0} (test : X → Bool) (xs : List X) → AllByRecursion (λ x. test x ≡ false) xs → filter test xs ≡ []
+none_passes test [] h = refl
+none_passes test (x ∷ xs) h = ap (λ b. cond b (x ∷ filter test xs) (filter test xs)) h.0 ∙ none_passes test xs h.1
+
+-- a test that implies another finds the same behind it
+pub filter_finer : {X : Type 0} (test wider : X → Bool) → ((x : X) → test x ≡ true → wider x ≡ true) → (xs : List X) → filter test (filter wider xs) ≡ filter test xs
+filter_finer test wider more [] = refl
+filter_finer test wider more (x ∷ xs) =
+    let rest = filter_finer test wider more xs in
+    elim (wider x) as (λ b. wider x ≡ b → filter test (cond b (x ∷ filter wider xs) (filter wider xs)) ≡ cond (test x) (x ∷ filter test xs) (filter test xs)) [
+      | true ↦ λ e. ap (λ ys. cond (test x) (x ∷ ys) ys) rest
+      | false ↦ λ e.
+          elim (test x) as (λ b. test x ≡ b → filter test (filter wider xs) ≡ cond b (x ∷ filter test xs) (filter test xs)) [
+            | true ↦ λ passes. absurd (cc (e, more x passes))
+            | false ↦ λ fails. rest
+          ] refl
+    ] refl
+
+-- ---- the ticks of lines
+
+module _ (p : Source) where
+  line_tick : (cpu tick : ℕ) (y : System) → IfSome (system_turn p cpu tick y).line (λ l. l.tick ≡ tick)
+  line_tick cpu tick y =
+      turn_cases p cpu tick y (λ t. IfSome t.line (λ l. l.tick ≡ tick)) tt (λ slot name u st values has.
+      mapped (λ (l : TurnLine). l.tick ≡ tick) (line_at tick cpu u.name st.pc) (λ w. refl)
+      (solo_turn (own_of p u) (record { state = st; msrs = values }) (inbox_of p y u slot.first tick)).what)
+
+  -- each line of a tick has what its tick has
+  turn_lines : (Is : ℕ → Type 0) (tick : ℕ) → Is tick → (cpus : List ℕ) (y : System) → AllByRecursion (λ (l : TurnLine). Is l.tick) (turns (system p) tick cpus y).lines
+  turn_lines Is tick is [] y = tt
+  turn_lines Is tick is (c ∷ cs) y =
+      let turned = system_turn p c tick y in
+      each_cons (λ (l : TurnLine). Is l.tick) turned.line (turns (system p) tick cs turned.state).lines (line_is turned.line (line_tick c tick y)) (turn_lines Is tick is cs turned.state)
+    where
+      line_is : (o : Option TurnLine) → IfSome o (λ l. l.tick ≡ tick) → IfSome o (λ l. Is l.tick)
+      line_is None h = tt
+      line_is (Some l) h = subst Is (sym h) is
+
+  module _ (f : Held) (r : DeviceRecord) where
+    before : ℕ → System
+    before n = begun (system p) n (inputs_at r n) (run_to (system p) (inputs_at r) (order_at p r) n (start_of p f)).state
+
+    lines_to : ℕ → List TurnLine
+    lines_to n = (run_to (system p) (inputs_at r) (order_at p r) n (start_of p f)).lines
+
+    of_tick : ℕ → List TurnLine
+    of_tick n = (turns (system p) n (order_at p r n) (before n)).lines
+
+    all_low : (n m : ℕ) → m ≤ n → lines_below n (lines_to m) ≡ lines_to m
+    unfolding before lines_to of_tick
+    all_low n zero low = refl
+    all_low n (suc m) low =
+        filter-append (λ l. nat_lt l.tick n) (lines_to m) (of_tick m)
+        ∙ (λ i. all_low n m (omega (arith, low)) i ++ all_pass (λ l. nat_lt l.tick n) (of_tick m) (turn_lines (λ tick. nat_lt tick n ≡ true) m (lt-ltb m n (omega (arith, low))) (order_at p r m) (before m)) i)
+
+    -- what the first ticks have printed
+    front_lines : (n m : ℕ) → n ≤ m → lines_below n (lines_to m) ≡ lines_to n
+    unfolding before lines_to of_tick
+    front_lines zero zero low = refl
+    front_lines (suc n) zero low = absurd (omega (arith, low))
+    front_lines n (suc m) low =
+        elim (cases_lt m n) as (λ _. lines_below n (lines_to (suc m)) ≡ lines_to n) [
+          | inl less ↦
+              let is : suc m ≡ n = omega (arith, less, low) in
+              all_low n (suc m) (omega (arith, less)) ∙ ap lines_to is
+          | inr least ↦
+              filter-append (λ l. nat_lt l.tick n) (lines_to m) (of_tick m)
+              ∙ (λ i. front_lines n m least i ++ none_passes (λ l. nat_lt l.tick n) (of_tick m) (turn_lines (λ tick. nat_lt tick n ≡ false) m (le-ltb m n least) (order_at p r m) (before m)) i)
+              ∙ nothing_behind (lines_to n)
+        ]
+      where
+        nothing_behind : (ls : List TurnLine) → ls ++ [] ≡ ls
+        nothing_behind [] = refl
+        nothing_behind (l ∷ ls) = ap (λ ms. l ∷ ms) (nothing_behind ls)
+
+    pub lines_of_front : (n : ℕ) → n ≤ r.end → lines_below n (run_of p f r).lines ≡ (run_to (system p) (inputs_at r) (order_at p r) n (start_of p f)).lines
+    unfolding lines_to run_of
+    lines_of_front n low = front_lines n r.end low
+
+pub all_below : LinesEndWithRuns
+all_below p f r = lines_of_front p f r r.end (omega arith) ∙ sym (run_lines p f r)
+  where
+    run_lines : (p : Source) (f : Held) (r : DeviceRecord) → (run_of p f r).lines ≡ (run_to (system p) (inputs_at r) (order_at p r) r.end (start_of p f)).lines
+    unfolding run_of
+    run_lines p f r = refl

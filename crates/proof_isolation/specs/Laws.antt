@@ -11,7 +11,7 @@ use Rattle.subject_model.specs.Slot.{Slot}
 use Rattle.subject_model.specs.System.{System, system_turn}
 use Rattle.proof_isolation.specs.Alike.{AreAlike}
 use Rattle.proof_isolation.specs.TwoSystems.{DependOnMembersAlone}
-use Rattle.proof_isolation.specs.TwoTexts.{HasDistinctOrders, PrintsMembersAlike}
+use Rattle.proof_isolation.specs.TwoTexts.{PrintsMembersAlike}
 
 -- a turn that no member of a closed set has changes nothing that a member has or sees, where each group's active member is one that the
 -- group lists
@@ -31,4 +31,4 @@ SetsOfFlowsAreEnough = (p : Source) (name : List ℕ) → IsLawful p → DependO
 
 -- and so does all that is printed of members
 abbrev pub MembersPrintTheSame : Type 0
-MembersPrintTheSame = (p : Source) (f : Held) (r : DeviceRecord) → IsLawful p → HasDistinctOrders r → PrintsMembersAlike p f r
+MembersPrintTheSame = (p : Source) (f : Held) (r : DeviceRecord) → IsLawful p → PrintsMembersAlike p f r

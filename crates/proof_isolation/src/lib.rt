@@ -8,6 +8,7 @@
 #![tactic(auto)]
 
 ghost use Rattle.proof_isolation.specs.Laws.{MembersPrintTheSame, MembersSeeTheSame, OutsidersChangeNothing, SetsOfFlowsAreEnough};
+ghost use Rattle.proof_isolation.specs.TwoTexts.{LinesEndWithRuns};
 
 /// A turn that no member of a closed set has changes nothing that a member has or sees: no own state, no
 /// MSR, no pending event, not which member is active, no byte that a window shows, no input byte of a granted
@@ -32,8 +33,10 @@ pub fn sets_of_flows_are_enough()
     ensures { SetsOfFlowsAreEnough }
 {}
 
-/// And so is all that is printed of a member, where both runs have as many ticks and no order of a record names
-/// a CPU twice: the lines of its turns, its final state, and the digest of each thing that its windows show.
+/// And so is all that is printed of members: in the ticks that both runs have, the lines of all members together, in
+/// their order, and those of each; and where both end at the same tick each one's final state, and the digest of
+/// each thing that its windows show. All lines of a run are of ticks below its end.
 pub fn members_print_the_same()
-    ensures { MembersPrintTheSame }
+    ensures printed { MembersPrintTheSame }
+    ensures ends { LinesEndWithRuns }
 {}

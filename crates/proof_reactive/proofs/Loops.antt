@@ -94,8 +94,8 @@ loops_seen_alike p members lawful closed strategy q f g r t loop s w inside foun
     same_views p members lawful closed q f g r t loop.lawful loop.closed (loops_agree p members lawful closed strategy q f g r t (min r.end t.end) loop s inside found) s w inside found
 
 pub loops_printed_alike : (p : Source) (members : List (List ℕ)) → IsLawful p → IsClosed p members → PrintsLoopedMembersAlike p members
-loops_printed_alike p members lawful closed strategy q f g r t ends once once_too loop s w inside found =
-    printed_alike p f r lawful once q g t members loop.lawful once_too closed loop.closed (loops_agree p members lawful closed strategy q f g r t r.end loop s inside found) ends s w inside found
+loops_printed_alike p members lawful closed strategy q f g r t loop s w inside found =
+    printed_alike p f r lawful q g t members loop.lawful closed loop.closed (loops_agree p members lawful closed strategy q f g r t (min r.end t.end) loop s inside found) s w inside found
 
 -- where the inputs and orders are the same there is a strategy that both follow
 pub deaf_loops : (p q : Source) (members : List (List ℕ)) (f g : Held) (r t : DeviceRecord) (ends : ℕ) → Agree members p q f g r t ends
@@ -108,8 +108,8 @@ deaf_loops p q members f g r t ends agree = (
 -- ---- what is promised of records that agree, and of records that follow one strategy
 
 pub promised_prints : PromisedPrintsReachStrategies
-promised_prints p f r lawful promised strategy q g t members once closed loop ends s w inside found =
-    promised q g t members loop.lawful once closed loop.closed (loops_agree p members lawful closed strategy q f g r t r.end loop s inside found) ends s w inside found
+promised_prints p f r lawful promised strategy q g t members closed loop s w inside found =
+    promised q g t members loop.lawful closed loop.closed (loops_agree p members lawful closed strategy q f g r t (min r.end t.end) loop s inside found) s w inside found
 
 pub promised_sets : PromisedSetsReachStrategies
 promised_sets p members lawful closed promised strategy q f g r t loop s w inside found =
@@ -125,8 +125,8 @@ by_deaf p q members f g r t ends lawful closed agree = record {
 }
 
 pub strategies_print : StrategiesPrintAsPromised
-strategies_print p f r looped q g t members lawful once closed closed_too agree ends =
-    looped (deaf p q members r) q g t members once closed (by_deaf p q members f g r t r.end lawful closed_too agree) ends
+strategies_print p f r looped q g t members lawful closed closed_too agree =
+    looped (deaf p q members r) q g t members closed (by_deaf p q members f g r t (min r.end t.end) lawful closed_too agree)
 
 pub strategies_see : StrategiesSeeAsPromised
 strategies_see p members looped q f g r t lawful closed agree =

@@ -17,7 +17,7 @@ use Rattle.subject_model.specs.View.{Seen, view_of}
 use Rattle.proof_isolation.specs.Agree.{Agree, AgreeFor, AgreeOnFrames, WritesTheSame, holds_member, input_reaches_member, is_seen}
 use Rattle.proof_isolation.specs.Alike.{AreSameViews}
 use Rattle.proof_isolation.specs.MemberLines.{is_of}
-use Rattle.proof_isolation.specs.TwoTexts.{ArePrintedAlike, HasDistinctOrders}
+use Rattle.proof_isolation.specs.TwoTexts.{ArePrintedAlike}
 
 -- ---- what devices are told, and what they answer
 
@@ -91,15 +91,15 @@ DependOnMembersAndStrategyAlone p members =
 -- and so does all that is printed of them
 abbrev pub PrintsLoopedMembersAlike : Source → List (List ℕ) → Type 0
 PrintsLoopedMembersAlike p members =
-    (strategy : Strategy) (q : Source) (f g : Held) (r t : DeviceRecord) → t.end ≡ r.end → HasDistinctOrders r → HasDistinctOrders t → AreLooped strategy members p q f g r t r.end
-    → (s w : Subject) → is_member members s ≡ true → subject_named p s.name ≡ Some s → subject_named q s.name ≡ Some w → ArePrintedAlike p q f g r t s w
+    (strategy : Strategy) (q : Source) (f g : Held) (r t : DeviceRecord) → AreLooped strategy members p q f g r t (min r.end t.end)
+    → (s w : Subject) → is_member members s ≡ true → subject_named p s.name ≡ Some s → subject_named q s.name ≡ Some w → ArePrintedAlike members p q f g r t s w
 
 -- the same of one run: of each member of a set that is closed in this system, the same is printed in every second system whose devices
 -- follow the strategy that this one's follow
 abbrev pub PrintsFollowersAlike : Source → Held → DeviceRecord → Type 0
 PrintsFollowersAlike p f r =
-    (strategy : Strategy) (q : Source) (g : Held) (t : DeviceRecord) (members : List (List ℕ)) → HasDistinctOrders t → IsClosed p members → AreLooped strategy members p q f g r t r.end → t.end ≡ r.end
-    → (s w : Subject) → is_member members s ≡ true → subject_named p s.name ≡ Some s → subject_named q s.name ≡ Some w → ArePrintedAlike p q f g r t s w
+    (strategy : Strategy) (q : Source) (g : Held) (t : DeviceRecord) (members : List (List ℕ)) → IsClosed p members → AreLooped strategy members p q f g r t (min r.end t.end)
+    → (s w : Subject) → is_member members s ≡ true → subject_named p s.name ≡ Some s → subject_named q s.name ≡ Some w → ArePrintedAlike members p q f g r t s w
 
 -- ---- devices that answer nothing
 

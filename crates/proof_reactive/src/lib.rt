@@ -28,7 +28,7 @@ pub fn members_see_the_same_with_answering_devices()
     ensures { OfClosedSets DependOnMembersAndStrategyAlone }
 {}
 
-/// And the same is printed of it, where both runs have as many ticks.
+/// And the same is printed of members (`ArePrintedAlike`).
 pub fn members_print_the_same_with_answering_devices()
     ensures { OfClosedSets PrintsLoopedMembersAlike }
 {}

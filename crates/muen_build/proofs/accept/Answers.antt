@@ -1,7 +1,7 @@
+use Rattle.std.proofs.Common.{[], ◌∷◌}
 use Rattle.std.proofs.lemmas.Result.{err_from_is_err_and}
 use Rattle.policy_lawful.specs.Resolution.{source_of}
-use Rattle.muen_build.specs.Accepting.{looks_of}
-use Rattle.muen_build.specs.Looks.{names_file}
+use Rattle.muen_build.specs.Accepting.{IsNext, looks_of}
 use Rattle.muen_build.proofs.Accepting.{accepts, all_asked, all_looked, contents_fail, room_fails, unlawful_fails}
 use Rattle.muen_build.proofs.accept.Goals as goal
 
@@ -22,7 +22,7 @@ returns-in_err-placed-clause-err g c =
     (room_fails c.args.name.now c.args.document.now (source_of c.in_ok-policy.policy) c.in_ok-policy.ensures _ c.in_ok-files.ensures.passes _ _ _ _ c.in_ok-files.ensures.grows c.in_err-placed.ensures.err)
 
 pub returns-clause-looked : goal.returns-clause-looked
-returns-clause-looked g c = all_looked c.args.name.now c.args.document.now _ _ _ (looks_of c.in_ok-files.files) (names_file (source_of c.in_ok-policy.policy)) c.in_ok-files.ensures.grows
+returns-clause-looked g c = all_looked c.args.name.now c.args.document.now _ _ _ (looks_of c.in_ok-files.files) (IsNext ((c.args.name.now, c.args.document.now) ∷ []) (source_of c.in_ok-policy.policy)) c.in_ok-files.ensures.grows
 
 pub returns-clause-asked : goal.returns-clause-asked
 returns-clause-asked g c =
