@@ -5,8 +5,8 @@ use Rattle.std.specs.List.{All, find}
 use Rattle.std.specs.List.Sorted.{IsPartitionPoint}
 use Rattle.std.proofs.Math.Bool.{and-false}
 use Rattle.std.proofs.lemmas.Bool.{cases_lt, and_from, leb-true, leb-false, le-leb, lt-ltb, lt-leb, le-ltb}
-use Rattle.ept_check.specs.Pieces.{Holds, HasNoEdgeBetween}
-use Rattle.ept_check.specs.Sound.{AreApart, IsWhole}
+use Rattle.ept_check.specs.Pieces.{HasNoEdgeBetween}
+use Rattle.ept_check.specs.Sound.{AreApart}
 use Rattle.ept_emit.specs.Emitted.{holds, window_at}
 use Rattle.ept_emit.specs.Searches.{IsPast}
 use Rattle.ept_emit.specs.declared.window.Leaf.TheVariants.{Small}
@@ -74,9 +74,6 @@ module _ (ws : List Window) (apart : AreApart ws) (addr place : ℕ) (past : IsP
   one_here e l h = find_here (holds addr) ws place l (λ k d m. past_not addr (slice_index_or ws k d) (past.before k d m)) (λ d.
       let same = ap (λ w. w.guest) (same_item ws place d e l) in
       and_from _ _ (le-leb _ _ (omega (arith, same, h))) (lt-ltb _ _ (past.after place d (omega arith) l))) e
-
-  pub one_holds : (e : Window) → All IsWhole ws → place < length ws → (slice_index_or ws place e).guest ≤ addr → Holds addr (slice_index_or ws place e)
-  one_holds e whole l h = record { whole = whole place e l; low = h; high = past.after place e (omega arith) l }
 
   before_apart : (next k : ℕ) (d : Window) → k < place → HasNoEdgeBetween addr next (slice_index_or ws k d)
   before_apart next k d less = let h = past.before k d less in record { begins = inl (omega (arith, h)); ends = inl h }

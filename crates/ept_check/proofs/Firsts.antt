@@ -1,15 +1,11 @@
 -- Searches in order, in parts.
-use Rattle.std.proofs.Common.{◌≡◌, ℕ, zero, suc, ◌+◌, ◌-◌, ◌<◌, ◌≤◌, Bool, true, false, [], ◌∷◌, Option, Some, None, refl, sym, ap, ◌∙◌, inl, inr, arith}
+use Rattle.std.proofs.Common.{◌≡◌, ℕ, zero, suc, ◌+◌, ◌-◌, ◌<◌, ◌≤◌, [], ◌∷◌, Option, Some, None, refl, sym, ap, ◌∙◌, inl, inr, arith}
 use Rattle.std.specs.Option.{option_or}
 use Rattle.std.proofs.lemmas.Bool.{cases_lt}
-use Rattle.ept_check.specs.Search.{first_from, when}
+use Rattle.ept_check.specs.Search.{first_from}
 use Rattle.muen_num.proofs.SearchLaws.{first_in-append, none_both, option_or_assoc}
 use Rattle.muen_num.specs.Range.{numbers_below}
 use Rattle.muen_num.specs.Search.{first_in}
-
-pub when_none : {O : Type 0} (b : Bool) (o : O) → when b o ≡ None → b ≡ false
-when_none true o h = absurd (cc)
-when_none false o h = refl
 
 module _ {O : Type 0} (at : ℕ → Option O) where
   one : (n : ℕ) → first_from at n 1 ≡ option_or (at n) None

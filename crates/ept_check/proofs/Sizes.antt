@@ -125,13 +125,6 @@ first_here (suc (suc zero)) first i a h = omega (arith, h)
 first_here (suc (suc (suc zero))) first i a h = omega (arith, h)
 first_here (suc (suc (suc (suc l)))) first i a h = absurd (omega (arith, a))
 
-pub pages_inside : (l first i : ℕ) → l ≤ 3 → first % pages (suc l) ≡ 0 → i < 512 → (first + i * pages l) / 2 ^ 36 ≡ first / 2 ^ 36
-pages_inside zero first i a h f = omega (arith, h, f)
-pages_inside (suc zero) first i a h f = omega (arith, h, f)
-pages_inside (suc (suc zero)) first i a h f = omega (arith, h, f)
-pages_inside (suc (suc (suc zero))) first i a h f = omega (arith, h, f)
-pages_inside (suc (suc (suc (suc l)))) first i a h f = absurd (omega (arith, a))
-
 pub page_some : (l : ℕ) → 0 < pages l
 page_some zero = omega arith
 page_some (suc l) = omega (arith, page_some l)

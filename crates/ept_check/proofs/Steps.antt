@@ -64,10 +64,6 @@ module _ (there : ℕ → Bool) (ws : List Window) (level e rights first : ℕ) 
       sym (later_found found_in first (at - first) n (pages level) at x (omega (arith, a, b)) (omega (arith, a)) before
       (head_found found_in at n x here (omega (arith, b))))
 
-  -- at the end there is none
-  pub piece_end : (at : ℕ) → at ≡ first + pages level → first_from found_in first (at - first) ≡ None → None ≡ first_from found_in first (pages level)
-  piece_end at e none = let all : at - first ≡ pages level = omega (arith, e) in sym (subst (λ n. first_from found_in first n ≡ None) all none)
-
 -- the windows of a subject are those of each position of an entry
 pub told_here : (v : Tables) (l e r x : ℕ) (ws : List Window) → l ≤ 3 → x % pages l ≡ 0 → slice_index_or v.windows (subject_of x) [] ≡ ws
     → first_from (contents (led_by_entry v.there l e r) (told ws)) x (pages l) ≡ first_from (contents (led_by_entry v.there l e r) (expected_walk v)) x (pages l)

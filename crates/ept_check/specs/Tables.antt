@@ -1,7 +1,6 @@
 -- The tables of several subjects in one memory, and the windows that they are held against (Intel SDM volume 3, the extended
 -- page table mechanism). A position counts the pages of guest addresses of all subjects, subject by subject.
 use Rattle.std.specs.Prelude.{ℕ, ◌-◌, ◌*◌, ◌/◌, ◌%◌, ◌^◌, ◌==◌, Bool, List, [], map, slice_index, slice_index_or, slice_get, Option, option_map}
-use Rattle.std.specs.List.{list_any}
 use Rattle.ept_check.specs.declared.types.SubjectTables.{SubjectTables}
 use Rattle.ept_emit.specs.Emitted.{translation}
 use Rattle.ept_emit.specs.declared.window.Window.{Window}

@@ -5,7 +5,7 @@ use Rattle.std.specs.List.{All, AllByRecursion, AllZip, flat_map, list_all}
 use Rattle.std.proofs.lemmas.Bool.{and_parts}
 use Rattle.std.proofs.lemmas.List.{length-map}
 use Rattle.std.proofs.lemmas.List.Elements.{All-from_recursion}
-use Rattle.std.proofs.lemmas.Option.{slice_get-map, slice_get_within}
+use Rattle.std.proofs.lemmas.Option.{slice_get-map}
 use Rattle.expand_grants.specs.Grants.{AreGrants, AreGrantsOf}
 use Rattle.expand_grants.specs.declared.granted.Grants.{Grants}
 use Rattle.expand_kernel.specs.ByIndex.{CanMap, granted_ranges, kernel_first, kernel_for, kernel_for_each, regions_by_number}
@@ -13,7 +13,7 @@ use Rattle.expand_kernel.specs.Regions.{kernel_regions, kernel_regions_of, regio
 use Rattle.policy_lawful.specs.declared.thing.Region.{Region}
 use Rattle.expand_kernel.proofs.GrantedRanges.{can_map, pages_granted}
 use Rattle.ept_emit.specs.Pages.{ept_pages}
-use Rattle.muen_num.proofs.Lists.{at_left, get_left, get_right}
+use Rattle.muen_num.proofs.Lists.{at_left, get_right}
 use Rattle.muen_num.specs.Search.{first_in}
 use Rattle.muen_num.proofs.SearchLaws.{none_both}
 use Rattle.policy_lawful.specs.Lawful.{IsLawful}

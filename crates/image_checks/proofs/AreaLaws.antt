@@ -58,10 +58,6 @@ one_lower bytes at left less count value byte one within is before =
     let sum : get_or bytes (at + less) 0 + 256 * value ≡ value * 256 + byte = omega (arith, is) in
     sym (ap (λ k. le_number (take k (drop (at + less) bytes))) m ∙ step ∙ ap (λ v. get_or bytes (at + less) 0 + 256 * v) rest ∙ sum)
 
--- none of it is read yet
-pub none_read : (bytes : List ℕ) (at count : ℕ) → 0 ≡ le_number (take (count - count) (drop (at + count) bytes))
-none_read bytes at count = let none : count - count ≡ 0 = omega arith in sym (ap (λ k. le_number (take k (drop (at + count) bytes))) none)
-
 -- all of it is
 pub all_read : (bytes : List ℕ) (at left count value : ℕ) → left ≡ 0 → value ≡ le_number (take (count - left) (drop (at + left) bytes)) → value ≡ le_number (take count (drop at bytes))
 all_read bytes at left count value none h =

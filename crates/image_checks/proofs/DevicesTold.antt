@@ -3,7 +3,7 @@ use Rattle.std.proofs.Common.{◌≡◌, ◌∙◌, refl, sym, ap, ap₂, subst,
 use Rattle.std.specs.Prelude.{option_and_then, option_map}
 use Rattle.std.specs.List.{AllZip, filter_map, sum_by}
 use Rattle.std.proofs.lemmas.Option.{same_Some}
-use Rattle.image_soundness.proofs.DevicesOf.{devices_long, irqs_named}
+use Rattle.image_soundness.proofs.DevicesOf.{irqs_named}
 use Rattle.image_soundness.specs.TablesOf.{AreDevices, IsDevice, IsIrq, span_ends}
 use Rattle.image_checks.proofs.Places.{agrees_there, same_unmapped}
 use Rattle.image_checks.proofs.SubjectsTold.{one_target, same_reached}

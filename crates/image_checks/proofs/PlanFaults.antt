@@ -35,15 +35,10 @@ a_plan_fault_is_none_of_a_sound_image p i (Device k) d h = no_first (IsDeviceOf 
 -- ---- what is found
 
 module _ (p : Source) (i : Image) (many : HasAsMany p i) (subjects : HasSubjects p i) where
-  pub not_planned : (HasPlan p i → ⊥) → DiffersInPlan p i
-  not_planned h = inr (many, subjects, h)
 
   module _ (plan : HasPlan p i) where
     pub all_same : AllZip (IsDeviceOf p i) p.devices i.devices → HasPlanAndEvents p i
     all_same devices = record { many = many; subjects = subjects; cpus = plan.cpus; plan = plan.plan; tau0 = plan.tau0; devices = devices }
-
-    pub not_device : (k : ℕ) → DiffersFirst (IsDeviceOf p i) p.devices i.devices k → DiffersInDevice p i k
-    not_device k first = record { many = many; subjects = subjects; plan = plan; first = first }
 
 -- ---- there is one answer
 

@@ -1,20 +1,18 @@
 -- A subject agrees with what the policy has at its index just where it is that of the policy.
-use Rattle.std.proofs.Common.{◌≡◌, ◌∙◌, refl, sym, ap, ap₂, subst, get_or, arith, ℕ, ◌+◌, ◌<◌, Bool, true, List, [], ◌∷◌, length, map, Option, Some, None}
-use Rattle.std.specs.Prelude.{◌==◌, nat_lt, option_map, position, slice_get, slice_index_or}
-use Rattle.std.specs.List.{All, AllZip, count_by, enumerate_from, zip, list_any, position_or_len}
+use Rattle.std.proofs.Common.{◌≡◌, ◌∙◌, refl, sym, ap, ap₂, subst, get_or, arith, ℕ, ◌+◌, ◌<◌, Bool, List, [], ◌∷◌, length, map, Option, Some, None}
+use Rattle.std.specs.Prelude.{◌==◌, option_map, position, slice_get, slice_index_or}
+use Rattle.std.specs.List.{All, AllZip, enumerate_from, zip, position_or_len}
 use Rattle.std.specs.Str.{bytes_eq}
-use Rattle.std.proofs.lemmas.Bool.{eqb-true, ltb-true}
 use Rattle.std.proofs.lemmas.List.{get_or-map, get_or_default, length-map}
 use Rattle.std.proofs.lemmas.List.Elements.{All-cons, All-head, All-nil, All-tail}
 use Rattle.std.proofs.lemmas.Slice.Zip.{get_or-zip}
-use Rattle.std.proofs.lemmas.Option.{get_or_from_slice_get, same_Some, slice_get-map, slice_get_within}
+use Rattle.std.proofs.lemmas.Option.{get_or_from_slice_get, same_Some}
 use Rattle.event_emit.specs.Tables.{AreTables}
 use Rattle.image_soundness.proofs.GroupsByIndex.{group_with, in_group}
 use Rattle.image_soundness.specs.TablesOf.{IsEntry, IsTable, irq_named, part_raised}
 use Rattle.image_pack.specs.ImageConditions.{IsReached, IsSubjectPart}
 use Rattle.event_emit.specs.declared.event_tables.EventTables.{EventTables}
 use Rattle.expand_kernel.specs.Grants.{target_named}
-use Rattle.expand_kernel.proofs.Counted.{uncounted}
 use Rattle.image_checks.proofs.Places.{at_place, holds_there, many_pairs, same_places}
 use Rattle.image_checks.proofs.Decided.{decided}
 use Rattle.image_checks.specs.Agreement.{IsFull, SubjectAgrees, subjects_of_both}
@@ -27,23 +25,16 @@ use Rattle.image_pack.specs.declared.parts.EventPart.{EventPart}
 use Rattle.image_pack.specs.declared.parts.Image.{Image}
 use Rattle.image_pack.specs.declared.parts.SubjectPart.{SubjectPart}
 use Rattle.muen_num.specs.declared.devices.IrqTarget.{IrqTarget}
-use Rattle.muen_num.proofs.Lists.{any_same, list_any-map, passes_at, position-map, there}
-use Rattle.muen_num.proofs.Lookups.{index_same, position_there, some_passes}
+use Rattle.muen_num.proofs.Lists.{position-map, there}
+use Rattle.muen_num.proofs.Lookups.{position_there}
 use Rattle.muen_num.specs.declared.limits.TheConstants.{MOST_CALLS}
-use Rattle.policy_lawful.proofs.Indexes.{position_is, same_name}
-use Rattle.policy_lawful.proofs.KeptMembers.{members_kept}
-use Rattle.policy_lawful.proofs.KeptRules.{rules_of}
-use Rattle.policy_lawful.proofs.SourceElements.{many_subjects, parts_in_range}
+use Rattle.policy_lawful.proofs.Indexes.{position_is}
+use Rattle.policy_lawful.proofs.SourceElements.{many_subjects}
 use Rattle.policy_lawful.proofs.UniqueNames.{subject_names, subjects_unique}
-use Rattle.policy_lawful.proofs.WindowsByIndex.{name_of_subject}
 use Rattle.policy_lawful.specs.Events.{event_of}
-use Rattle.policy_lawful.specs.Frames.{group_of}
 use Rattle.policy_lawful.specs.Lawful.{IsLawful}
-use Rattle.policy_lawful.specs.Resolution.{IsResolved, Resolution, group_named, group_in_range, name_at, source_of, subject_named}
-use Rattle.policy_lawful.specs.Rules.{repeated, times_listed}
-use Rattle.policy_lawful.specs.declared.resolved.Group.{Group as ResolvedGroup}
+use Rattle.policy_lawful.specs.Resolution.{IsResolved, Resolution, name_at, source_of, subject_named}
 use Rattle.policy_lawful.specs.declared.resolved.Subject.{Subject}
-use Rattle.policy_lawful.specs.source.Group.{Group}
 use Rattle.policy_lawful.specs.source.SourceWay.{SourceWay}
 use Rattle.policy_lawful.specs.source.Subject.{Subject as SourceSubject}
 use Rattle.policy_lawful.specs.source.SourceWay.TheVariants.{Call, Trap}

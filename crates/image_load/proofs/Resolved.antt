@@ -8,7 +8,6 @@ use Rattle.std.proofs.lemmas.Slice.Zip.{AllZip-long}
 use Rattle.image_pack.specs.declared.parts.DevicePart.{DevicePart}
 use Rattle.image_pack.specs.declared.parts.Image.{Image}
 use Rattle.image_pack.specs.declared.parts.IrqPart.{IrqPart}
-use Rattle.muen_num.specs.declared.devices.IrqTarget.{IrqTarget}
 use Rattle.image_pack.specs.declared.parts.SpanPart.{SpanPart}
 use Rattle.record_text.specs.Bench.{BenchDevice, bench_device, bench_of}
 use Rattle.record_text.specs.DeviceRecord.{DeviceRecord, NamedInput, port_input, memory_input, irq_input, dma_input}

@@ -1,20 +1,18 @@
 -- What a device record may name of an image, and where its inputs go (this project's own).
-use Rattle.std.specs.Prelude.{ℕ, ◌+◌, ◌*◌, ◌==◌, ◌&&◌, Bool, if◌then◌else◌, nat_le, List, map, length, Option, Some, None, option_map, option_and_then, option_to_list, unwrap_or}
+use Rattle.std.specs.Prelude.{ℕ, ◌+◌, ◌*◌, ◌==◌, ◌&&◌, if◌then◌else◌, nat_le, List, map, length, Option, Some, None, option_map, option_and_then, option_to_list, unwrap_or}
 use Rattle.std.specs.List.{find, flat_map, list_any, position}
 use Rattle.std.specs.Str.{bytes_eq}
 use Rattle.muen_num.specs.declared.limits.TheConstants.{PAGE}
 use Rattle.image_pack.specs.Image.{device_name}
 use Rattle.image_pack.specs.declared.parts.DevicePart.{DevicePart}
 use Rattle.image_pack.specs.declared.parts.Image.{Image}
-use Rattle.muen_num.specs.declared.devices.IrqTarget.{IrqTarget}
-use Rattle.muen_num.specs.declared.devices.PortSpan.{PortSpan}
 use Rattle.image_pack.specs.declared.parts.SpanPart.{SpanPart}
 use Rattle.image_pack.specs.declared.parts.WindowPart.{WindowPart}
 use Rattle.record_text.specs.Bench.{Bench, BenchDevice}
 use Rattle.record_text.specs.DeviceRecord.{DeviceRecord, NamedInput, port_input, memory_input, irq_input, dma_input}
 use Rattle.record_text.specs.Resolving.{order_at, raised, is_in_span}
 use Rattle.record_text.specs.declared.record.Input.{Input}
-use Rattle.record_text.specs.declared.record.Input.TheVariants.{Port, Mem, Irq, Idle, Dma}
+use Rattle.record_text.specs.declared.record.Input.TheVariants.{Port, Mem, Idle, Dma}
 use Rattle.record_text.specs.declared.record.Record.{Record}
 use Rattle.record_text.specs.declared.record.TickInput.{TickInput}
 

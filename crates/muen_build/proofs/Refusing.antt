@@ -165,11 +165,3 @@ fits_so files bytes q e = ap (fitting files) e
 -- an accepted policy is one
 pub accepted_fits : (files : Held) (bytes : List ℕ) (q : Source) → accepted_policy_of files bytes ≡ Ok q → fitting_policy_of files bytes ≡ Ok q
 accepted_fits files bytes q e = let b = accepted_so files bytes q e in fits_so files bytes q b.lawful ∙ ap (kept_or q) b.contents
-
-fitting_lawful : (files : Held) (answer : Result Source Refusal) (q : Source) → fitting files answer ≡ Ok q → answer ≡ Ok q
-fitting_lawful files (Ok p) q e = ap Ok (kept_is p q (contents_refused files p) e).1
-fitting_lawful files (Err r) q e = absurd (cc)
-
-pub fits_lawful : (files : Held) (bytes : List ℕ) (q : Source) → fitting_policy_of files bytes ≡ Ok q → lawful_policy_of bytes ≡ Ok q
-unfolding fitting_policy_of
-fits_lawful files bytes q e = fitting_lawful files (lawful_policy_of bytes) q e

@@ -1,7 +1,7 @@
 -- The limit of tables, the numbers of `load` and the forms of commands, against answers that were worked out by hand.
 use Rattle.std.proofs.Common.{◌≡◌, [], ◌∷◌, Some, None, refl}
 use Rattle.std.specs.Prelude.{codes}
-use Rattle.muen_top.specs.Commands.{Command, build, command_of, for_load, run, verify}
+use Rattle.muen_top.specs.Commands.{build, command_of, for_load, run, verify}
 use Rattle.muen_top.specs.declared.limits.TheConstants.{DMA_MOST}
 
 tables_of_64_mib : DMA_MOST ≡ 67108864

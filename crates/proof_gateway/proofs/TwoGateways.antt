@@ -1,5 +1,5 @@
 -- What is printed of the members of the gateway is the same in both others.
-use Rattle.std.proofs.Common.{ℕ, List, [], ◌∷◌, refl}
+use Rattle.std.proofs.Common.{ℕ, List, [], ◌∷◌}
 use Rattle.proof_isolation.specs.Flows.{IsClosed}
 use Rattle.policy_lawful.specs.Lawful.{IsLawful}
 use Rattle.policy_lawful.specs.source.Mapping.{Mapping}

@@ -1,20 +1,18 @@
 -- Spans of an image by the pages that they have.
-use Rattle.std.proofs.Common.{◌≡◌, ℕ, ◌+◌, ◌*◌, ◌/◌, ◌%◌, ◌<◌, ◌≤◌, true, false, List, Some, refl, sym, ap, subst, ◌∙◌, inl, inr, arith}
+use Rattle.std.proofs.Common.{◌≡◌, ℕ, ◌+◌, ◌*◌, ◌/◌, ◌%◌, ◌<◌, ◌≤◌, true, false, List, Some, refl, sym, ap, ◌∙◌, inl, inr, arith}
 use Rattle.std.specs.Prelude.{◌==◌, ◌&&◌, nat_le, nat_lt, slice_get}
-use Rattle.std.specs.List.{find, list_any}
-use Rattle.std.specs.Option.{option_map_or}
-use Rattle.std.proofs.lemmas.Bool.{and_from, and_parts, cases_lt, eq-eqb, eqb-true, le-leb, leb-true, lt-ltb, ltb-true, true≢false}
+use Rattle.std.specs.List.{list_any}
+use Rattle.std.proofs.lemmas.Bool.{and_from, and_parts, cases_lt, eqb-true, le-leb, leb-true, lt-ltb, ltb-true, true≢false}
 use Rattle.std.proofs.lemmas.Map.Keys.{any_passes_from_place}
 use Rattle.image_memory.proofs.SpanNumbers.{KernelSpan}
 use Rattle.image_soundness.specs.Sound.{is_kernel}
 use Rattle.image_pack.specs.Codes.{is_part, part_code}
-use Rattle.image_pack.specs.Image.{is_kernel_span}
 use Rattle.image_pack.specs.SpanConditions.{AreSpans, IsSpan, end_of}
 use Rattle.image_pack.specs.declared.parts.SpanKind.{SpanKind}
 use Rattle.image_pack.specs.declared.parts.SpanKind.TheVariants.{Own, Channel, Provided, Kernel, Device}
 use Rattle.image_pack.specs.declared.parts.SpanPart.{SpanPart}
 use Rattle.proof_start.specs.GroundOf.{is_kept, is_page_of}
-use Rattle.muen_num.proofs.Indexed.{any_passing, found_only, none_passing, pairs_at}
+use Rattle.muen_num.proofs.Indexed.{none_passing, pairs_at}
 use Rattle.muen_num.proofs.Options.{one_value}
 use Rattle.muen_num.proofs.Lists.{all_at}
 

@@ -6,20 +6,14 @@ use Rattle.std.proofs.lemmas.Bool.{cases_lt, eq-eqb, true≢false}
 use Rattle.std.proofs.lemmas.Option.{slice_get-map}
 use Rattle.std.proofs.lemmas.Map.Keys.{any_passes_from_place}
 use Rattle.image_load.specs.Loaded.{control_of}
-use Rattle.image_memory.specs.Memory.{memory_of}
 use Rattle.image_soundness.specs.Sound.{ShareNoSpan, own_spans, share_a_span}
-use Rattle.image_pack.specs.Codes.{part_code}
-use Rattle.image_pack.specs.ImageConditions.{IsSubjectPart, KeepsConditions}
 use Rattle.image_pack.specs.declared.parts.Image.{Image}
 use Rattle.image_pack.specs.declared.parts.SubjectPart.{SubjectPart}
-use Rattle.muen_num.specs.declared.tag.TagPart.TheVariants.{State, Iobm, Msrbm, Msrs}
 use Rattle.muen_num.proofs.Options.{from_some}
-use Rattle.muen_num.proofs.Lists.{all_at}
 use Rattle.policy_lawful.specs.source.Source.{Source}
 use Rattle.vmx_machine.specs.declared.control.Control.{Control}
 use Rattle.proof_start.specs.GroundOf.{ground_of}
-use Rattle.muen_num.proofs.Indexed.{enumerated_at, pairs_at}
-use Rattle.image_memory.proofs.SpanNumbers.{KernelSpan, kernel_span}
+use Rattle.muen_num.proofs.Indexed.{pairs_at}
 
 -- ---- controls
 
@@ -42,14 +36,6 @@ control_at p i s q at = slice_get-map (control_of i.spans) i.subjects s ∙ ap (
 pub part_at : (p : Source) (i : Image) (s : ℕ) → slice_get (ground_of p i).setup.subjects s ≡ slice_get i.subjects s
 unfolding ground_of
 part_at p i s = refl
-
-pub ground_policy : (p : Source) (i : Image) → (ground_of p i).policy ≡ p
-unfolding ground_of
-ground_policy p i = refl
-
-pub ground_memory : (p : Source) (i : Image) → (ground_of p i).memory ≡ memory_of i
-unfolding ground_of
-ground_memory p i = refl
 
 -- ---- own pages
 

@@ -1,54 +1,21 @@
 -- What a subject's accesses reach: a byte of a thing, or of the state page of another subject on the same CPU.
-use Rattle.std.proofs.Common.{◌≡◌, ℕ, zero, suc, ◌+◌, ◌-◌, ◌%◌, ◌<◌, ◌≤◌, ◌⊎◌, inl, inr, Bool, true, false, cond, not, List, [], ◌∷◌, ◌++◌, length, map, Option, Some, None, refl, sym, ap, subst, ◌∙◌, arith, true≢false}
-use Rattle.std.specs.Prelude.{◌==◌, ◌&&◌, is_some, nat_le, nat_lt, option_and_then, option_map, slice_get, unwrap_or}
-use Rattle.std.specs.List.{AllByRecursion, filter_map, find, flat_map, list_all, list_any}
+use Rattle.std.proofs.Common.{◌≡◌, ℕ, ◌+◌, ◌-◌, ◌%◌, ◌<◌, ◌≤◌, ◌⊎◌, inl, inr, true, false, cond, List, [], ◌∷◌, ◌++◌, length, Some, None, refl, sym, ap, subst, ◌∙◌, arith, true≢false}
+use Rattle.std.specs.Prelude.{◌==◌, ◌&&◌, nat_le, nat_lt, slice_get}
+use Rattle.std.specs.List.{find, list_any}
 use Rattle.std.specs.Str.{bytes_eq}
 use Rattle.std.proofs.lemmas.Bool.{and_parts, eqb-true, leb-true, ltb-true}
-use Rattle.std.proofs.lemmas.List.Folds.{list_all-map}
-use Rattle.std.proofs.lemmas.Slice.Eq.{bytes_eq-Decides}
 use Rattle.std.proofs.lemmas.Map.Keys.{any_passes_from_place}
 use Rattle.subject_model.specs.System.{is_shown}
-use Rattle.muen_num.proofs.Lists.{each_from, found_among, passes_at}
-use Rattle.muen_num.proofs.SearchLaws.{none_both, unless_none}
-use Rattle.muen_num.specs.Search.{first_after, first_in, unless}
+use Rattle.muen_num.proofs.Lists.{found_among}
 use Rattle.muen_num.specs.declared.access.AccessKind.{AccessKind}
-use Rattle.muen_num.specs.declared.limits.TheConstants.{GUEST_END}
-use Rattle.policy_lawful.proofs.KeptAddresses.{addresses_kept}
-use Rattle.policy_lawful.proofs.KeptRules.{rules_of}
-use Rattle.policy_lawful.proofs.UniqueNames.{logical_unique, provided_unique}
-use Rattle.policy_lawful.proofs.WindowsByIndex.{found_by_name}
-use Rattle.policy_lawful.specs.Domains.{is_monitor, monitor_offence, offence_24}
 use Rattle.policy_lawful.specs.Lawful.{IsLawful}
-use Rattle.policy_lawful.specs.Offences.{two}
-use Rattle.policy_lawful.specs.Rules.{is_guest, is_on, is_page_size, subject_cpu, window_extent, window_extents}
-use Rattle.muen_num.specs.Numbers.{is_page_aligned}
-use Rattle.policy_lawful.specs.declared.offence.Offence.{Offence}
 use Rattle.policy_lawful.specs.Contents.{Held, initial_bytes}
-use Rattle.policy_lawful.specs.Thing.{Thing, channel, component_by, device_memory, provided, region, same_thing, state, things_of}
-use Rattle.policy_lawful.specs.Windows.{Window, access_by, access_of, byte, channel_window, component_channel_window, component_windows, device_window, entry_of, holds, monitor_window, region_window, required_window, role_rights, violation, window, windows_of}
-use Rattle.policy_lawful.specs.Rights.{allows, may_execute}
-use Rattle.policy_lawful.specs.rights.Rights.{Rights}
-use Rattle.policy_lawful.specs.rights.Role.{Role}
-use Rattle.policy_lawful.specs.source.Channel.{Channel}
-use Rattle.policy_lawful.specs.source.ChannelUse.{ChannelUse}
-use Rattle.policy_lawful.specs.source.Component.{Component}
-use Rattle.policy_lawful.specs.source.ComponentChannel.{ComponentChannel}
-use Rattle.policy_lawful.specs.source.ComponentUse.{ComponentUse}
-use Rattle.policy_lawful.specs.source.Device.{Device}
-use Rattle.policy_lawful.specs.source.DeviceMapping.{DeviceMapping}
-use Rattle.policy_lawful.specs.source.DeviceMemory.{DeviceMemory}
-use Rattle.policy_lawful.specs.source.DeviceUse.{DeviceUse}
-use Rattle.policy_lawful.specs.source.MapEntry.{MapEntry}
-use Rattle.policy_lawful.specs.source.Mapping.{Mapping}
-use Rattle.policy_lawful.specs.source.Monitor.{Monitor}
-use Rattle.policy_lawful.specs.source.Provided.{Provided}
-use Rattle.policy_lawful.specs.source.Region.{Region}
-use Rattle.policy_lawful.specs.source.Required.{Required}
+use Rattle.policy_lawful.specs.Thing.{Thing, same_thing, state, things_of}
+use Rattle.policy_lawful.specs.Windows.{Window, access_by, access_of, byte, holds, violation, window, windows_of}
+use Rattle.policy_lawful.specs.Rights.{allows}
 use Rattle.policy_lawful.specs.source.Source.{Source}
 use Rattle.policy_lawful.specs.source.Subject.{Subject}
-use Rattle.muen_num.proofs.Each.{each_append, each_flat, each_some as each_made, if_some}
-use Rattle.muen_num.proofs.Lookups.{found_passes, same_self, found_any, found_index}
-use Rattle.subject_model.proofs.PolicyFacts.{found_again}
+use Rattle.muen_num.proofs.Lookups.{found_passes, found_index}
 use Rattle.policy_lawful.proofs.SameThings.{same_thing_self}
 use Rattle.image_soundness.proofs.WindowsOn.{IsOn, each_found, each_window, windows_aligned}
 

@@ -26,10 +26,6 @@ use Rattle.proof_turns.proofs.SetLaws.{set_with, set_without}
 use Rattle.subject_model.proofs.KeyLaws.{value_changed, value_other, names_apart}
 use Rattle.proof_turns.proofs.Holds.{each_subject, found_before}
 
-option_same : {A : Type 0} (o : Option A) → option_map (λ a. a) o ≡ o
-option_same None = refl
-option_same (Some a) = refl
-
 -- a change that changes nothing
 named_same : {X : Type 0} (name other : List ℕ) (entries : Named X) → named (change_named name (λ x. x) entries) other ≡ named entries other
 named_same name other [] = refl

@@ -76,12 +76,6 @@ set_without v None None s = absurd s
 set_without v (Some marks) None s = absurd s
 set_without v None (Some vs) s = absurd s
 
-pub set_stays : (o : Option (List Bool)) (l : Option (List ℕ)) → SameSet o l → SameSet o (option_map (λ vs. vs) l)
-set_stays (Some marks) (Some vs) s = s
-set_stays None None s = absurd s
-set_stays (Some marks) None s = absurd s
-set_stays None (Some vs) s = absurd s
-
 -- ---- what is delivered
 
 pub greatest_alike : (n : ℕ) (f g : ℕ → Bool) → ((v : ℕ) → v < n → f v ≡ g v) → greatest_mark n f ≡ greatest n g

@@ -3,9 +3,9 @@ use Rattle.std.proofs.Common.{◌≡◌, ℕ, Bool, List, map, Option, Some, Non
 use Rattle.std.specs.Prelude.{option_map}
 use Rattle.subject_model.specs.Step.{Stored}
 use Rattle.machine_layout.specs.Memory.{over}
-use Rattle.policy_lawful.specs.Contents.{Held, initial_bytes}
+use Rattle.policy_lawful.specs.Contents.{Held}
 use Rattle.policy_lawful.specs.Events.{irq_of}
-use Rattle.policy_lawful.specs.Thing.{Thing, device_memory, same_thing, state, things_of}
+use Rattle.policy_lawful.specs.Thing.{Thing, device_memory, same_thing, state}
 use Rattle.policy_lawful.specs.source.Source.{Source}
 use Rattle.policy_lawful.specs.source.Subject.{Subject}
 use Rattle.subject_model.specs.DeviceRecord.{NamedInput, port_input, memory_input, irq_input, dma_input}
@@ -14,7 +14,7 @@ use Rattle.subject_model.specs.States.{started}
 use Rattle.subject_model.specs.SubjectState.{SubjectState}
 use Rattle.subject_model.specs.Alone.{MsrValues, Things, TurnAnswer, own_of, solo_turn, thing_in}
 use Rattle.subject_model.specs.Clock.{takes}
-use Rattle.subject_model.specs.System.{System, answered, change_thing, first_page, inbox_of, start_of, subject_named, took, with_own, with_store}
+use Rattle.subject_model.specs.System.{System, answered, change_thing, inbox_of, start_of, subject_named, took, with_own, with_store}
 use Rattle.subject_model.proofs.DeviceWrites.{page_stays}
 use Rattle.subject_model.proofs.KeyLaws.{things_apart, value_changed, value_other}
 use Rattle.policy_lawful.proofs.SameThings.{cases_thing}

@@ -2,7 +2,7 @@
 use Rattle.std.proofs.Common.{◌≡◌, ◌⊎◌, inl, inr, ℕ, ◌+◌, ◌/◌, ◌<◌, ◌≤◌, ◌^◌, All, List, [], ◌∷◌, ◌++◌, append_assoc, append-nil, drop, get_or, length, map, refl, sym, ap, ◌∙◌, subst, arith, length-append}
 use Rattle.std.specs.List.{enumerate_from, zip}
 use Rattle.std.proofs.lemmas.List.{length-map, map-append}
-use Rattle.std.proofs.lemmas.List.Elements.{All-head, All-map, All-nil, All-push, All-tail}
+use Rattle.std.proofs.lemmas.List.Elements.{All-head, All-map, All-push, All-tail}
 use Rattle.std.proofs.lemmas.List.FromFn.{length-enumerate_from}
 use Rattle.expand_kernel.specs.thing.Region.{Region}
 use Rattle.image_pack.specs.declared.parts.SpanPart.{SpanPart}
@@ -11,7 +11,7 @@ use Rattle.muen_num.specs.declared.limits.TheConstants.{PAGE}
 use Rattle.policy_lawful.specs.source.Device.{Device}
 use Rattle.policy_lawful.specs.source.DeviceMemory.{DeviceMemory}
 use Rattle.span_emit.specs.ByAddress.{HasNames}
-use Rattle.span_emit.specs.Spans.{device_span, region_span, region_spans}
+use Rattle.span_emit.specs.Spans.{device_span, region_span}
 use Rattle.policy_lawful.specs.ByIndex.{memories_of}
 use Rattle.span_emit.proofs.PairLaws.{all_second}
 
@@ -30,13 +30,6 @@ pub record Regions (all : List SpanPart) (left : List Region) (addresses : List 
   pub few : length made + length left ≤ 2 ^ 16
   pub small : All (λ r. r.size / PAGE < 2 ^ 32) left
 
-pub regions_first : (regions : List Region) (ps : List ℕ) (left : List Region) (addresses : List ℕ) (made : List SpanPart) → left ≡ regions → addresses ≡ ps → made ≡ [] → length regions ≤ 2 ^ 16 → All (λ r. r.size / PAGE < 2 ^ 32) regions
-    → Regions (region_spans regions ps) left addresses made
-regions_first regions ps left addresses made s p none few small = record {
-  whole = (λ i. none i ++ map region_span (enumerate_from (length (none i)) (zip (s i) (p i))));
-  named = subst (All Named) (sym none) (All-nil Named);
-  few = let a = ap length s in let b = ap length none in omega arith;
-  small = subst (All IsSmall) (sym s) small;
 }
 
 module _ (all : List SpanPart) (left : List Region) (addresses : List ℕ) (made : List SpanPart) (h : Regions all left addresses made) where
@@ -123,9 +116,6 @@ module _ (all : List SpanPart) (xs ys : List Memory) (made : List SpanPart) (h :
         small = all_second IsLittle xs ys h.small;
       }
 
-pub memories_last : (all : List SpanPart) (left : List Memory) (made : List SpanPart) → left ≡ [] → Memories all left made → made ≡ all
-memories_last all left made e h = sym (append-nil made) ∙ ap (λ xs. made ++ map device_span (enumerate_from (length made) xs)) (sym e) ∙ h.whole
-
 -- ---- of a device
 
 abbrev named_by : List ℕ → DeviceMemory → Memory
@@ -149,12 +139,6 @@ module _ (all : List SpanPart) (ds : List Device) (i : ℕ) (d : Device) (made :
 
   pub device_small : All (λ m. m.size / PAGE < 2 ^ 32) d.memory
   device_small = all_unmapped (named_by d.name) IsLittle d.memory (memories_fit all (map (named_by d.name) d.memory) (memories_of (drop (i + 1) ds)) made here).1
-
-  pub device_few : length made + length d.memory ≤ 2 ^ 16
-  device_few =
-      let few = (memories_fit all (map (named_by d.name) d.memory) (memories_of (drop (i + 1) ds)) made here).0 in
-      let many : length (map (named_by d.name) d.memory) ≡ length d.memory = length-map d.memory (named_by d.name) in
-      omega arith
 
   pub device_made : (more : List SpanPart) → more ≡ made ++ map device_span (enumerate_from (length made) (map (λ m. (d.name, m)) d.memory)) → All (λ s. HasNames s.tag) more → Memories all (memories_of (drop (i + 1) ds)) more
   device_made more then names = memories_made all (map (named_by d.name) d.memory) (memories_of (drop (i + 1) ds)) made here more then names

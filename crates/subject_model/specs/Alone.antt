@@ -1,7 +1,6 @@
 -- A subject alone (this project's own machine; exits and qualifications as in Intel SDM volume 3): what it is given for itself,
 -- what reaches it, and its turn, which sees its own state, these two, and nothing else.
 use Rattle.std.specs.Prelude.{ℕ, zero, suc, ◌+◌, ◌*◌, ◌==◌, ◌&&◌, ◌||◌, Bool, true, false, if◌then◌else◌, List, [], map, Option, Some, None}
-use Rattle.std.specs.List.{list_any}
 use Rattle.std.specs.Option.{option_map_or}
 use Rattle.expand_grants.specs.Resources.{Msr, are_granted, is_granted, msrs_of, ports_of}
 use Rattle.guest_isa.specs.Finish.{finished, finish_of, injected}

@@ -1,5 +1,5 @@
 -- The MSR file of a CPU: the values of the MSRs that an MSR bitmap covers (Intel SDM volume 3, "MSR-Bitmap Address").
-use Rattle.std.specs.Prelude.{ℕ, ◌+◌, ◌-◌, ◌&&◌, nat_le, if◌then◌else◌, List, replicate, slice_get, Option, Some, None, option_and_then}
+use Rattle.std.specs.Prelude.{ℕ, ◌+◌, ◌-◌, ◌&&◌, nat_le, if◌then◌else◌, List, slice_get, Option, Some, None, option_and_then}
 use Rattle.muen_num.specs.declared.limits.TheConstants.{LOW_MSR_LAST, HIGH_MSR_FIRST, HIGH_MSR_LAST}
 use Rattle.muen_num.specs.ListChange.{change_at}
 

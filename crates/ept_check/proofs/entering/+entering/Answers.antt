@@ -1,5 +1,5 @@
 use Rattle.std.proofs.Common.{◌≡◌, ℕ, ◌+◌, ◌-◌, ◌*◌, ◌/◌, ◌%◌, ◌^◌, ◌<◌, Some, suc, subst, [], length, refl, sym, ap, ◌∙◌, arith, rules}
-use Rattle.std.specs.Prelude.{bit_and, slice_index_or}
+use Rattle.std.specs.Prelude.{slice_index_or}
 use Rattle.ept_check.proofs.Following.{ComesTo, Follows, below_found, below_past, enters, found_later, goes_below, last_known, leaves_below, next_known, none_later, not_table, seen_before, start_none, stops_found, stops_known}
 use Rattle.ept_check.proofs.Given.{fine_at, windows_of}
 use Rattle.ept_check.proofs.Sizes.{first_here, subject_there}
