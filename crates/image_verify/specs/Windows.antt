@@ -1,5 +1,5 @@
 -- The windows of a policy's subjects, where an image has what they show.
-use Rattle.std.specs.Prelude.{List, map}
+use Rattle.std.specs.Prelude.{◌≡◌, List, length, map}
 use Rattle.std.specs.List.{zip}
 use Rattle.ept_check.specs.declared.types.SubjectTables.{SubjectTables}
 use Rattle.ept_check.specs.window.Leaf.TheVariants.{Small}
@@ -8,7 +8,8 @@ use Rattle.expand_kernel.specs.Grants.{is_lower}
 use Rattle.expand_kernel.specs.Ordered.{in_order}
 use Rattle.image_pack.specs.declared.parts.Image.{Image}
 use Rattle.image_pack.specs.declared.parts.SubjectPart.{SubjectPart}
-use Rattle.image_soundness.specs.Sound.{address_of}
+use Rattle.image_soundness.specs.Sound.{AreContents, address_of}
+use Rattle.policy_lawful.specs.Contents.{Held}
 use Rattle.policy_lawful.specs.Thing.{Thing}
 use Rattle.policy_lawful.specs.Windows.{Window, windows_of}
 use Rattle.policy_lawful.specs.rights.Caching.TheVariants.{Wb}
@@ -38,3 +39,7 @@ tables_of_subject p i (s, q) = record { eptp = q.eptp; windows = windows_on p i 
 -- of each subject that the policy and the image both have
 unfoldable pub tables_of_subjects : Source → Image → List SubjectTables
 tables_of_subjects p i = map (tables_of_subject p i) (zip p.subjects i.subjects)
+
+-- they are these, over an image that has the contents of the policy over some files, and as many subjects
+abbrev pub AreTablesOverContents : Source → Image → List SubjectTables → Type 0
+AreTablesOverContents p i tables = (files : Held) → AreContents p files i → length i.subjects ≡ length p.subjects → tables ≡ tables_of_subjects p i

@@ -1,12 +1,11 @@
 //! Each subject's windows, where an image has what they show.
-ghost use Rattle.std.specs.Prelude.{◌≡◌, length, map, slice_index, IfOk};
+ghost use Rattle.std.specs.Prelude.{◌≡◌, map, slice_index, IfOk};
 ghost use Rattle.expand_kernel.specs.Expansion.{IsExpanded};
 ghost use Rattle.image_memory.specs.Memory.{address_at};
 ghost use Rattle.image_soundness.specs.Numbered.{address_at_number};
-ghost use Rattle.image_soundness.specs.Sound.{AreContents, thing_spans};
+ghost use Rattle.image_soundness.specs.Sound.{thing_spans};
 ghost use Rattle.image_verify.specs.ByNumber.{all_numbered_on, numbered_on};
-ghost use Rattle.image_verify.specs.Windows.{tables_of_subjects};
-ghost use Rattle.policy_lawful.specs.Contents.{Held};
+ghost use Rattle.image_verify.specs.Windows.{AreTablesOverContents};
 ghost use Rattle.policy_lawful.specs.Resolution.{source_of};
 
 use ept_check::{Leaf, SubjectTables, Window};
@@ -114,8 +113,7 @@ pub fn subject_tables(
     image: &Parts,
 ) -> Result<Vec<SubjectTables>, NoMemory>
     // over an image that has the contents of the policy over some files, and as many subjects
-    ensures tables { IfOk result (λ v. (files : Held) → AreContents (source_of expanded.now.lawful) files image.now
-        → length image.now.subjects ≡ length (source_of expanded.now.lawful).subjects → v.items ≡ tables_of_subjects (source_of expanded.now.lawful) image.now) }
+    ensures tables { IfOk result (λ v. AreTablesOverContents (source_of expanded.now.lawful) image.now v.items) }
     // all stands that follows from the policy, since its type says so
     ensures expanded { IsExpanded expanded.now }
 {

@@ -1,5 +1,5 @@
 -- The kernel over a run: how a tick begins, what inputs do, and how all ends (this project's own).
-use Rattle.std.specs.Prelude.{ℕ, List, [], ◌∷◌, map, replicate, slice_get, slice_set, Option, Some, None, option_and_then, unwrap_or, Bool}
+use Rattle.std.specs.Prelude.{◌≡◌, ℕ, List, [], ◌∷◌, map, replicate, slice_get, slice_set, Option, Some, None, option_and_then, unwrap_or, Bool}
 use Rattle.muen_num.specs.Range.{numbers_below}
 use Rattle.vmx_machine.specs.Memory.{Page}
 use Rattle.device_bench.specs.record.Record.{Record}
@@ -11,10 +11,11 @@ use Rattle.event_router.specs.Router.{started as router_started, router_pends_no
 use Rattle.frame_clock.specs.Run.{Clocked, Ran, run_to}
 use Rattle.view_text.specs.declared.TurnLine.{TurnLine}
 use Rattle.vmx_machine.specs.Machine.{MachineState, page_bytes_at, started as machine_started, left, device_wrote}
+use Rattle.kernel_core.specs.declared.turn.Standing.{Standing}
 use Rattle.kernel_core.specs.declared.turn.Turn.{Turn}
 use Rattle.image_pack.specs.declared.parts.SubjectPart.{SubjectPart}
 use Rattle.guest_isa.specs.state.SubjectState.{SubjectState}
-use Rattle.kernel_core.specs.Kernel.{Live, acts, turn_of}
+use Rattle.kernel_core.specs.Kernel.{Live, acts, turn_of, turn_standing_of}
 use Rattle.kernel_core.specs.declared.setup.Setup.{Setup}
 
 -- ---- the start: nobody is on a CPU, nothing is pending, and no port has had an input
@@ -98,6 +99,10 @@ acted k t s part first st = with_live k (acts t s part first st k.live).state
 
 abbrev pub acted_line : KernelState → Turn → ℕ → SubjectPart → Bool → SubjectState → Option TurnLine
 acted_line k t s part first st = (acts t s part first st k.live).line
+
+-- so it is of the parts and the state of the subject of this number, which stands so
+abbrev pub IsOfSubject : KernelState → ℕ → Standing → (SubjectPart → SubjectState → Type 0) → Type 0
+IsOfSubject k subject standing Such = (part : SubjectPart) (st : SubjectState) → slice_get k.setup.subjects subject ≡ Some part → standing ≡ turn_standing_of st → Such part st
 
 abbrev pub kernel_started : Setup → Record Effect → ℕ → List Page → KernelState
 kernel_started setup run cpus pages = record { setup = setup; cpus = cpus; run = run; live = live_started setup cpus pages; tick = 0 }

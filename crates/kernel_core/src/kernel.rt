@@ -7,7 +7,7 @@ ghost use Rattle.frame_clock.specs.declared.plan.Plan.{Plan};
 ghost use Rattle.kernel_core.specs.Kernel.{event_of, exit_handled, raised_by, turn_standing_of, switched, turn_of, vector_for};
 ghost use Rattle.device_bench.specs.Devices.{CanRun};
 ghost use Rattle.kernel_core.specs.Slots.{AreSlotsKept};
-ghost use Rattle.kernel_core.specs.Ticks.{acted, acted_line, kernel_started, with_live};
+ghost use Rattle.kernel_core.specs.Ticks.{IsOfSubject, acted, acted_line, kernel_started, with_live};
 
 use crate::exit::{event_of, exit_end_of};
 use crate::on_cpus::{on_cpu, put_on};
@@ -186,8 +186,8 @@ impl<M: PhysMem, T: Translate> Kernel<M, T> {
         standing: Standing,
     ) -> Option<TurnLine>
         requires { turn.now.cpu < length self.old.live.machine.cpus }
-        ensures state { (part : SubjectPart) (st : SubjectState) → slice_get self.old.setup.subjects subject ≡ Some part → standing ≡ turn_standing_of st → self.new ≡ acted self.old turn.now subject part first st }
-        ensures line { (part : SubjectPart) (st : SubjectState) → slice_get self.old.setup.subjects subject ≡ Some part → standing ≡ turn_standing_of st → result ≡ acted_line self.old turn.now subject part first st }
+        ensures state { IsOfSubject self.old subject standing (λ part st. self.new ≡ acted self.old turn.now subject part first st) }
+        ensures line { IsOfSubject self.old subject standing (λ part st. result ≡ acted_line self.old turn.now subject part first st) }
     {
         if standing.stopped {
             return None;

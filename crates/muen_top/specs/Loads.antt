@@ -72,6 +72,10 @@ AreKnown looks found = (name : List ℕ) → IsKnown looks name (find_bytes name
 abbrev pub KnowsAlone : List Look → List ℕ → List ℕ → Type 0
 KnowsAlone looks name bytes = AreKnown looks ((name, bytes) ∷ [])
 
+-- so it is after whatever looks have read these bytes alone
+abbrev pub IsAfterBytes : List ℕ → List ℕ → (List Look → Type 0) → Type 0
+IsAfterBytes name bytes Such = (looks : List Look) → KnowsAlone looks name bytes → Such looks
+
 -- these bytes were read under it, after the looks
 abbrev pub ReadAfter : List Look → List ℕ → ℕ → Option Store → History → History → List ℕ → Type 0
 ReadAfter looks name most held old new bytes = SawAfter looks name most (Ok (whole bytes)) held old new

@@ -10,7 +10,7 @@ ghost use Rattle.muen_outside.specs.Store.{find_bytes};
 ghost use Rattle.muen_run.specs.RunText.{run_text};
 ghost use Rattle.muen_top.specs.Calls.{ComesOfRun};
 ghost use Rattle.muen_top.specs.Commands.{run as run_command};
-ghost use Rattle.muen_top.specs.Loads.{AreTables, HasOptionalDmaTables, IsKnown, IsReadyToRun, KnowsAlone, LacksTables, NotTables, TellsDmaFault, read_before};
+ghost use Rattle.muen_top.specs.Loads.{AreTables, HasOptionalDmaTables, IsKnown, IsAfterBytes, IsReadyToRun, LacksTables, NotTables, TellsDmaFault, read_before};
 ghost use Rattle.muen_top.specs.PolicyCommands.{IsAnsweredByRun, StopsCommand, StopsRun};
 ghost use Rattle.muen_top.specs.Runs.{RunsTo};
 ghost use Rattle.record_text.specs.Law.{IsOrderly};
@@ -94,8 +94,8 @@ fn read_named<'a, F: Files>(
     dma: Option<&'a str>,
     files: &mut F,
 ) -> Result<Option<TablesRead>, CommandError<'a>>
-    ensures ok { (looks : List Look) → KnowsAlone looks image.now bytes.now → IfOk result (HasOptionalDmaTables looks (option_map (λ n. n.now) dma.entry) (F.held files.old) (F.history files.old) (F.history files.new)) }
-    ensures err { (looks : List Look) → KnowsAlone looks image.now bytes.now → IfErr result (LacksTables looks (option_map (λ n. n.now) dma.entry) (F.held files.old) (F.history files.old) (F.history files.new)) }
+    ensures ok { IsAfterBytes image.now bytes.now (λ looks. IfOk result (HasOptionalDmaTables looks (option_map (λ n. n.now) dma.entry) (F.held files.old) (F.history files.old) (F.history files.new))) }
+    ensures err { IsAfterBytes image.now bytes.now (λ looks. IfErr result (LacksTables looks (option_map (λ n. n.now) dma.entry) (F.held files.old) (F.history files.old) (F.history files.new))) }
     ensures held { F.held files.new ≡ F.held files.old }
 {
     match dma {
