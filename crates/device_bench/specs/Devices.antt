@@ -1,5 +1,5 @@
 -- What devices do in a tick, and what their ports hold (this project's own machine).
-use Rattle.std.specs.Prelude.{◌≡◌, ℕ, ◌+◌, ◌^◌, ◌<◌, ◌==◌, List, map, length, filter, take, drop, Option, option_map}
+use Rattle.std.specs.Prelude.{◌≡◌, ℕ, ◌+◌, ◌^◌, ◌<◌, ◌==◌, List, map, length, filter, take, drop, replicate, Option, option_map}
 use Rattle.std.specs.List.{All, find}
 use Rattle.std.specs.List.Sorted.{IsNonDecreasing, IsStrictlyIncreasing}
 use Rattle.muen_num.specs.declared.limits.TheConstants.{LAST_PORT}

@@ -35,6 +35,10 @@ whole (suc (suc zero)) addr l e = omega arith
 whole (suc (suc (suc zero))) addr l e = omega arith
 whole (suc (suc (suc (suc level)))) addr l e = absurd (omega arith)
 
+-- what the first address of a page is mapped to
+pub leads_to_page : (level addr number size : ℕ) → level < 4 → size ≡ entry_size level → addr % 4096 ≡ 0 → (4096 * number + addr % size) % 4096 ≡ 0
+leads_to_page level addr number size l s e = let w = whole level addr l e in rw s (omega (arith, w))
+
 -- ---- the walk
 
 moved_conds : (o : ℕ) (p m l : Bool) (leaf leaf' deep deep' : Walk) → leaf ≡ offset_walk o leaf' → deep ≡ offset_walk o deep' → cond p (cond m Misconfigured (cond l leaf deep)) (Violation 0) ≡ offset_walk o (cond p (cond m Misconfigured (cond l leaf' deep')) (Violation 0))

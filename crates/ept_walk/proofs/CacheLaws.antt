@@ -291,3 +291,6 @@ drops_after at n slots slots' changed changed' keeps m eptp page k all within to
     not_both at n (get_or (addresses_read m eptp (4096 * page)) k 0) touched (was.apart _ (noted k 0 within)))
 
 -- ---- nothing is kept
+
+pub keeps_nothing : (at n : ℕ) (slots slots' : List (Option Slot)) (changed changed' : List ℕ) → ((i : ℕ) → get_or slots' i None ≡ None) → KeepsUntouched at n slots changed slots' changed'
+keeps_nothing at n slots slots' changed changed' none i s e fresh = absurd (none-some s (sym (none i) ∙ e))

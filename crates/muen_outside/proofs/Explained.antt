@@ -89,3 +89,8 @@ over_held None ls P told all m is = absurd (cc)
 over_held (Some k) ls P told all m is =
     let same : k ≡ m = cc in
     all m (subst (λ x. ShowAll x ls) same told)
+
+-- of some store that holds what is told it is true
+pub over_some : (held : Option Store) (ls : List Look) (P : Store → Type 0) → AreSingle ls → IfSome held (λ m. ShowAll m ls) → ((m : Store) → ShowAll m ls → P m) → (m : Store) × IfSome held (λ k. m ≡ k) × P m
+over_some None ls P single told all = let e = explained ls single in (e.0, tt, all e.0 e.1)
+over_some (Some k) ls P single told all = (k, refl, all k told)

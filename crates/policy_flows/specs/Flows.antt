@@ -10,6 +10,8 @@ use Rattle.policy_lawful.specs.Events.{Raised, channel_ends, event_of, reads_fro
 use Rattle.policy_lawful.specs.Thing.{Thing, region, same_thing}
 use Rattle.policy_lawful.specs.Windows.{windows_of}
 use Rattle.policy_lawful.specs.Rights.{allows}
+use Rattle.policy_lawful.specs.rights.Role.{Role}
+use Rattle.policy_lawful.specs.rights.Role.TheVariants.{Writer, Reader}
 use Rattle.policy_lawful.specs.source.Source.{Source}
 use Rattle.policy_lawful.specs.source.SourceWay.{SourceWay}
 use Rattle.policy_lawful.specs.source.SourceWay.TheVariants.{Call}

@@ -1,7 +1,8 @@
 -- The first index of a list at which a test passes, where the list is joined of pieces.
-use Rattle.std.proofs.Common.{◌≡◌, ℕ, ◌+◌, ◌<◌, Bool, true, false, cond, not, List, [], ◌∷◌, ◌++◌, length, map, Some, None, refl, sym, ap, ◌∙◌, arith, length-append, ne_eqb}
+use Rattle.std.proofs.Common.{◌≡◌, ℕ, zero, suc, ◌+◌, ◌<◌, Bool, true, false, cond, not, List, [], ◌∷◌, ◌++◌, length, map, take, Some, None, refl, sym, ap, ◌∙◌, subst, arith, length-append, ne_eqb}
 use Rattle.std.specs.Prelude.{◌||◌, slice_get}
-use Rattle.std.specs.List.{flat_map, list_any, position_or_len}
+use Rattle.std.specs.Option.{option_map_or}
+use Rattle.std.specs.List.{find, flat_map, list_any, position_or_len, zip}
 use Rattle.std.specs.Str.{bytes_eq}
 use Rattle.std.proofs.lemmas.Bool.{or_parts}
 use Rattle.std.proofs.lemmas.List.{length-map}
@@ -74,6 +75,21 @@ pub none_pieces : {X Y : Type 0} (test : Y → Bool) (f : X → List Y) (xs : Li
 none_pieces test f [] h = refl
 none_pieces test f (x ∷ xs) h = none_joined test (f x) (flat_map f xs) (h x) (none_pieces test f xs h)
 
+-- none of the pieces before has one that passes, and it is in this piece
+pub first_piece : {X Y : Type 0} (test : Y → Bool) (f : X → List Y) (xs : List X) (k n : ℕ) (x : X) → slice_get xs k ≡ Some x
+    → ((j : ℕ) (y : X) → j < k → slice_get xs j ≡ Some y → list_any test (f y) ≡ false) → IsFirstAt test (f x) n
+    → IsFirstAt test (flat_map f xs) (length (flat_map f (take k xs)) + n)
+first_piece test f [] k n x at none h = absurd cc
+first_piece test f (z ∷ zs) zero n x at none h =
+    let same : z ≡ x = cc in
+    let first : n ≡ 0 + n = omega arith in
+    subst (IsFirstAt test (f z ++ flat_map f zs)) first (first_left test (f z) (flat_map f zs) n (subst (λ y. IsFirstAt test (f y) n) (sym same) h))
+first_piece test f (z ∷ zs) (suc k) n x at none h =
+    let before = flat_map f (take k zs) in
+    let later = first_piece test f zs k n x at (λ j y l is. none (suc j) y (omega (arith, l)) is) h in
+    let number : length (f z) + (length before + n) ≡ length (f z ++ before) + n = omega (arith, length-append (f z) before) in
+    subst (IsFirstAt test (f z ++ flat_map f zs)) number (first_right test (f z) (flat_map f zs) (length before + n) (none 0 z (omega arith) refl) later)
+
 -- ---- names
 
 -- where names are unique, an element is the first of its name
@@ -94,3 +110,17 @@ other_before f xs j k y x unique l a b =
     ∙ ne_eqb j k (λ e. absurd (omega (arith, e, l)))
 
 -- ---- what stands beside it
+
+pub beside_first : {X : Type 0} (test : X → Bool) (xs : List X) (ps : List ℕ) (k a : ℕ) → IsFirstAt test xs k → slice_get ps k ≡ Some a → option_map_or (λ e. e.1) (find (λ e. test e.0) (zip xs ps)) 0 ≡ a
+beside_first test [] ps k a h at = absurd (omega (arith, h.within))
+beside_first test (x ∷ xs) [] k a h at = absurd cc
+beside_first {X} test (x ∷ xs) (p ∷ ps) zero a h at =
+    elim (test x) as (λ b. cond (not b) (1 + position_or_len test xs) 0 ≡ 0 → option_map_or (λ (e : X × ℕ). e.1) (cond b (Some (x, p)) (find (λ e. test e.0) (zip xs ps))) 0 ≡ a) [
+      | true ↦ λ e. cc
+      | false ↦ λ e. absurd (omega (arith, e))
+    ] h.at
+beside_first {X} test (x ∷ xs) (p ∷ ps) (suc k) a h at =
+    elim (test x) as (λ b. cond (not b) (1 + position_or_len test xs) 0 ≡ suc k → option_map_or (λ (e : X × ℕ). e.1) (cond b (Some (x, p)) (find (λ e. test e.0) (zip xs ps))) 0 ≡ a) [
+      | true ↦ λ e. absurd (omega (arith, e))
+      | false ↦ λ e. beside_first test xs ps k a (record { at = omega (arith, e); within = omega (arith, h.within) }) at
+    ] h.at

@@ -21,6 +21,7 @@ pub mod KeptPlan
 pub mod KeptPorts
 pub mod KeptRules
 pub mod KeptVectors
+pub mod KeptViews
 pub mod Mapped
 pub mod NameHashes
 pub mod NameSets

@@ -1,14 +1,16 @@
 -- The resolved policy, from its elements with indexes.
-use Rattle.std.proofs.Common.{◌≡◌, true, List, length, Option, Some, None, refl, sym, ap, subst, ◌∙◌}
+use Rattle.std.proofs.Common.{◌≡◌, true, List, length, Option, Some, None, Err, refl, sym, ap, subst, ◌∙◌}
 use Rattle.std.specs.Prelude.{map, nat_lt}
 use Rattle.std.specs.List.{list_all}
 use Rattle.std.specs.Option.{option_or}
 use Rattle.std.proofs.lemmas.List.{length-map}
+use Rattle.muen_num.specs.Answers.{Answers, Explains}
 use Rattle.muen_num.specs.Search.{first_in}
 use Rattle.muen_num.proofs.Lists.{map-map}
 use Rattle.muen_num.proofs.SearchLaws.{option_or-None}
-use Rattle.policy_lawful.specs.Lawful.{offences, unlawful}
+use Rattle.policy_lawful.specs.Lawful.{kept_or, offences, unlawful}
 use Rattle.policy_lawful.specs.Offences.{broken}
+use Rattle.policy_lawful.proofs.Keeps.{refused}
 use Rattle.policy_lawful.proofs.Offences.{none_broken}
 use Rattle.policy_lawful.specs.Resolution.{IsResolved, Resolution, are_in_range, group_in_range, group_named, major_in_range, major_named, name_at, source_of, subject_in_range, subject_in_range_among, subject_named, subject_named_among}
 use Rattle.policy_lawful.specs.Rules.{frame_references, group_references, major_name, majors_of, offence_1, offence_2, subject_references, undeclared}
@@ -16,6 +18,7 @@ use Rattle.policy_lawful.specs.declared.resolved.Group.{Group}
 use Rattle.policy_lawful.specs.declared.resolved.MajorFrame.{MajorFrame}
 use Rattle.policy_lawful.specs.declared.resolved.Subject.{Subject}
 use Rattle.policy_lawful.specs.refusal.Refusal.{Refusal}
+use Rattle.policy_lawful.specs.refusal.Refusal.TheVariants.{NoMemory}
 use Rattle.policy_lawful.specs.source.Source.{Source}
 use Rattle.policy_names.specs.Names.{names_broken}
 use Rattle.policy_names.specs.Outline.{bare_group, bare_subject, bare_resolution, with_resolved}
@@ -95,6 +98,11 @@ module _ (p : Source) (ss : List Subject) (gs : List Group) (ms : List MajorFram
 pub names_in_turn : (p : Source) → names_broken p ≡ option_or (broken 1 (offence_1 p)) (broken 2 (offence_2 p))
 unfolding names_broken
 names_in_turn p = rw (option_or-None (broken 2 (offence_2 p))) refl
+
+-- where rule 1 is kept, what explains a refusal by rule 2 explains the whole answer
+pub refused_by_2 : (p : Source) (e : Refusal) → broken 1 (offence_1 p) ≡ None → Explains NoMemory (broken 2 (offence_2 p)) e → Answers NoMemory (kept_or p (names_broken p)) (Err e)
+refused_by_2 p e one h =
+    refused p (names_broken p) e (subst (λ o. Explains NoMemory o e) (sym (names_in_turn p ∙ ap (λ o. option_or o (broken 2 (offence_2 p))) one)) h)
 
 -- where neither is broken, it is resolved
 pub resolved : (p : Source) (r : Resolution) → broken 1 (offence_1 p) ≡ None → broken 2 (offence_2 p) ≡ None → StandsFor source_of are_in_range p r → IsResolved r

@@ -8,7 +8,7 @@ use Rattle.std.proofs.lemmas.List.{map_push}
 use Rattle.record_text.specs.Bench.{BenchDevice, bench_device, bench_of, has_bytes, has_irq, has_port, is_known}
 use Rattle.record_text.specs.DeviceRecord.{DeviceRecord, NamedInput, port_input, memory_input, irq_input, dma_input}
 use Rattle.record_text.specs.Made.{grown, made_line, made_says, made_with, standing_of, with_end, with_input, with_order}
-use Rattle.record_text.specs.Resolving.{bytes_in, irq_of, is_in_span, memory_of, order_at, resolved_at, resolved_input, port_of, raised}
+use Rattle.record_text.specs.Resolving.{bytes_in, irq_of, is_in_span, memory_of, order_at, resolved, resolved_at, resolved_input, port_of, raised}
 use Rattle.record_text.specs.Reading.{Standing, entry_at, in_line, names_known, not_back, nothing_until, order_fits, record_after, standing_after, with_entry}
 use Rattle.muen_num.specs.Numbers.{are_distinct}
 use Rattle.record_text.specs.Saying.{line_of, said}
@@ -214,6 +214,11 @@ grown_ended devices m n h =
 pub grown_unended : (devices : Devices) (m : Made) (n : ℕ) → m.ended ≡ false → grown devices m (record_after (bench_of devices) (standing_of m) n []) ≡ Err (NoEnd n)
 unfolding record_after
 grown_unended devices m n h = ap (λ b. grown devices m (if b then Ok (nothing_until m.tick) else Err (NoEnd n))) h
+
+-- nothing was read yet
+pub grown_none : (devices : Devices) (r : Result DeviceRecord RecordFault) → grown devices (record { tick = 0; ended = false; inputs = []; orders = [] }) r ≡ mapped (resolved devices) r
+grown_none devices (Ok r) = refl
+grown_none devices (Err fault) = refl
 
 -- what the call for a line answered is what the whole call answers
 pub refused_here : (devices : Devices) (m : Made) (n : ℕ) (line : List ℕ) (lines : List (List ℕ)) (fault : RecordFault) (whole : Result (Record Input) RecordFault)

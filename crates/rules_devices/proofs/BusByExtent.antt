@@ -40,6 +40,9 @@ bus_sized (d ∷ ds) = size_one d d.bdf (extents ds) (bus_sized ds)
 
 -- ---- two bus, device and function numbers
 
+abbrev bdf_number : Bdf → ℕ
+bdf_number b = b.bus * 256 + b.device * 8 + b.function
+
 -- numbers that are the same
 same_number : (a b c x y z : ℕ) → nat_lt b 32 && nat_lt c 8 ≡ true → nat_lt y 32 && nat_lt z 8 ≡ true
     → (nat_le (a * 256 + b * 8 + c + 1) (x * 256 + y * 8 + z) || nat_le (x * 256 + y * 8 + z + 1) (a * 256 + b * 8 + c)) ≡ not ((a == x) && (b == y) && (c == z))

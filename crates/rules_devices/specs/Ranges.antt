@@ -1,6 +1,7 @@
 -- Ranges of ports and of MSRs as ranges of addresses.
-use Rattle.std.specs.Prelude.{ℕ, ◌+◌, ◌-◌, ◌&&◌, List, min, Option, if◌then◌else◌}
+use Rattle.std.specs.Prelude.{ℕ, ◌+◌, ◌-◌, ◌&&◌, Bool, List, min, nat_le, Option, if◌then◌else◌}
 use Rattle.std.specs.List.{list_all}
+use Rattle.muen_num.specs.declared.limits.TheConstants.{LAST_PORT}
 use Rattle.muen_num.specs.Search.{unless}
 use Rattle.policy_lawful.specs.MoreRules.{is_msr_range, msrs_apart}
 use Rattle.policy_lawful.specs.Offences.{alone}

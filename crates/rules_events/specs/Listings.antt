@@ -1,6 +1,6 @@
 -- The scheduling groups that list each subject, by indexes.
-use Rattle.std.specs.Prelude.{◌≡◌, ℕ, ◌<◌, ◌≤◌, ◌==◌, List, [], length, map, slice_index_or}
-use Rattle.std.specs.List.{All, enumerate_from, flat_map}
+use Rattle.std.specs.Prelude.{◌≡◌, ℕ, ◌<◌, ◌≤◌, ◌==◌, Bool, List, [], length, map, slice_index_or}
+use Rattle.std.specs.List.{All, enumerate_from, flat_map, list_any}
 use Rattle.policy_lawful.specs.declared.resolved.Group.{Group}
 use Rattle.rules_events.specs.declared.listings.Shared.{Shared}
 use Rattle.muen_num.specs.Numbers.{share}

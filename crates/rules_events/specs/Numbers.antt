@@ -1,6 +1,6 @@
 -- Numbers of calls, traps and interrupts.
 use Rattle.std.specs.Prelude.{ℕ, ◌==◌, ◌&&◌, Bool, false, not, List, nat_le, slice_index_or}
-use Rattle.std.specs.List.{list_all}
+use Rattle.std.specs.List.{list_all, list_any}
 use Rattle.muen_num.specs.Numbers.{are_distinct}
 
 -- all in the range, no two equal

@@ -1,9 +1,10 @@
 -- A range lies in one of many that share no address just where it lies in the last of those that begin at its address or
 -- before it.
-use Rattle.std.proofs.Common.{◌≡◌, ℕ, zero, suc, ◌+◌, ◌-◌, ◌<◌, ◌≤◌, inl, inr, Bool, true, false, cond, not, List, [], ◌∷◌, length, get_or, map, None, refl, sym, ap, ◌∙◌, arith}
+use Rattle.std.proofs.Common.{◌≡◌, ℕ, zero, suc, ◌+◌, ◌-◌, ◌<◌, ◌≤◌, inl, inr, Bool, true, false, cond, not, List, [], ◌∷◌, length, get_or, drop, drop-cons, add-one, map, None, refl, sym, ap, ◌∙◌, arith}
 use Rattle.std.specs.Prelude.{◌||◌, nat_le, nat_lt}
 use Rattle.std.specs.List.{All, AllAdjacentBelow, AllWithin, list_all, list_any, position_or_len}
 use Rattle.std.specs.List.Sorted.{IsPartitionedBy, IsPermutation, IsNonDecreasingBy}
+use Rattle.std.proofs.Math.ListN.{drop_of_length-le}
 use Rattle.std.proofs.lemmas.Bool.{cases_order, le-leb, leb-true, ltb-true}
 use Rattle.std.proofs.lemmas.Bool.Decides.{nat_tests}
 use Rattle.std.proofs.lemmas.List.Elements.{All-map, All-weaker}
@@ -74,6 +75,36 @@ divided ranges address up i j d l m h =
 
 pub above : (a b : ℕ) → nat_le a b ≡ false → b < a
 above a b h = grind (arith, nat_tests)
+
+-- ---- one range after another
+
+-- the index of the first that fails, with so many passed
+pub record Counting {X : Type 0} (p : X → Bool) (xs : List X) (i : ℕ) : Type 0 where
+  pub so : i + position_or_len (λ x. not (p x)) (drop i xs) ≡ position_or_len (λ x. not (p x)) xs
+
+pub counting_first : {X : Type 0} (p : X → Bool) (xs : List X) → Counting p xs 0
+counting_first p xs = record { so = omega arith }
+
+step : {X : Type 0} (p : X → Bool) (xs : List X) (i : ℕ) (x : X) → i < length xs → x ≡ get_or xs i x → position_or_len (λ x. not (p x)) (drop i xs) ≡ cond (not (not (p x))) (1 + position_or_len (λ x. not (p x)) (drop (i + 1) xs)) 0
+step p xs i x within is =
+    ap (position_or_len (λ x. not (p x))) (drop-cons xs i x within)
+    ∙ ap (λ z. cond (not (not (p z))) (1 + position_or_len (λ x. not (p x)) (drop (suc i) xs)) 0) (sym is)
+    ∙ ap (λ n. cond (not (not (p x))) (1 + position_or_len (λ x. not (p x)) (drop n xs)) 0) (sym (add-one i))
+
+pub counting_on : {X : Type 0} (p : X → Bool) (xs : List X) (i : ℕ) (x : X) → Counting p xs i → i < length xs → x ≡ get_or xs i x → p x ≡ true → Counting p xs (i + 1)
+counting_on p xs i x c within is passes =
+    let here = step p xs i x within is ∙ ap (λ b. cond (not (not b)) (1 + position_or_len (λ x. not (p x)) (drop (i + 1) xs)) 0) passes in
+    record { so = omega (arith, here, c.so) }
+
+pub counted_here : {X : Type 0} (p : X → Bool) (xs : List X) (i : ℕ) (x : X) → Counting p xs i → i < length xs → x ≡ get_or xs i x → p x ≡ false → i ≡ position_or_len (λ x. not (p x)) xs
+counted_here p xs i x c within is fails =
+    let here = step p xs i x within is ∙ ap (λ b. cond (not (not b)) (1 + position_or_len (λ x. not (p x)) (drop (i + 1) xs)) 0) fails in
+    omega (arith, here, c.so)
+
+pub counted_all : {X : Type 0} (p : X → Bool) (xs : List X) (i : ℕ) → Counting p xs i → i ≡ length xs → length xs ≡ position_or_len (λ x. not (p x)) xs
+counted_all p xs i c end =
+    let rest : position_or_len (λ x. not (p x)) (drop i xs) ≡ 0 = ap (position_or_len (λ x. not (p x))) (drop_of_length-le xs (omega (arith, end))) in
+    omega (arith, rest, c.so, end)
 
 -- ---- the blocks
 

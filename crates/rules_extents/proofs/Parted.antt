@@ -1,11 +1,12 @@
 -- The windows of a subject in parts: those on what its component provides are looked at once, at the component.
-use Rattle.std.proofs.Common.{◌≡◌, ℕ, zero, suc, ◌+◌, true, List, [], ◌∷◌, ◌++◌, map, Option, Some, None, refl, sym, ap, ◌∙◌, subst}
-use Rattle.std.specs.Prelude.{nat_lt, slice_get, IsSomeAnd}
+use Rattle.std.proofs.Common.{◌≡◌, ℕ, zero, suc, ◌+◌, ◌<◌, ◌⊎◌, inl, inr, get_or, true, List, [], ◌∷◌, ◌++◌, length, map, Option, Some, None, refl, sym, ap, ◌∙◌, subst}
+use Rattle.std.specs.Prelude.{nat_lt, slice_get, IfSome, IsSomeAnd}
 use Rattle.std.specs.Option.{option_map_or, option_or}
 use Rattle.std.specs.List.{enumerate_from, list_all}
 use Rattle.std.proofs.lemmas.Bool.{and_from, and_parts}
 use Rattle.std.proofs.lemmas.List.{map-append}
 use Rattle.std.proofs.lemmas.List.Folds.{list_all-append}
+use Rattle.std.proofs.lemmas.Option.{slice_get_read}
 use Rattle.muen_num.specs.Search.{first_in, unless}
 use Rattle.muen_num.proofs.SearchLaws.{first_in-append, none_both, option_or-None, unless_none}
 use Rattle.policy_lawful.specs.ByIndex.{provided_at}
@@ -20,8 +21,8 @@ use Rattle.policy_lawful.specs.source.Component.{Component}
 use Rattle.policy_lawful.specs.source.Provided.{Provided}
 use Rattle.policy_views.specs.Parts.{behind_views, front_views, given_views}
 use Rattle.policy_views.proofs.ViewsInParts.{in_parts}
-use Rattle.rules_extents.specs.Parted.{AreProvided, provided_extent, provided_to}
-use Rattle.rules_extents.specs.Shared.{StayApart}
+use Rattle.rules_extents.specs.Parted.{AreProvided, kept_at, provided_extent, provided_to}
+use Rattle.rules_extents.specs.Shared.{AreKept, StayApart}
 use Rattle.rules_extents.specs.Windows.{component_ranges, elements_offence, outside, outside_in_subject, overlap_in_subject, provided_offence}
 use Rattle.rules_extents.specs.declared.overlap.AddressRange.{AddressRange}
 use Rattle.rules_extents.proofs.RangesByIndex.{has_size}
@@ -111,3 +112,28 @@ module _ (r : Resolution) (s : Subject) (front behind : List View) (in_front : f
         | None ↦ λ is stay. absurd stay
         | Some apart ↦ λ is stay. sym (told kept s.component are apart is stay) ∙ overlap_parted
       ]) refl stay
+
+-- what is kept for one component more
+kept_last : (all : List (Option (List AddressRange))) (o : Option (List AddressRange)) (k : ℕ) (ranges : List AddressRange) → kept_at (all ++ o ∷ []) k ≡ Some ranges → (kept_at all k ≡ Some ranges) ⊎ ((k ≡ length all) × (o ≡ Some ranges))
+kept_last [] o zero ranges e = inr (refl, e)
+kept_last [] o (suc k) ranges e = absurd (cc)
+kept_last (x ∷ all) o zero ranges e = inl e
+kept_last (x ∷ all) o (suc k) ranges e =
+    elim (kept_last all o k ranges e) as (λ _. (kept_at all k ≡ Some ranges) ⊎ ((suc k ≡ suc (length all)) × (o ≡ Some ranges))) [
+      | inl h ↦ inl h
+      | inr h ↦ inr (ap suc h.0, h.1)
+    ]
+
+pub more_provided : (all : List (Option (List AddressRange))) (o : Option (List AddressRange)) (cs : List Component) (i : ℕ) (c : Component) → length all ≡ i → AreProvided all cs → i < length cs → c ≡ get_or cs i c
+    → IfSome o (λ ranges. AreKept ranges (map provided_extent c.provides)) → AreProvided (all ++ o ∷ []) cs
+more_provided all o cs i c room had within is kept k ranges e =
+    elim (kept_last all o k ranges e) as (λ _. (c : Component) × (slice_get cs k ≡ Some c) × AreKept ranges (map provided_extent c.provides)) [
+      | inl h ↦ had k ranges h
+      | inr h ↦
+          let at : k ≡ i = h.0 ∙ room in
+          (c, subst (λ j. slice_get cs j ≡ Some c) (sym at) (slice_get_read cs (length cs) i c refl within is), subst (λ o. IfSome o (λ ranges. AreKept ranges (map provided_extent c.provides))) h.1 kept)
+    ]
+
+pub none_provided : (all : List (Option (List AddressRange))) (cs : List Component) → all ≡ [] → AreProvided all cs
+none_provided [] cs none k ranges e = absurd (cc)
+none_provided (o ∷ all) cs none k ranges e = absurd (cc)
