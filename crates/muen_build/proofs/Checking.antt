@@ -96,14 +96,14 @@ module _ (r : Resolution) (given : Files) (things : List Thing) (declared : AreD
           record {
             number = i;
             item = item.0;
-            there = item.1.0;
-            file = ap (is_of_file l.name) (sym item.1.1.content) ∙ h.0;
+            there = item.1;
+            file = ap (is_of_file l.name) (sym item.2.content) ∙ h.0;
             most = h.1;
             fit = λ k j low at files s.
                 let its = other_at (IsThingOf r (source_of r)) (items_of (source_of r)) things k j declared at in
-                let region = sym its.1.1.region in
-                let content = sym its.1.1.content in
-                (λ n. content_refused (insert_all files given) (region n).tag (region n).size (content n)) ∙ p.passed k its.0 low its.1.0 files (shows files s);
+                let region = sym its.2.region in
+                let content = sym its.2.content in
+                (λ n. content_refused (insert_all files given) (region n).tag (region n).size (content n)) ∙ p.passed k its.0 low its.1 files (shows files s);
           }
 
       pub passing_on : (new_held : Option Store) (new : History) (after : Files) → Grows given (IsAskedBy (thing_names r t)) now_held now new (looks_of found) (looks_of after) → Passes given (looks_of after) (thing_refused r t) → new_held ≡ now_held

@@ -103,8 +103,5 @@ module _ (p : Source) where
     lines_of_front n low = front_lines n r.end low
 
 pub all_below : LinesEndWithRuns
-all_below p f r = lines_of_front p f r r.end (omega arith) ∙ sym (run_lines p f r)
-  where
-    run_lines : (p : Source) (f : Held) (r : DeviceRecord) → (run_of p f r).lines ≡ (run_to (system p) (inputs_at r) (order_at p r) r.end (start_of p f)).lines
-    unfolding run_of
-    run_lines p f r = refl
+unfolding run_of
+all_below p f r = lines_of_front p f r r.end (omega arith)
