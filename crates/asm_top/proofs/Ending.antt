@@ -3,7 +3,7 @@ use Rattle.std.proofs.Common.{◌≡◌, inl, inr, ℕ, List, [], ◌∷◌, ◌
 use Rattle.std.proofs.Math.Seq.{drop-append_seam}
 use Rattle.asm_text.specs.Meaning.{assembled}
 use Rattle.asm_listing.specs.Source.{source_of}
-use Rattle.muen_outside.specs.Looks.{HeldAfter, ShowAll, WriteLeaves, looks_since, writes_since}
+use Rattle.muen_outside.specs.Looks.{HeldAfter, IsPossibleEnd, ShowAll, WriteLeaves, looks_since, writes_since}
 use Rattle.muen_outside.specs.States.{History, Look, SinkState, Write, look, looked, went, write, written}
 use Rattle.muen_outside.specs.Store.{Reading, Store, absent, long, whole}
 use Rattle.muen_outside.specs.declared.files.FileError.{FileError}
@@ -19,7 +19,6 @@ use Rattle.muen_num.specs.declared.limits.TheConstants.{COMPONENT_FILE_MOST}
 use Rattle.asm_top.specs.declared.limits.TheConstants.{SOURCE_MOST}
 use Rattle.asm_top.specs.declared.report.CommandError.{CommandError}
 use Rattle.asm_top.specs.declared.report.CommandError.TheVariants.{Usage, Missing, TooLong, Refused, RefusedIn, FileFault, OutputFault, NoMemory}
-use Rattle.asm_top.specs.declared.status.Status.TheVariants as statuses
 
 abbrev Outcome : Type 0
 Outcome = Result (Unit {0}) CommandError
@@ -64,6 +63,7 @@ module _ (c : Command) (held : Option Store) (old new : History) (front text : L
             let e = ends_with old after out out' outcome err err' in
             subst (LooksBoth e c) (sym is) (
               Ok (whole text),
+              subst (λ n. IsPossibleEnd n (Ok (whole text))) (sym limit) s.1.possible,
               subst (λ n. DoesOrNot e (looked old (look (input_file_of c) n (Ok (whole text)) ∷ [])) (answer_of c [] text)) (sym limit)
                   (subst (λ h. DoesOrNot e h (answer_of c [] text)) s.1.history (subst (λ f. DoesOrNot e new (answer_of c f text)) s.0 does)),
             );
@@ -80,8 +80,10 @@ module _ (c : Command) (held : Option Store) (old new : History) (front text : L
             let e = ends_with old after out out' outcome err err' in
             subst (LooksBoth e c) (sym is) (
               Ok (whole s.first),
+              s.saw_names.possible,
               (
                 Ok (whole text),
+                subst (λ n. IsPossibleEnd n (Ok (whole text))) (sym limit) s.saw.possible,
                 subst (λ n. DoesOrNot e (looked (looked old (a ∷ [])) (look (input_file_of c) n (Ok (whole text)) ∷ [])) (answer_of c (ended s.first) text)) (sym limit)
                     (subst (λ h. DoesOrNot e h (answer_of c (ended s.first) text)) both (subst (λ f. DoesOrNot e new (answer_of c f text)) s.is does)),
               ),
@@ -120,11 +122,11 @@ module _ (c : Command) (held held' : Option Store) (old new : History) (same : h
         → (err err' : SinkState) → Reported err err' (Err error) → SourceNotRead name most held before new error
         → LooksAt (ends_with old new out out' (Err error) err err') name most (λ seen bytes. next seen bytes) before
     failed name most before next (Missing n) err err' r h =
-        (Ok absent, (h.1.history, record { ended = refl; quiet = quiet; told = subst (λ x. Told (missing_text x) err err') h.0 r }))
+        (Ok absent, h.1.possible, (h.1.history, record { ended = refl; quiet = quiet; told = subst (λ x. Told (missing_text x) err err') h.0 r }))
     failed name most before next (TooLong n k) err err' r h =
-        (Ok (long k), (h.1.history, record { ended = refl; quiet = quiet; told = subst (λ x. Told (too_long_text x k) err err') h.0 r }))
-    failed name most before next FileFault err err' r h = (Err FileFailed, (h.history, record { ended = refl; quiet = quiet; told = r }))
-    failed name most before next NoMemory err err' r h = (Err FileMemory, (h.history, record { ended = refl; quiet = quiet; told = r }))
+        (Ok (long k), h.1.possible, (h.1.history, record { ended = refl; quiet = quiet; told = subst (λ x. Told (too_long_text x k) err err') h.0 r }))
+    failed name most before next FileFault err err' r h = (Err FileFailed, h.possible, (h.history, record { ended = refl; quiet = quiet; told = r }))
+    failed name most before next NoMemory err err' r h = (Err FileMemory, h.possible, (h.history, record { ended = refl; quiet = quiet; told = r }))
     failed name most before next Usage err err' r h = absurd h
     failed name most before next (Refused f) err err' r h = absurd h
     failed name most before next (RefusedIn f l k w) err err' r h = absurd h
@@ -183,6 +185,7 @@ module _ (c : Command) (held held' : Option Store) (old new : History) (same : h
           let e = ends_with old new out out' (Err error) err err' in
           subst (LooksBoth e c) (sym is) (
             Ok (whole h.first),
+            h.saw_names.possible,
             subst (λ x. LooksBehind e c (ended h.first) x) mid
                 (failed (input_file_of c) (most_of c) h.between (λ seen bytes. DoesOrNot e seen (answer_of c (ended h.first) bytes)) error err err' r
                 (subst (λ n. SourceNotRead (input_file_of c) n held h.between new error) (sym limit) h.not_read)),
@@ -215,7 +218,7 @@ bytes_printed file held held' old new same out out' bytes saw outcome put =
       told = saw.told;
       left = same;
       comes = λ err err' r.
-          (Ok (whole bytes), subst (λ h. DoesOrNot (ends_with old new out out' outcome err err') h (prints (source_of bytes))) saw.history (puts_so old new (source_of bytes) out out' outcome put err err' r));
+          (Ok (whole bytes), saw.possible, subst (λ h. DoesOrNot (ends_with old new out out' outcome err err') h (prints (source_of bytes))) saw.history (puts_so old new (source_of bytes) out out' outcome put err err' r));
     }
 
 -- ---- of a write

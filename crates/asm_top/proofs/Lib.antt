@@ -1,2 +1,3 @@
-pub mod Ending
-pub mod Looking
+mod Completing
+mod Ending
+mod Looking

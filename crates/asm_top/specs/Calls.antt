@@ -1,5 +1,6 @@
 -- What a call does: it looks at its file, after one of names if there is one, and does what the words are answered to what they have.
 use Rattle.std.specs.Prelude.{◌≡◌, ◌⊎◌, ℕ, List, [], ◌∷◌, ◌++◌, Option, Some, None, Result, Ok, Err, codes, decimal}
+use Rattle.muen_outside.specs.Looks.{IsPossibleEnd}
 use Rattle.muen_outside.specs.Puts.{Appended, Failed}
 use Rattle.muen_outside.specs.States.{History, SinkState, look, looked, write, written}
 use Rattle.muen_outside.specs.Store.{Reading, whole, absent, long}
@@ -90,10 +91,10 @@ Comes e name next seen (Ok (long n)) = (e.after ≡ seen) × Stops e statuses.Fi
 Comes e name next seen (Err ReadFailed) = (e.after ≡ seen) × Stops e statuses.FileFault (codes "file fault")
 Comes e name next seen (Err ReadMemory) = (e.after ≡ seen) × Stops e statuses.NoMemory no_memory_text
 
--- a file is looked at, and this comes of it
+-- a file is looked at, with an answer that the limit allows, and this comes of it
 abbrev pub LooksAt : Ends → List ℕ → ℕ → (History → List ℕ → Type 0) → History → Type 0
 LooksAt e name most next before =
-    (got : Result Reading FileError) × Comes e name (next (looked before (look name most got ∷ []))) (looked before (look name most got ∷ [])) got
+    (got : Result Reading FileError) × IsPossibleEnd most got × Comes e name (next (looked before (look name most got ∷ []))) (looked before (look name most got ∷ [])) got
 
 -- .. the command's own file, before whose bytes these stand
 abbrev pub LooksBehind : Ends → Command → List ℕ → History → Type 0

@@ -2,8 +2,8 @@
 use Rattle.std.specs.Prelude.{◌≡◌, ℕ, List, [], ◌∷◌, Option, Some, None, IfSome, Result, Ok, Err}
 use Rattle.muen_outside.specs.Looks.{HeldAfter, ShowAll}
 use Rattle.muen_outside.specs.Puts.{Appended, Failed}
-use Rattle.muen_outside.specs.States.{History, Look, SinkState, Write, look, looked, went, write, written}
-use Rattle.muen_outside.specs.Store.{Reading, Store}
+use Rattle.muen_outside.specs.States.{History, Look, SinkState, Write, went, write, written}
+use Rattle.muen_outside.specs.Store.{Store}
 use Rattle.muen_outside.specs.Looks.{WriteLeaves}
 use Rattle.muen_outside.specs.declared.files.FileError.{FileError}
 use Rattle.muen_outside.specs.declared.files.FileError.TheVariants.{Failed as WriteFailed, NoMemory as WriteMemory}

@@ -2,7 +2,7 @@
 use Rattle.std.specs.Prelude.{◌≡◌, ◌⊎◌, ℕ, List, [], ◌∷◌, ◌++◌, Option, Some, None, IfSome, Result, Ok, Err}
 use Rattle.asm_text.specs.Meaning.{assembled}
 use Rattle.asm_text.specs.declared.fault.SourceFault.{SourceFault}
-use Rattle.muen_outside.specs.Looks.{ShowAll}
+use Rattle.muen_outside.specs.Looks.{IsPossibleEnd, ShowAll}
 use Rattle.muen_outside.specs.States.{History, look, looked}
 use Rattle.muen_outside.specs.Store.{Reading, Store, absent, long, whole}
 use Rattle.muen_outside.specs.declared.files.FileError.{FileError}
@@ -14,9 +14,10 @@ use Rattle.asm_top.specs.declared.report.CommandError.{CommandError}
 use Rattle.asm_top.specs.declared.report.CommandError.TheVariants.{Missing, TooLong, FileFault, NoMemory}
 use Rattle.asm_top.specs.declared.status.Status.TheVariants as statuses
 
--- one look was made, at this name with this limit, and gave this; files that tell what they hold show it
+-- one look was made, at this name with this limit, and gave this, which the limit allows; files that tell what they hold show it
 pub record Saw (name : List ℕ) (most : ℕ) (got : Result Reading FileError) (held : Option Store) (old new : History) : Type 0 where
   pub history : new ≡ looked old (look name most got ∷ [])
+  pub possible : IsPossibleEnd most got
   pub told : IfSome held (λ m. ShowAll m (look name most got ∷ []))
 
 -- why a look gives no bytes

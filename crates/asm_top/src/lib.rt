@@ -4,6 +4,7 @@
 ghost use Rattle.std.specs.Prelude.{IfSome, map, string_bytes};
 ghost use Rattle.muen_outside.specs.Looks.{HeldAfter, ShowAll, looks_since, writes_since};
 ghost use Rattle.asm_top.specs.Calls.{IsCall, ends};
+ghost use Rattle.asm_top.specs.Complete.{IsComplete};
 
 mod command;
 mod limits;
@@ -44,6 +45,9 @@ pub fn muen_asm<F: Files, S: Sink, E: Sink>(
     // One look at each file that the words name to be read, and exactly what is answered to what they gave: a text, a write,
     // or the reason why not; each failed call, and refused memory, with its status.
     ensures call { IsCall (map string_bytes words.now) (ends (F.history files.old) (F.history files.new) (S.state out.old) (S.state out.new) (E.state err.old) (E.state err.new) result) }
+    // Where no look, no write and no put fails, and memory suffices, it does the whole of what the words are answered over
+    // each store that agrees with the looks, and nothing else: so 4 and 7 come of a failure alone.
+    ensures complete { IsComplete (map string_bytes words.now) (ends (F.history files.old) (F.history files.new) (S.state out.old) (S.state out.new) (E.state err.old) (E.state err.new) result) }
     // What files tell of what they hold agrees with these looks, and changes as the write has it.
     ensures agrees { IfSome (F.held files.old) (λ m. ShowAll m (looks_since (F.history files.old) (F.history files.new))) }
     ensures held { HeldAfter (writes_since (F.history files.old) (F.history files.new)) (F.held files.old) (F.held files.new) }

@@ -7,6 +7,7 @@ ghost use Rattle.muen_outside.specs.States.{SinkState};
 ghost use Rattle.asm_top.specs.Answers.{hex_text};
 ghost use Rattle.asm_top.specs.Calls.{IsCall, ends};
 ghost use Rattle.asm_top.specs.Commands.{bin, command_of, hex, lines, text};
+ghost use Rattle.asm_top.specs.Complete.{IsComplete};
 ghost use Rattle.asm_top.specs.Outcomes.{ComesOf, ComesTo, PutsTo, WritesTo};
 
 use crate::command::Command;
@@ -178,6 +179,7 @@ pub(crate) fn call<F: Files, S: Sink, E: Sink>(
     err: &mut E,
 ) -> Status
     ensures call { IsCall (map string_bytes words.now) (ends (F.history files.old) (F.history files.new) (S.state out.old) (S.state out.new) (E.state err.old) (E.state err.new) result) }
+    ensures complete { IsComplete (map string_bytes words.now) (ends (F.history files.old) (F.history files.new) (S.state out.old) (S.state out.new) (E.state err.old) (E.state err.new) result) }
     ensures agrees { IfSome (F.held files.old) (λ m. ShowAll m (looks_since (F.history files.old) (F.history files.new))) }
     ensures held { HeldAfter (writes_since (F.history files.old) (F.history files.new)) (F.held files.old) (F.held files.new) }
 {

@@ -4,19 +4,20 @@ use Rattle.std.specs.Prelude.{◌==◌}
 use Rattle.std.specs.List.{enumerate_from}
 use Rattle.std.specs.Str.{bytes_eq}
 use Rattle.std.proofs.lemmas.List.{length-map}
+use Rattle.std.proofs.lemmas.List.Elements.{All-map}
 use Rattle.std.proofs.lemmas.Option.{slice_get_within}
 use Rattle.muen_num.proofs.Lists.{map-map}
 use Rattle.policy_lawful.specs.Resolution.{IsResolved, Resolution, source_of, subject_named}
 use Rattle.policy_lawful.specs.declared.resolved.Subject.{Subject}
 use Rattle.policy_lawful.specs.source.Subject.{Subject as NamedSubject}
 use Rattle.policy_flows.specs.Flows.{closure_of, flows_to}
-use Rattle.muen_num.proofs.Members.{In, map_agree}
+use Rattle.muen_num.proofs.Members.{In, all_from, map_agree}
 use Rattle.flow_report.specs.ByIndex.{all_contacts_of, contacts_of, flows_between, rows_of}
 use Rattle.flow_report.specs.Marks.{after_rounds, alone_marked, sets_after}
-use Rattle.flow_report.specs.Sets.{AreFlows, members_of}
+use Rattle.flow_report.specs.Sets.{AreFlows, HaveMarksOf, members_of}
 use Rattle.flow_report.specs.declared.contacts.Contacts.{Contacts}
 use Rattle.flow_report.proofs.DirectFlows.{flows_same, names_unique}
-use Rattle.flow_report.proofs.MarkedSets.{members_are}
+use Rattle.flow_report.proofs.MarkedSets.{marks_many, members_are}
 use Rattle.flow_report.proofs.IndexesOfSubjects.{At, at_number, own_name, same_subject}
 
 -- ---- tables
@@ -77,6 +78,9 @@ module _ (r : Resolution) (q : IsResolved r) where
   set_same : (x : ℕ × Subject) → In x numbered → members_of (source_of r) (after_rounds (rows_of (all_contacts_of r)) (alone_marked (all_contacts_of r) (contacts_of r x).index) (length (all_contacts_of r))) ≡ closure_of (source_of r) (named x).name
   set_same (j, s) h = members_are (source_of r) (names_unique r q) s.name (rows_of (all_contacts_of r)) (alone_marked (all_contacts_of r) j) rows_same (alone_same (j, s) h) (length (all_contacts_of r)) as_many
 
+  many_marks : (x : ℕ × Subject) → In x numbered → length (after_rounds (rows_of (all_contacts_of r)) (alone_marked (all_contacts_of r) (contacts_of r x).index) (length (all_contacts_of r))) ≡ length (source_of r).subjects
+  many_marks (j, s) h = marks_many (source_of r) (names_unique r q) s.name (rows_of (all_contacts_of r)) (alone_marked (all_contacts_of r) j) rows_same (alone_same (j, s) h) (length (all_contacts_of r))
+
   pub flows_are : AreFlows (source_of r) (sets_after (all_contacts_of r) (length (all_contacts_of r)))
   flows_are =
       let set : Contacts → List Bool = λ f. after_rounds (rows_of (all_contacts_of r)) (alone_marked (all_contacts_of r) f.index) (length (all_contacts_of r)) in
@@ -85,3 +89,9 @@ module _ (r : Resolution) (q : IsResolved r) where
       ∙ map_agree (λ x. members_of (source_of r) (set (contacts_of r x))) (λ x. closure_of (source_of r) (named x).name) numbered (λ x h. set_same x h)
       ∙ sym (map-map (λ (s : NamedSubject). closure_of (source_of r) s.name) named numbered)
       ∙ ap (map (λ (s : NamedSubject). closure_of (source_of r) s.name)) (sym subjects_numbered)
+
+  pub marks_are : HaveMarksOf (source_of r) (sets_after (all_contacts_of r) (length (all_contacts_of r)))
+  marks_are =
+      let set : Contacts → List Bool = λ f. after_rounds (rows_of (all_contacts_of r)) (alone_marked (all_contacts_of r) f.index) (length (all_contacts_of r)) in
+      let Many : List Bool → Type 0 = λ marks. length marks ≡ length (source_of r).subjects in
+      All-map Many set (all_contacts_of r) (All-map (λ f. Many (set f)) (contacts_of r) numbered (all_from (λ x. Many (set (contacts_of r x))) numbered (λ x h. many_marks x h)))

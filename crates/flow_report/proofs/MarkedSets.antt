@@ -4,6 +4,7 @@ use Rattle.std.specs.Prelude.{◌&&◌, ◌||◌}
 use Rattle.std.specs.List.{AllZip, list_any, zip}
 use Rattle.std.specs.Str.{bytes_eq}
 use Rattle.std.proofs.lemmas.Bool.Decides.{same_from_decides}
+use Rattle.std.proofs.lemmas.List.{length-map}
 use Rattle.policy_lawful.specs.source.Source.{Source}
 use Rattle.policy_lawful.specs.source.Subject.{Subject}
 use Rattle.policy_flows.specs.Flows.{IsLeastClosed, closure_of, flows_to, is_member, rounds}
@@ -62,6 +63,12 @@ module _ (p : Source) (unique : HasUniqueNames p) (name : List ℕ) where
       (λ k. sym (member_is n u i) k || list_any (λ s. test s && flows_to p u s) p.subjects)
       ∙ ap (λ b. is_member (members_after p name n) u || b)
       (any_agree (λ s. test s && flows_to p u s) (λ s. is_member (members_after p name n) s && flows_to p u s) p.subjects (λ s j. ap (λ b. b && flows_to p u s) (sym (member_is n s j)))))
+
+  -- there is one for each subject
+  pub marks_many : (rows : List (List Bool)) (marks : List Bool) → rows ≡ map (λ u. map (flows_to p u) p.subjects) p.subjects → marks ≡ map (λ u. bytes_eq u.name name) p.subjects
+      → (n : ℕ) → length (after_rounds rows marks n) ≡ length p.subjects
+  unfolding after_rounds
+  marks_many rows marks is start n = ap length (marks_after rows marks is start n) ∙ length-map p.subjects (test_after p name n)
 
   -- they are the closure's
   pub members_are : (rows : List (List Bool)) (marks : List Bool) → rows ≡ map (λ u. map (flows_to p u) p.subjects) p.subjects → marks ≡ map (λ u. bytes_eq u.name name) p.subjects

@@ -1,5 +1,5 @@
 -- For each subject of a policy the set of those that can reach it, by indexes.
-use Rattle.std.specs.Prelude.{◌≡◌, ℕ, Bool, true, false, List, [], ◌∷◌, map}
+use Rattle.std.specs.Prelude.{◌≡◌, ℕ, Bool, true, false, List, [], ◌∷◌, length, map}
 use Rattle.std.specs.List.{All, AllZip}
 use Rattle.policy_lawful.specs.source.Source.{Source}
 use Rattle.policy_flows.specs.Flows.{IsLeastClosed, closure_of}
@@ -19,6 +19,10 @@ members_of p set = marked_elements set (map (λ s. s.name) p.subjects)
 -- for each subject the closed set
 abbrev pub AreFlows : Source → List (List Bool) → Type 0
 AreFlows p sets = map (members_of p) sets ≡ map (λ s. closure_of p s.name) p.subjects
+
+-- each has a mark for each subject, and none behind them
+abbrev pub HaveMarksOf : Source → List (List Bool) → Type 0
+HaveMarksOf p sets = All (λ set. length set ≡ length p.subjects) sets
 
 -- for each subject the least closed set with it
 abbrev pub AreLeastClosed : Source → List (List Bool) → Type 0

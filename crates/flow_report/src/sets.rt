@@ -3,7 +3,7 @@ ghost use Rattle.std.specs.Prelude.{◌≡◌, map, IfOk};
 ghost use Rattle.policy_lawful.specs.Resolution.{source_of};
 ghost use Rattle.flow_report.specs.ByIndex.{flows_between, rows_of};
 ghost use Rattle.flow_report.specs.Marks.{after_rounds, alone_marked, round, sets_after, have_common_mark};
-ghost use Rattle.flow_report.specs.Sets.{AreApart, AreFlows, AreLeastClosed};
+ghost use Rattle.flow_report.specs.Sets.{AreApart, AreFlows, AreLeastClosed, HaveMarksOf};
 
 use crate::contacts::{Contacts, all_contacts, flows_between};
 use muen_num::{NoMemory, Seq};
@@ -133,6 +133,7 @@ fn sets_after(
 /// Answers `NoMemory` where memory was refused.
 pub fn flows(alloc: Global, policy: &Lawful) -> Result<FlowSets, NoMemory>
     ensures sets { IfOk result (AreFlows (source_of policy.now)) }
+    ensures marks { IfOk result (HaveMarksOf (source_of policy.now)) }
     ensures least { IfOk result (AreLeastClosed (source_of policy.now)) }
     // And nothing else reaches the members of these sets.
     ensures apart { IfOk result (AreApart (source_of policy.now)) }

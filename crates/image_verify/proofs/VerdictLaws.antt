@@ -24,10 +24,9 @@ use Rattle.image_verify.proofs.Checked.{stand_for}
 use Rattle.image_verify.specs.Filled.{IsFilled}
 use Rattle.image_verify.specs.Stand.{StandForTables}
 use Rattle.image_verify.specs.TablePages.{pages_of_all}
-use Rattle.image_verify.specs.Verdict.{FailsFirstFor, FirstOf, Holds, IsFailure, IsTableFault, IsTwice, IsVerdict, by_kind, common, in_order, named, plan_owner, subject_name, subject_owner, image_tables_of}
+use Rattle.image_verify.specs.Verdict.{FailsFirstFor, FirstOf, Holds, IsFailure, IsTableFault, IsTwice, IsVerdict, Kept, areas, bitmaps, by_kind, common, condition_of, in_order, own_pages, plan, states, named, plan_owner, subject_name, subject_owner, image_tables_of}
 use Rattle.image_verify.specs.Windows.{tables_of_subjects}
-use Rattle.image_verify.specs.declared.fault.Condition.{Condition}
-use Rattle.image_verify.specs.declared.fault.Condition.TheVariants.{Contents, Tables as TableEntries, Bitmaps, Areas, States, OwnPages, Plan}
+use Rattle.image_verify.specs.declared.fault.Condition.TheVariants.{Contents}
 use Rattle.image_verify.specs.declared.fault.Fault.{Fault}
 use Rattle.image_verify.specs.declared.fault.Fault.TheVariants.{Fails}
 use Rattle.image_verify.specs.declared.fault.Owner.{Owner}
@@ -93,55 +92,49 @@ one_other p files i a b x y =
 -- ---- what the kernel keeps, and the plan
 
 -- a condition that holds doesn't fail
-fails_not : (p : Source) (i : Image) (c : Condition) (owner : Owner) → FailsFirstFor p i c owner → Holds p i c → ⊥
-fails_not p i Bitmaps owner h all = none_first (λ (e : Subject × SubjectPart). HasBitmaps p i e.0 e.1) (zip p.subjects i.subjects) h.k all h.first
-fails_not p i Areas owner h all = none_first (λ (e : Subject × SubjectPart). HasArea i e.0 e.1) (zip p.subjects i.subjects) h.k all h.first
-fails_not p i States owner h all = none_first (λ (e : Subject × SubjectPart). IsFresh i e.0 e.1) (zip p.subjects i.subjects) h.k all h.first
-fails_not p i OwnPages owner h all =
+fails_not : (p : Source) (i : Image) (c : Kept) (owner : Owner) → FailsFirstFor p i c owner → Holds p i c → ⊥
+fails_not p i bitmaps owner h all = none_first (λ (e : Subject × SubjectPart). HasBitmaps p i e.0 e.1) (zip p.subjects i.subjects) h.k all h.first
+fails_not p i areas owner h all = none_first (λ (e : Subject × SubjectPart). HasArea i e.0 e.1) (zip p.subjects i.subjects) h.k all h.first
+fails_not p i states owner h all = none_first (λ (e : Subject × SubjectPart). IsFresh i e.0 e.1) (zip p.subjects i.subjects) h.k all h.first
+fails_not p i own_pages owner h all =
     let parts = common p i in
     none_first (SharesWithNone parts) (numbers_below (length parts)) h.k (each_shares_none parts all) h.first
-fails_not p i Plan owner h all = a_plan_fault_is_none_of_a_sound_image p i h.differs h.first all
-fails_not p i Contents owner h all = absurd h
-fails_not p i TableEntries owner h all = absurd h
+fails_not p i plan owner h all = a_plan_fault_is_none_of_a_sound_image p i h.differs h.first all
 
 -- it fails first for one
-one_owner : (p : Source) (i : Image) (c : Condition) (a b : Owner) → FailsFirstFor p i c a → FailsFirstFor p i c b → a ≡ b
-one_owner p i Bitmaps a b x y = x.is ∙ ap (subject_owner p) (one_first (λ (e : Subject × SubjectPart). HasBitmaps p i e.0 e.1) (zip p.subjects i.subjects) x.k y.k x.first y.first) ∙ sym y.is
-one_owner p i Areas a b x y = x.is ∙ ap (subject_owner p) (one_first (λ (e : Subject × SubjectPart). HasArea i e.0 e.1) (zip p.subjects i.subjects) x.k y.k x.first y.first) ∙ sym y.is
-one_owner p i States a b x y = x.is ∙ ap (subject_owner p) (one_first (λ (e : Subject × SubjectPart). IsFresh i e.0 e.1) (zip p.subjects i.subjects) x.k y.k x.first y.first) ∙ sym y.is
-one_owner p i OwnPages a b x y =
+one_owner : (p : Source) (i : Image) (c : Kept) (a b : Owner) → FailsFirstFor p i c a → FailsFirstFor p i c b → a ≡ b
+one_owner p i bitmaps a b x y = x.is ∙ ap (subject_owner p) (one_first (λ (e : Subject × SubjectPart). HasBitmaps p i e.0 e.1) (zip p.subjects i.subjects) x.k y.k x.first y.first) ∙ sym y.is
+one_owner p i areas a b x y = x.is ∙ ap (subject_owner p) (one_first (λ (e : Subject × SubjectPart). HasArea i e.0 e.1) (zip p.subjects i.subjects) x.k y.k x.first y.first) ∙ sym y.is
+one_owner p i states a b x y = x.is ∙ ap (subject_owner p) (one_first (λ (e : Subject × SubjectPart). IsFresh i e.0 e.1) (zip p.subjects i.subjects) x.k y.k x.first y.first) ∙ sym y.is
+one_owner p i own_pages a b x y =
     let parts = common p i in
     x.is ∙ ap (subject_owner p) (one_first (SharesWithNone parts) (numbers_below (length parts)) x.k y.k x.first y.first) ∙ sym y.is
-one_owner p i Plan a b x y =
+one_owner p i plan a b x y =
     x.is ∙ ap (plan_owner p i) (one_value (Some x.differs) x.differs y.differs refl (one_plan_fault p i (Some x.differs) (Some y.differs) x.first y.first)) ∙ sym y.is
-one_owner p i Contents a b x y = absurd x
-one_owner p i TableEntries a b x y = absurd x
 
 -- there is one first
-one_in_order : (p : Source) (i : Image) (Rest : Option Fault → Type 0) → ((a b : Option Fault) → Rest a → Rest b → a ≡ b) → (cs : List Condition) (a b : Option Fault) → FirstOf p i Rest cs a → FirstOf p i Rest cs b → a ≡ b
+one_in_order : (p : Source) (i : Image) (Rest : Option Fault → Type 0) → ((a b : Option Fault) → Rest a → Rest b → a ≡ b) → (cs : List Kept) (a b : Option Fault) → FirstOf p i Rest cs a → FirstOf p i Rest cs b → a ≡ b
 one_in_order p i Rest one [] a b x y = one a b x y
-one_in_order p i Rest one (c ∷ cs) a b (inl x) (inl y) = x.is ∙ ap (λ owner. Some (Fails c owner)) (one_owner p i c x.owner y.owner x.fails y.fails) ∙ sym y.is
+one_in_order p i Rest one (c ∷ cs) a b (inl x) (inl y) = x.is ∙ ap (λ owner. Some (Fails (condition_of c) owner)) (one_owner p i c x.owner y.owner x.fails y.fails) ∙ sym y.is
 one_in_order p i Rest one (c ∷ cs) a b (inl x) (inr y) = absurd (fails_not p i c x.owner x.fails y.0)
 one_in_order p i Rest one (c ∷ cs) a b (inr x) (inl y) = absurd (fails_not p i c y.owner y.fails x.0)
 one_in_order p i Rest one (c ∷ cs) a b (inr x) (inr y) = one_in_order p i Rest one cs a b x.1 y.1
 
 -- where all hold the rest says what it is
-last_of : (p : Source) (i : Image) (Rest : Option Fault → Type 0) → ((c : Condition) → Holds p i c) → (cs : List Condition) (o : Option Fault) → FirstOf p i Rest cs o → Rest o
+last_of : (p : Source) (i : Image) (Rest : Option Fault → Type 0) → ((c : Kept) → Holds p i c) → (cs : List Kept) (o : Option Fault) → FirstOf p i Rest cs o → Rest o
 last_of p i Rest all [] o h = h
 last_of p i Rest all (c ∷ cs) o (inl h) = absurd (fails_not p i c h.owner h.fails (all c))
 last_of p i Rest all (c ∷ cs) o (inr h) = last_of p i Rest all cs o h.1
 
-each_holds : (p : Source) (files : Held) (i : Image) → IsSound p files i → (c : Condition) → Holds p i c
-each_holds p files i s Bitmaps = s.bitmaps
-each_holds p files i s Areas = s.msr_areas
-each_holds p files i s States = s.fresh_states
-each_holds p files i s OwnPages = s.own_pages
-each_holds p files i s Plan = s.plan_and_events
-each_holds p files i s Contents = tt
-each_holds p files i s TableEntries = tt
+each_holds : (p : Source) (files : Held) (i : Image) → IsSound p files i → (c : Kept) → Holds p i c
+each_holds p files i s bitmaps = s.bitmaps
+each_holds p files i s areas = s.msr_areas
+each_holds p files i s states = s.fresh_states
+each_holds p files i s own_pages = s.own_pages
+each_holds p files i s plan = s.plan_and_events
 
-no_failure : (p : Source) (i : Image) (c : Condition) → IsFailure p i c None → ⊥
-no_failure p i c h = none-some (Fails c h.owner) h.is
+no_failure : (p : Source) (i : Image) (c : Kept) → IsFailure p i c None → ⊥
+no_failure p i c h = none-some (Fails (condition_of c) h.owner) h.is
 
 -- what holds where none fails
 pub record AreKept (p : Source) (i : Image) : Type 0 where
@@ -152,12 +145,12 @@ pub record AreKept (p : Source) (i : Image) : Type 0 where
   pub plan : HasPlanAndEvents p i
 
 pub are_kept : (p : Source) (i : Image) (Rest : Option Fault → Type 0) → FirstOf p i Rest in_order None → AreKept p i × Rest None
-are_kept p i Rest (inl h) = absurd (no_failure p i Bitmaps h)
-are_kept p i Rest (inr (b, inl h)) = absurd (no_failure p i Areas h)
-are_kept p i Rest (inr (b, inr (a, inl h))) = absurd (no_failure p i States h)
-are_kept p i Rest (inr (b, inr (a, inr (s, inl h)))) = absurd (no_failure p i OwnPages h)
-are_kept p i Rest (inr (b, inr (a, inr (s, inr (o, inl h))))) = absurd (no_failure p i Plan h)
-are_kept p i Rest (inr (b, inr (a, inr (s, inr (o, inr (plan, rest)))))) = (record { bitmaps = b; areas = a; states = s; own = o; plan = plan }, rest)
+are_kept p i Rest (inl h) = absurd (no_failure p i bitmaps h)
+are_kept p i Rest (inr (b, inl h)) = absurd (no_failure p i areas h)
+are_kept p i Rest (inr (b, inr (a, inl h))) = absurd (no_failure p i states h)
+are_kept p i Rest (inr (b, inr (a, inr (s, inl h)))) = absurd (no_failure p i own_pages h)
+are_kept p i Rest (inr (b, inr (a, inr (s, inr (o, inl h))))) = absurd (no_failure p i plan h)
+are_kept p i Rest (inr (b, inr (a, inr (s, inr (o, inr (k, rest)))))) = (record { bitmaps = b; areas = a; states = s; own = o; plan = k }, rest)
 
 -- ---- tables
 

@@ -59,15 +59,28 @@ plan_owner p i (OfDevice k) = device_owner p i k
 abbrev pub common : Source → Image → List SubjectPart
 common p i = take (length p.subjects) i.subjects
 
--- those of what the kernel keeps, and of the plan
-abbrev pub Holds : Source → Image → Condition → Type 0
-Holds p i Bitmaps = ForEachSubject p i (HasBitmaps p i)
-Holds p i Areas = ForEachSubject p i (HasArea i)
-Holds p i States = ForEachSubject p i (IsFresh i)
-Holds p i OwnPages = HaveOwnPages p i
-Holds p i Plan = HasPlanAndEvents p i
-Holds p i Contents = Unit {0}
-Holds p i TableEntries = Unit {0}
+-- what is asked behind the contents: what the kernel keeps for each subject, and the plan
+pub data Kept : Type 0 where
+  bitmaps : Kept
+  areas : Kept
+  states : Kept
+  own_pages : Kept
+  plan : Kept
+
+-- the condition as a fault names it
+abbrev pub condition_of : Kept → Condition
+condition_of bitmaps = Bitmaps
+condition_of areas = Areas
+condition_of states = States
+condition_of own_pages = OwnPages
+condition_of plan = Plan
+
+abbrev pub Holds : Source → Image → Kept → Type 0
+Holds p i bitmaps = ForEachSubject p i (HasBitmaps p i)
+Holds p i areas = ForEachSubject p i (HasArea i)
+Holds p i states = ForEachSubject p i (IsFresh i)
+Holds p i own_pages = HaveOwnPages p i
+Holds p i plan = HasPlanAndEvents p i
 
 -- it fails for a subject, and for none before it
 pub record FailsFor (p : Source) {X : Type 0} (P : X → Type 0) (xs : List X) (owner : Owner) : Type 0 where
@@ -80,28 +93,26 @@ pub record FailsInPlan (p : Source) (i : Image) (owner : Owner) : Type 0 where
   pub first : IsPlanFault p i (Some differs)
   pub is : owner ≡ plan_owner p i differs
 
-abbrev pub FailsFirstFor : Source → Image → Condition → Owner → Type 0
-FailsFirstFor p i Bitmaps owner = FailsFor p (λ (e : Subject × SubjectPart). HasBitmaps p i e.0 e.1) (zip p.subjects i.subjects) owner
-FailsFirstFor p i Areas owner = FailsFor p (λ (e : Subject × SubjectPart). HasArea i e.0 e.1) (zip p.subjects i.subjects) owner
-FailsFirstFor p i States owner = FailsFor p (λ (e : Subject × SubjectPart). IsFresh i e.0 e.1) (zip p.subjects i.subjects) owner
-FailsFirstFor p i OwnPages owner = FailsFor p (SharesWithNone (common p i)) (numbers_below (length (common p i))) owner
-FailsFirstFor p i Plan owner = FailsInPlan p i owner
-FailsFirstFor p i Contents owner = ⊥
-FailsFirstFor p i TableEntries owner = ⊥
+abbrev pub FailsFirstFor : Source → Image → Kept → Owner → Type 0
+FailsFirstFor p i bitmaps owner = FailsFor p (λ (e : Subject × SubjectPart). HasBitmaps p i e.0 e.1) (zip p.subjects i.subjects) owner
+FailsFirstFor p i areas owner = FailsFor p (λ (e : Subject × SubjectPart). HasArea i e.0 e.1) (zip p.subjects i.subjects) owner
+FailsFirstFor p i states owner = FailsFor p (λ (e : Subject × SubjectPart). IsFresh i e.0 e.1) (zip p.subjects i.subjects) owner
+FailsFirstFor p i own_pages owner = FailsFor p (SharesWithNone (common p i)) (numbers_below (length (common p i))) owner
+FailsFirstFor p i plan owner = FailsInPlan p i owner
 
--- the fault is that this condition fails
-pub record IsFailure (p : Source) (i : Image) (c : Condition) (o : Option Fault) : Type 0 where
+-- the fault is that this fails
+pub record IsFailure (p : Source) (i : Image) (c : Kept) (o : Option Fault) : Type 0 where
   pub owner : Owner
-  pub is : o ≡ Some (Fails c owner)
+  pub is : o ≡ Some (Fails (condition_of c) owner)
   pub fails : FailsFirstFor p i c owner
 
--- it is that the first of these conditions fails that doesn't hold; where all hold, the rest says what it is
-abbrev pub FirstOf : Source → Image → (Option Fault → Type 0) → List Condition → Option Fault → Type 0
+-- it is that the first of these fails that doesn't hold; where all hold, the rest says what it is
+abbrev pub FirstOf : Source → Image → (Option Fault → Type 0) → List Kept → Option Fault → Type 0
 FirstOf p i Rest [] o = Rest o
 FirstOf p i Rest (c ∷ cs) o = IsFailure p i c o ⊎ (Holds p i c × FirstOf p i Rest cs o)
 
-abbrev pub in_order : List Condition
-in_order = Bitmaps ∷ Areas ∷ States ∷ OwnPages ∷ Plan ∷ []
+abbrev pub in_order : List Kept
+in_order = bitmaps ∷ areas ∷ states ∷ own_pages ∷ plan ∷ []
 
 -- ---- tables
 

@@ -58,6 +58,7 @@ unfoldable pub map_text_at : Source → List ℕ → List ℕ
 map_text_at p addresses =
     region_lines addresses (regions_of p) ++ flat_map device_line (device_items p) ++ flat_map (window_lines p) p.subjects
 
+-- .. and none where a region has no place; such a policy is refused before its text is asked for
 abbrev pub text_where : Source → Result (List ℕ) Region → List ℕ
 text_where p (Ok addresses) = map_text_at p addresses
 text_where p (Err r) = []

@@ -2,12 +2,13 @@
 use Rattle.std.proofs.Common.{◌≡◌, ℕ, zero, suc, ◌<◌, ◌≤◌, Bool, true, false, cond, ltb, eqb, List, [], ◌∷◌, ◌++◌, length, take, drop, Option, Some, None, Result, Ok, Err, refl, sym, ap, subst, ◌∙◌, arith, inl, inr}
 use Rattle.std.specs.Int.{Width, byte_len, from_le_bytes}
 use Rattle.std.specs.List.{list_all}
+use Rattle.std.specs.Str.{bytes_eq}
 use Rattle.std.proofs.lemmas.Bool.{cases_lt, le-ltb, lt-ltb}
 use Rattle.std.proofs.lemmas.List.{length-append, length-drop, take-append-drop}
 use Rattle.binary_form.specs.declared.fault.Field.{Field}
 use Rattle.binary_form.specs.declared.fault.FormFault.{FormFault}
 use Rattle.binary_form.specs.declared.fault.FormFault.TheVariants.{Short, Bad}
-use Rattle.binary_form.specs.Form.{◌>>=◌, Form, absent_value, byte, byte_at, fixed_bytes, bytes_at, coded, coded_at, coded_in, done, each, each_at, either, field, gap, gap_at, items, items_at, fault_bytes_left, number, number_at, only, present}
+use Rattle.binary_form.specs.Form.{◌>>=◌, Form, absent_value, byte, byte_at, fixed_bytes, bytes_at, coded, coded_at, coded_in, done, each, each_at, either, field, gap, gap_at, items, items_at, fault_bytes_left, number, number_at, only, present, tag, tag_at}
 use Rattle.binary_form.proofs.Leaves.{coded_stays, err_is, ok_is, ok_not_err}
 use Rattle.proof_faults.proofs.Readers.{HasMore, IsAmong, IsLocal, Reader, given, given_local, same_local, then, then_local}
 
@@ -157,29 +158,30 @@ pub bytes_local : (room : Field → ℕ) (n : ℕ) → IsLocal room (fixed_bytes
 unfolding fixed_bytes bytes_at coded_at
 bytes_local room n = same_local room (bytes_at n) (coded_at n (λ t. Some t) Field.Zero) (λ bytes. refl) (coded_local room n (λ t. Some t) Field.Zero (λ t e. absurd cc))
 
--- ---- zeros
+-- ---- bytes that have no value
 
-abbrev zero_if : Bool → Option (Unit {0})
-zero_if true = Some tt
-zero_if false = None
+abbrev nothing_if : Bool → Option (Unit {0})
+nothing_if true = Some tt
+nothing_if false = None
 
+chosen_on : {X : Type 0} (b : Bool) (name : Field) (left : ℕ) (rest : List ℕ) (k : List ℕ → Result X FormFault)
+    → (cond b (Ok rest) (Err (Bad left name)) >>= k) ≡ (coded_in name left rest (nothing_if b) >>= λ x. k x.1)
+chosen_on true title left rest k = refl
+chosen_on false title left rest k = refl
+
+-- zeros
 zeros_in : List ℕ → Option (Unit {0})
-zeros_in t = zero_if (list_all (λ b. eqb b 0) t)
+zeros_in t = nothing_if (list_all (λ b. eqb b 0) t)
 
 abbrev zeros_read : ℕ → Field → Reader (Unit {0})
 zeros_read n name = coded_at n zeros_in name
-
-gap_chosen : {X : Type 0} (b : Bool) (name : Field) (left : ℕ) (rest : List ℕ) (k : List ℕ → Result X FormFault)
-    → (cond b (Ok rest) (Err (Bad left name)) >>= k) ≡ (coded_in name left rest (zero_if b) >>= λ x. k x.1)
-gap_chosen true title left rest k = refl
-gap_chosen false title left rest k = refl
 
 gap_is : {X : Type 0} (n : ℕ) (name : Field) (k : List ℕ → Result X FormFault) (bytes : List ℕ) → (gap_at n name bytes >>= k) ≡ (zeros_read n name bytes >>= λ x. k x.1)
 unfolding gap_at coded_at zeros_in
 gap_is n title k bytes =
     elim (cases_lt (length bytes) n) [
       | inl lt ↦ rw (lt-ltb (length bytes) n lt) refl
-      | inr le ↦ rw (le-ltb (length bytes) n le) (gap_chosen (list_all (λ b. eqb b 0) (take n bytes)) title (length bytes) (drop n bytes) k)
+      | inr le ↦ rw (le-ltb (length bytes) n le) (chosen_on (list_all (λ b. eqb b 0) (take n bytes)) title (length bytes) (drop n bytes) k)
     ]
 
 zeros_local : (room : Field → ℕ) (n : ℕ) (name : Field) → 0 < n → n ≤ room name → IsLocal room (zeros_read n name)
@@ -199,6 +201,27 @@ unfolding absent_value
 absent_local {A} room n title some le =
     same_local room (λ bytes. gap_at n title bytes >>= given (nothing {A = A})) (then (zeros_read n title) (λ u. given (nothing {A = A}))) (λ bytes. gap_is n title (given (nothing {A = A})) bytes)
     (then_local room (zeros_read n title) (λ u. given (nothing {A = A})) (zeros_local room n title some le) (λ u. given_local room (nothing {A = A})))
+
+-- these bytes, and no others
+tag_in : List ℕ → List ℕ → Option (Unit {0})
+tag_in wanted t = nothing_if (bytes_eq t wanted)
+
+abbrev tag_read : List ℕ → Field → Reader (Unit {0})
+tag_read wanted name = coded_at (length wanted) (tag_in wanted) name
+
+tag_is : {X : Type 0} (wanted : List ℕ) (name : Field) (k : List ℕ → Result X FormFault) (bytes : List ℕ) → (tag_at wanted name bytes >>= k) ≡ (tag_read wanted name bytes >>= λ x. k x.1)
+unfolding tag_at coded_at tag_in
+tag_is wanted title k bytes =
+    elim (cases_lt (length bytes) (length wanted)) [
+      | inl lt ↦ rw (lt-ltb (length bytes) (length wanted) lt) refl
+      | inr le ↦ rw (le-ltb (length bytes) (length wanted) le) (chosen_on (bytes_eq (take (length wanted) bytes) wanted) title (length bytes) (drop (length wanted) bytes) k)
+    ]
+
+pub tag_local : {S : Type 0} (room : Field → ℕ) (wanted : List ℕ) (name : Field) (more : Form S) → 0 < length wanted → length wanted ≤ room name → IsLocal room more.read → IsLocal room (tag wanted name more).read
+unfolding tag
+tag_local room wanted title more some le rest =
+    same_local room (λ bytes. tag_at wanted title bytes >>= more.read) (then (tag_read wanted title) (λ u. more.read)) (λ bytes. tag_is wanted title more.read bytes)
+    (then_local room (tag_read wanted title) (λ u. more.read) (coded_local room (length wanted) (tag_in wanted) title (λ t e. (some, le))) (λ u. rest))
 
 -- ---- forms of forms
 

@@ -1,11 +1,10 @@
 -- A fault of an image is that of the bytes up to the end of its field: each field of the form has no more bytes than there is room for.
-use Rattle.std.proofs.Common.{◌≡◌, ℕ, Bool, true, List, refl, arith, leb}
-use Rattle.std.specs.Int.{w16, w32, w64}
+use Rattle.std.proofs.Common.{ℕ, Bool, List, refl, arith}
+use Rattle.std.specs.Int.{w16}
 use Rattle.std.proofs.lemmas.Bool.{leb-true}
-use Rattle.binary_form.specs.declared.fault.Field.{Field}
 use Rattle.binary_form.specs.declared.fault.Field.TheVariants as at
-use Rattle.binary_form.specs.Form.{Form, byte, coded, gap, number, only}
-use Rattle.binary_form.specs.Name.{name, name_bytes, name_in}
+use Rattle.binary_form.specs.Form.{coded, only}
+use Rattle.binary_form.specs.Name.{name}
 use Rattle.image_pack.specs.Codes.{event_bytes, event_in, kind_bytes, kind_in, mark_bytes, mark_in}
 use Rattle.image_pack.specs.Image.{add_ticks, after, after_device, after_irq, after_window, content, counts, device, event, events, frames, group, header, image, irq, kind_byte, major, mark, minor_frame_form, next_cpu, next_index, no_frames_before, no_spans_before, nothing_left, outline, range, span, subject, tau0_at, tau0_span, title, window_form}
 use Rattle.image_pack.specs.declared.outline.Header.{Header}
@@ -16,40 +15,9 @@ use Rattle.image_pack.specs.declared.reading.majors.CpuTicks.{CpuTicks}
 use Rattle.image_pack.specs.declared.reading.majors.FramesBefore.{FramesBefore}
 use Rattle.image_pack.specs.declared.reading.spans.SpansBefore.{SpansBefore}
 use Rattle.muen_num.specs.declared.limits.TheConstants.{MOST_CALLS}
-use Rattle.proof_faults.proofs.Fields.{absent_local, byte_field, byte_local, bytes_local, coded_field, done_local, each_local, either_local, field_local, gap_local, items_local, local_field, number_field, number_local, only_field, present_local}
-use Rattle.proof_faults.proofs.Readers.{IsLocal}
+use Rattle.proof_faults.proofs.Fields.{absent_local, byte_local, bytes_local, coded_field, done_local, each_local, either_local, field_local, items_local, local_field, number_local, only_field, present_local}
+use Rattle.proof_faults.proofs.Rooms.{Local, a_name, eight, four, new_name, one, two, zeros}
 use Rattle.proof_faults.specs.Room.{room_of}
-
--- a reader whose faults are those of its fields
-abbrev Local : {A : Type 0} → Form A → Type 0
-Local f = IsLocal room_of f.read
-
--- ---- fields with a condition
-
-one : (test : ℕ → Bool) (field : Field) → leb 1 (room_of field) ≡ true → Local (only test field byte)
-one test field room = local_field room_of 1 field (only test field byte) (only_field 1 test field byte (byte_field field)) (omega arith) (leb-true 1 (room_of field) room)
-
-two : (test : ℕ → Bool) (field : Field) → leb 2 (room_of field) ≡ true → Local (only test field (number w16))
-two test field room = local_field room_of 2 field (only test field (number w16)) (only_field 2 test field (number w16) (number_field w16 field)) (omega arith) (leb-true 2 (room_of field) room)
-
-four : (test : ℕ → Bool) (field : Field) → leb 4 (room_of field) ≡ true → Local (only test field (number w32))
-four test field room = local_field room_of 4 field (only test field (number w32)) (only_field 4 test field (number w32) (number_field w32 field)) (omega arith) (leb-true 4 (room_of field) room)
-
-eight : (test : ℕ → Bool) (field : Field) → leb 8 (room_of field) ≡ true → Local (only test field (number w64))
-eight test field room = local_field room_of 8 field (only test field (number w64)) (only_field 8 test field (number w64) (number_field w64 field)) (omega arith) (leb-true 8 (room_of field) room)
-
-zeros : {S : Type 0} (n : ℕ) (more : Form S) → leb 1 n ≡ true → leb n (room_of at.Zero) ≡ true → Local more → Local (gap n at.Zero more)
-zeros n more some room rest = gap_local room_of n at.Zero more (leb-true 1 n some) (leb-true n (room_of at.Zero) room) rest
-
-a_name : Local name
-unfolding name
-a_name = local_field room_of 64 at.Name (coded 64 name_in name_bytes at.Name) (coded_field 64 name_in name_bytes at.Name) (omega arith) (leb-true 64 (room_of at.Name) refl)
-
-new_name : (test : List ℕ → Bool) → Local (only test at.Name name)
-unfolding name
-new_name test =
-    local_field room_of 64 at.Name (only test at.Name (coded 64 name_in name_bytes at.Name)) (only_field 64 test at.Name (coded 64 name_in name_bytes at.Name) (coded_field 64 name_in name_bytes at.Name))
-    (omega arith) (leb-true 64 (room_of at.Name) refl)
 
 -- ---- the header
 

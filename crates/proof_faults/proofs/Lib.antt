@@ -4,5 +4,7 @@ mod Fronts
 mod ImageFields
 mod LimitExamples
 mod Readers
+mod Rooms
+mod TableFields
 mod TrailingBytes
 mod WrongFields

@@ -1,4 +1,4 @@
--- How many bytes a field of an image has at most, by its name (this project's own format).
+-- How many bytes a field of an image, or of a file of tables, has at most, by its name (this project's own formats).
 use Rattle.std.specs.Prelude.{ℕ}
 use Rattle.binary_form.specs.declared.fault.Field.{Field}
 use Rattle.binary_form.specs.declared.fault.Field.TheVariants.{Magic, Count, Zero, Place, Pages, Number, Kind, Part, Name, Cpu, First, Group, Msrs, Span, Eptp, Event, Ticks, Port, Irq}

@@ -79,11 +79,11 @@ granted ranges n k low has =
     let ports = numbers_below n in
     any_in (λ m. m == k) (filter (λ port. list_any (λ r. has_port r port) ranges) ports) k (filter_in (λ port. list_any (λ r. has_port r port) ranges) ports k (number_in n k low) has) (eq-eqb k k refl)
 
-has_768 : (p : Source) (s : Subject) → list_any (λ r. has_port r 768) (port_ranges_of p s) ≡ true → list_any (λ m. m == 768) (ports_of p s) ≡ true
+pub has_768 : (p : Source) (s : Subject) → list_any (λ r. has_port r 768) (port_ranges_of p s) ≡ true → list_any (λ m. m == 768) (ports_of p s) ≡ true
 unfolding ports_of
 has_768 p s has = granted (port_ranges_of p s) (LAST_PORT + 1) 768 (omega arith) has
 
-ports_by : (p q : Source) (s : Subject) → port_ranges_of p s ≡ port_ranges_of q s → ports_of p s ≡ ports_of q s
+pub ports_by : (p q : Source) (s : Subject) → port_ranges_of p s ≡ port_ranges_of q s → ports_of p s ≡ ports_of q s
 unfolding ports_of
 ports_by p q s same = ap (λ ranges. filter (λ port. list_any (λ r. has_port r port) ranges) (numbers_below (LAST_PORT + 1))) same
 

@@ -7,7 +7,7 @@ mod RunFrames
 mod Ticks
 pub mod Playing
 mod EchoContents
-mod Echo
+pub mod Echo
 mod EchoLoops
 mod Reacts
 mod Gossip

@@ -2,8 +2,8 @@ use Rattle.std.proofs.Common.{◌≡◌, sym, ap, subst, length, ◌∙◌}
 use Rattle.policy_lawful.specs.Resolution.{source_of}
 use Rattle.flow_report.specs.ByIndex.{all_contacts_of}
 use Rattle.flow_report.specs.Marks.{sets_after}
-use Rattle.flow_report.specs.Sets.{AreFlows}
-use Rattle.flow_report.proofs.FlowsByIndex.{flows_are}
+use Rattle.flow_report.specs.Sets.{AreFlows, HaveMarksOf}
+use Rattle.flow_report.proofs.FlowsByIndex.{flows_are, marks_are}
 use Rattle.flow_report.proofs.MarkedSets.{least_from}
 use Rattle.flow_report.proofs.SetsApart.{apart_from}
 use Rattle.flow_report.proofs.sets.flows.Goals as goal
@@ -17,8 +17,12 @@ returns c =
     let are : AreFlows p c.in_ok-sets.sets =
     subst (λ r. AreFlows (source_of r) c.in_ok-sets.sets) c.resolved.ensures.value
     (subst (AreFlows (source_of c.resolved.result.now)) (sym computed) (flows_are c.resolved.result.now c.in_ok-all_contacts.ensures.resolved)) in
+    let marks : HaveMarksOf p c.in_ok-sets.sets =
+    subst (λ r. HaveMarksOf (source_of r) c.in_ok-sets.sets) c.resolved.ensures.value
+    (subst (HaveMarksOf (source_of c.resolved.result.now)) (sym computed) (marks_are c.resolved.result.now c.in_ok-all_contacts.ensures.resolved)) in
     record {
       sets = are;
+      marks = marks;
       least = least_from p c.in_ok-sets.sets are;
       apart = apart_from p c.resolved.ensures.lawful c.in_ok-sets.sets are;
     }

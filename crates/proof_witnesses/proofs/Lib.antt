@@ -1,0 +1,5 @@
+mod SmallBytes
+mod SmallConditions
+mod SmallSound
+mod SmallWalks
+mod Steered

@@ -1,0 +1,4 @@
+pub mod SmallImage
+pub mod SmallLaws
+pub mod Steered
+pub mod SteeredLaws
