@@ -1,12 +1,11 @@
 -- Two systems in which a subject chooses the major frames agree on that subject, on inputs that reach it and direct memory access.
 use Rattle.std.proofs.Common.{◌≡◌, ℕ, Bool, true, false, cond, List, [], ◌∷◌, ◌++◌, filter, map, Some, refl, sym, ap, subst, ◌∙◌, inl, inr, true≢false}
-use Rattle.std.specs.Prelude.{◌==◌, ◌||◌, IsTrue, codes, option_map}
+use Rattle.std.specs.Prelude.{◌==◌, ◌||◌, codes, option_map}
 use Rattle.std.specs.List.{All, enumerate_from, list_any}
 use Rattle.std.specs.Str.{bytes_eq}
 use Rattle.std.proofs.lemmas.Bool.{cases_Bool}
-use Rattle.std.proofs.lemmas.List.Elements.{All-from_recursion, All-nil}
+use Rattle.std.proofs.lemmas.List.Elements.{All-from_recursion}
 use Rattle.muen_num.proofs.Members.{all_from}
-use Rattle.muen_num.specs.Numbers.{are_distinct}
 use Rattle.muen_num.specs.declared.access.AccessKind.TheVariants.{Write}
 use Rattle.policy_lawful.specs.Contents.{Held}
 use Rattle.policy_lawful.specs.Dma.{dma_windows}
@@ -26,7 +25,6 @@ use Rattle.proof_isolation.proofs.TwoEnds.{printed_alike}
 use Rattle.proof_isolation.proofs.WrittenOut.{at_start, of_found, own_by}
 use Rattle.proof_isolation.specs.Agree.{AgreeFor, WritesTheSame, as_seen, chosen, input_reaches_member, irq_to, is_handover, is_seen, maps_seen, only_to, own_slot}
 use Rattle.proof_isolation.specs.Flows.{flows_to, is_member}
-use Rattle.proof_isolation.specs.TwoTexts.{HasDistinctOrders}
 use Rattle.proof_reactive.proofs.Echo.{has_768, ports_by}
 use Rattle.proof_reactive.specs.Echo.{code_region, members, noise, ring, talker}
 use Rattle.proof_witnesses.specs.Steered.{alone, choice, steered, to_talker, with_others}
@@ -230,9 +228,6 @@ reach own c d = (reaching own c d, not_reaching own c d)
 pub line_writes_ring : LineWritesRing
 line_writes_ring own code = refl
 
-no_orders : HasDistinctOrders alone
-no_orders = All-nil (λ o. IsTrue (are_distinct o.1))
-
 pub alike : TalkerIsPrintedAlike
 alike own c d f g =
-    printed_alike (steered own c) f with_others (lawful own c) no_orders (steered own d) g alone members (lawful own d) no_orders (closed own c) (closed own d) (agree own c d f g) refl talker talker refl refl refl
+    printed_alike (steered own c) f with_others (lawful own c) (steered own d) g alone members (lawful own d) (closed own c) (closed own d) (agree own c d f g) talker talker refl refl refl

@@ -39,4 +39,4 @@ SteeredAgree = (own c d : List ℕ) (f g : Held) → Agree members (steered own 
 
 -- so the same is printed of it in both
 abbrev pub TalkerIsPrintedAlike : Type 0
-TalkerIsPrintedAlike = (own c d : List ℕ) (f g : Held) → ArePrintedAlike (steered own c) (steered own d) f g with_others alone talker talker
+TalkerIsPrintedAlike = (own c d : List ℕ) (f g : Held) → ArePrintedAlike members (steered own c) (steered own d) f g with_others alone talker talker
