@@ -12,7 +12,7 @@ guest_range_of w = record { guest = w.guest; size = w.size }
 abbrev pub ranges_of : List Window → List GuestRange
 ranges_of ws = map guest_range_of ws
 
--- some byte of the range is one of the n from lo on
+-- the range goes on below the last of the n from lo on, and ends behind lo: where it isn't empty, some byte of it is one of these
 abbrev pub touches : GuestRange → ℕ → ℕ → Bool
 touches r lo n = nat_lt r.guest (lo + n) && nat_lt lo (r.guest + r.size)
 
