@@ -1,0 +1,112 @@
+-- Bitmaps by which the same accesses exit are one: each bit of them is that of a port, or of an MSR and a kind of access.
+use Rattle.std.proofs.Common.{◌≡◌, inl, inr, ℕ, ◌+◌, ◌-◌, ◌*◌, ◌/◌, ◌%◌, ◌<◌, ◌==◌, ◌||◌, Bool, true, false, List, ◌++◌, length, get_or, take, drop, Option, Some, nat_lt, refl, ap, sym, ◌∙◌, arith, if◌then◌else◌, length-take-le, length-drop, take-append-drop}
+use Rattle.std.specs.Prelude.{slice_index}
+use Rattle.std.specs.Int.{bit_at}
+use Rattle.std.specs.List.{list_any}
+use Rattle.std.proofs.lemmas.Bool.{cases_eq, cases_lt, eq-eqb, le-leb, le-ltb, lt-leb, lt-ltb, ne_eqb, true≢false}
+use Rattle.std.proofs.lemmas.List.{get_or_default, same_lists}
+use Rattle.std.proofs.lemmas.Nat.Bits.{bit_at-lt, same_from_bits_below}
+use Rattle.std.proofs.Math.Bool.{or-false}
+use Rattle.ept_emit.proofs.OneTables.{AreBytes, drop_bytes, take_bytes}
+use Rattle.machine_layout.specs.Exits.{exits_by, is_set, high_part, low_part, msr_bit, msr_exits, port_exits, port_is_set}
+use Rattle.muen_num.specs.Range.{numbers_below}
+
+-- ---- bits
+
+one_bit : (x y : ℕ) → x < 2 → y < 2 → (x == 1) ≡ (y == 1) → x ≡ y
+one_bit x y small_x small_y same =
+    elim (cases_eq x 1) [
+      | inl set_x ↦ elim (cases_eq y 1) [
+        | inl set_y ↦ set_x ∙ sym set_y
+        | inr clear_y ↦ absurd (true≢false (sym (eq-eqb x 1 set_x) ∙ (same ∙ ne_eqb y 1 clear_y)))
+      ]
+      | inr clear_x ↦ elim (cases_eq y 1) [
+        | inl set_y ↦ absurd (true≢false (sym (eq-eqb y 1 set_y) ∙ (sym same ∙ ne_eqb x 1 clear_x)))
+        | inr clear_y ↦ omega arith
+      ]
+    ]
+
+bit_of : (xs : List ℕ) (k i : ℕ) → i < 8 → is_set xs (8 * k + i) ≡ (bit_at (slice_index xs k) i == 1)
+unfolding is_set
+bit_of xs k i small =
+    let byte : (8 * k + i) / 8 ≡ k = omega arith in
+    let bit : (8 * k + i) % 8 ≡ i = omega arith in
+    λ j. (bit_at (slice_index xs (byte j)) (bit j) == 1)
+
+-- bytes with the same bits
+bitmaps_are_one : (xs ys : List ℕ) → length xs ≡ length ys → AreBytes xs → AreBytes ys → ((n : ℕ) → n < 8 * length xs → is_set xs n ≡ is_set ys n) → xs ≡ ys
+bitmaps_are_one xs ys many in_xs in_ys same =
+    same_lists xs ys many (λ k d lt.
+      let each : (i : ℕ) → i < 8 → bit_at (get_or xs k 0) i ≡ bit_at (get_or ys k 0) i =
+        λ i small. one_bit (bit_at (get_or xs k 0) i) (bit_at (get_or ys k 0) i) (bit_at-lt (get_or xs k 0) i) (bit_at-lt (get_or ys k 0) i)
+        (sym (bit_of xs k i small) ∙ (same (8 * k + i) (omega (arith, lt, small)) ∙ bit_of ys k i small)) in
+      let byte = same_from_bits_below 8 (get_or xs k 0) (get_or ys k 0) (in_xs k) (in_ys k) each in
+      get_or_default xs k d 0 lt ∙ (byte ∙ get_or_default ys k 0 d (omega (arith, lt, many))))
+
+-- ---- ports
+
+-- an access of one byte exits by the bit of its port
+one_port : (a b : List ℕ) (port : ℕ) → port < 65536 → port_exits a b port 1 ≡ port_is_set a b port
+one_port a b port small =
+    let fits : nat_lt 65536 (port + 1) ≡ false = le-ltb 65536 (port + 1) (omega arith) in
+    let here : port + 0 ≡ port = omega arith in
+    ap (λ t. t || list_any (λ k. port_is_set a b (port + k)) (numbers_below 1)) fits ∙ (or-false (port_is_set a b (port + 0)) ∙ ap (port_is_set a b) here)
+
+in_a : (a b : List ℕ) (n : ℕ) → n < 32768 → port_is_set a b n ≡ is_set a n
+in_a a b n small = ap (λ t. if t then is_set a n else is_set b (n - 32768)) (lt-ltb n 32768 small)
+
+in_b : (a b : List ℕ) (n : ℕ) → n < 32768 → port_is_set a b (32768 + n) ≡ is_set b n
+in_b a b n small =
+    let back : 32768 + n - 32768 ≡ n = omega arith in
+    ap (λ t. if t then is_set a (32768 + n) else is_set b (32768 + n - 32768)) (le-ltb (32768 + n) 32768 (omega arith)) ∙ ap (is_set b) back
+
+pub ports_are_one : (xs ys : List ℕ) → length xs ≡ 8192 → length ys ≡ 8192 → AreBytes xs → AreBytes ys
+    → ((port size : ℕ) → port_exits (take 4096 xs) (drop 4096 xs) port size ≡ port_exits (take 4096 ys) (drop 4096 ys) port size) → xs ≡ ys
+ports_are_one xs ys long_xs long_ys in_xs in_ys same =
+    let a = take 4096 xs in
+    let b = drop 4096 xs in
+    let c = take 4096 ys in
+    let d = drop 4096 ys in
+    let long_a : length a ≡ 4096 = length-take-le 4096 xs (omega (arith, long_xs)) in
+    let long_c : length c ≡ 4096 = length-take-le 4096 ys (omega (arith, long_ys)) in
+    let long_b : length b ≡ 4096 = omega (arith, length-drop 4096 xs, long_xs) in
+    let long_d : length d ≡ 4096 = omega (arith, length-drop 4096 ys, long_ys) in
+    let each : (port : ℕ) → port < 65536 → port_is_set a b port ≡ port_is_set c d port = λ port small. sym (one_port a b port small) ∙ (same port 1 ∙ one_port c d port small) in
+    let first = bitmaps_are_one a c (long_a ∙ sym long_c) (take_bytes 4096 xs in_xs) (take_bytes 4096 ys in_ys) (λ n lt.
+      let small : n < 32768 = omega (arith, lt, long_a) in
+      sym (in_a a b n small) ∙ (each n (omega (arith, small)) ∙ in_a c d n small)) in
+    let second = bitmaps_are_one b d (long_b ∙ sym long_d) (drop_bytes 4096 xs in_xs) (drop_bytes 4096 ys in_ys) (λ n lt.
+      let small : n < 32768 = omega (arith, lt, long_b) in
+      sym (in_b a b n small) ∙ (each (32768 + n) (omega (arith, small)) ∙ in_b c d n small)) in
+    sym (take-append-drop 4096 xs) ∙ ((λ i. first i ++ second i) ∙ take-append-drop 4096 ys)
+
+-- ---- MSRs
+
+low_bit : (i : ℕ) (write : Bool) → i < 8192 → msr_bit i write ≡ Some (8 * low_part write + i)
+low_bit i write small = rw (le-leb i 8191 (omega arith)) refl
+
+high_bit : (i : ℕ) (write : Bool) → i < 8192 → msr_bit (3221225472 + i) write ≡ Some (8 * high_part write + i)
+high_bit i write small =
+    let back : 3221225472 + i - 3221225472 ≡ i = omega arith in
+    rw (lt-leb (3221225472 + i) 8191 (omega arith), le-leb 3221225472 (3221225472 + i) (omega arith), le-leb (3221225472 + i) 3221233663 (omega arith), back) refl
+
+exits_at : (xs : List ℕ) (index : ℕ) (write : Bool) (n : ℕ) → msr_bit index write ≡ Some n → msr_exits xs index write ≡ is_set xs n
+unfolding msr_exits
+exits_at xs index write n e = ap (exits_by xs) e
+
+pub msrs_are_one : (xs ys : List ℕ) → length xs ≡ 4096 → length ys ≡ 4096 → AreBytes xs → AreBytes ys → ((index : ℕ) (write : Bool) → msr_exits xs index write ≡ msr_exits ys index write) → xs ≡ ys
+msrs_are_one xs ys long_xs long_ys in_xs in_ys same =
+    let of : (index : ℕ) (write : Bool) (m n : ℕ) → msr_bit index write ≡ Some m → m ≡ n → is_set xs n ≡ is_set ys n =
+      λ index write m n bit is. let at = bit ∙ ap Some is in sym (exits_at xs index write n at) ∙ (same index write ∙ exits_at ys index write n at) in
+    bitmaps_are_one xs ys (long_xs ∙ sym long_ys) in_xs in_ys (λ n lt.
+      let small : n < 32768 = omega (arith, lt, long_xs) in
+      elim (cases_lt n 16384) [
+        | inl read ↦ elim (cases_lt n 8192) [
+          | inl low ↦ of n false _ n (low_bit n false low) (omega arith)
+          | inr high ↦ of (3221225472 + (n - 8192)) false _ n (high_bit (n - 8192) false (omega arith)) (omega arith)
+        ]
+        | inr written ↦ elim (cases_lt n 24576) [
+          | inl low ↦ of (n - 16384) true _ n (low_bit (n - 16384) true (omega arith)) (omega arith)
+          | inr high ↦ of (3221225472 + (n - 24576)) true _ n (high_bit (n - 24576) true (omega arith)) (omega arith)
+        ]
+      ])
