@@ -1,10 +1,10 @@
 -- Bitmaps by which the same accesses exit are one: each bit of them is that of a port, or of an MSR and a kind of access.
-use Rattle.std.proofs.Common.{◌≡◌, inl, inr, ℕ, ◌+◌, ◌-◌, ◌*◌, ◌/◌, ◌%◌, ◌<◌, ◌==◌, ◌||◌, Bool, true, false, List, ◌++◌, length, get_or, take, drop, Option, Some, nat_lt, refl, ap, sym, ◌∙◌, arith, if◌then◌else◌, length-take-le, length-drop, take-append-drop}
-use Rattle.std.specs.Prelude.{slice_index}
+use Rattle.std.proofs.Common.{◌≡◌, inl, inr, ℕ, ◌+◌, ◌-◌, ◌*◌, ◌/◌, ◌%◌, ◌<◌, ◌==◌, ◌||◌, Bool, true, false, List, ◌++◌, length, get_or, take, drop, Option, Some, refl, ap, sym, ◌∙◌, arith, if◌then◌else◌}
+use Rattle.std.specs.Prelude.{nat_lt, slice_index}
 use Rattle.std.specs.Int.{bit_at}
 use Rattle.std.specs.List.{list_any}
 use Rattle.std.proofs.lemmas.Bool.{cases_eq, cases_lt, eq-eqb, le-leb, le-ltb, lt-leb, lt-ltb, ne_eqb, true≢false}
-use Rattle.std.proofs.lemmas.List.{get_or_default, same_lists}
+use Rattle.std.proofs.lemmas.List.{get_or_default, length-drop, length-take-le, same_lists, take-append-drop}
 use Rattle.std.proofs.lemmas.Nat.Bits.{bit_at-lt, same_from_bits_below}
 use Rattle.std.proofs.Math.Bool.{or-false}
 use Rattle.ept_emit.proofs.OneTables.{AreBytes, drop_bytes, take_bytes}
@@ -96,17 +96,17 @@ exits_at xs index write n e = ap (exits_by xs) e
 
 pub msrs_are_one : (xs ys : List ℕ) → length xs ≡ 4096 → length ys ≡ 4096 → AreBytes xs → AreBytes ys → ((index : ℕ) (write : Bool) → msr_exits xs index write ≡ msr_exits ys index write) → xs ≡ ys
 msrs_are_one xs ys long_xs long_ys in_xs in_ys same =
-    let of : (index : ℕ) (write : Bool) (m n : ℕ) → msr_bit index write ≡ Some m → m ≡ n → is_set xs n ≡ is_set ys n =
+    let bit_same : (index : ℕ) (write : Bool) (m n : ℕ) → msr_bit index write ≡ Some m → m ≡ n → is_set xs n ≡ is_set ys n =
       λ index write m n bit is. let at = bit ∙ ap Some is in sym (exits_at xs index write n at) ∙ (same index write ∙ exits_at ys index write n at) in
     bitmaps_are_one xs ys (long_xs ∙ sym long_ys) in_xs in_ys (λ n lt.
       let small : n < 32768 = omega (arith, lt, long_xs) in
       elim (cases_lt n 16384) [
         | inl read ↦ elim (cases_lt n 8192) [
-          | inl low ↦ of n false _ n (low_bit n false low) (omega arith)
-          | inr high ↦ of (3221225472 + (n - 8192)) false _ n (high_bit (n - 8192) false (omega arith)) (omega arith)
+          | inl low ↦ bit_same n false _ n (low_bit n false low) (omega arith)
+          | inr high ↦ bit_same (3221225472 + (n - 8192)) false _ n (high_bit (n - 8192) false (omega arith)) (omega arith)
         ]
         | inr written ↦ elim (cases_lt n 24576) [
-          | inl low ↦ of (n - 16384) true _ n (low_bit (n - 16384) true (omega arith)) (omega arith)
-          | inr high ↦ of (3221225472 + (n - 24576)) true _ n (high_bit (n - 24576) true (omega arith)) (omega arith)
+          | inl low ↦ bit_same (n - 16384) true _ n (low_bit (n - 16384) true (omega arith)) (omega arith)
+          | inr high ↦ bit_same (3221225472 + (n - 24576)) true _ n (high_bit (n - 24576) true (omega arith)) (omega arith)
         ]
       ])
