@@ -1,7 +1,8 @@
 -- Tables of windows are one: which bytes they are follows from the windows, the page of the first and the rights of references.
-use Rattle.std.proofs.Common.{◌≡◌, inl, inr, ℕ, zero, suc, ◌+◌, ◌-◌, ◌*◌, ◌/◌, ◌%◌, ◌^◌, ◌<◌, ◌≤◌, false, min, List, [], ◌∷◌, length, get_or, take, drop, Some, refl, ap, sym, ◌∙◌, arith, subst}
-use Rattle.std.proofs.lemmas.Bool.{cases_eq, cases_lt}
-use Rattle.std.proofs.lemmas.List.{get_or-drop, get_or-take, length-drop, length-take, same_lists}
+use Rattle.std.proofs.Common.{◌≡◌, inl, inr, ℕ, zero, suc, ◌+◌, ◌-◌, ◌*◌, ◌/◌, ◌%◌, ◌^◌, ◌<◌, ◌≤◌, false, List, [], ◌∷◌, length, get_or, take, drop, Some, refl, ap, sym, ◌∙◌, arith, subst}
+use Rattle.std.specs.Prelude.{slice_index}
+use Rattle.std.proofs.lemmas.Bool.{cases_lt}
+use Rattle.std.proofs.lemmas.List.{get_or-drop, get_or-take, length-drop, same_lists}
 use Rattle.ept_emit.specs.declared.window.Window.{Window}
 use Rattle.machine_layout.specs.Memory.{le_number}
 use Rattle.machine_layout.specs.Walks.{entry_size}
@@ -137,29 +138,19 @@ module _ (pointers : Rights) (a b : ℕ → ℕ) (base m n : ℕ) (ws : List Win
 
 -- ---- bytes
 
-abbrev pub AreBytes : List ℕ → Type 0
-AreBytes bytes = (i : ℕ) → get_or bytes i 0 < 256
-
-pub take_bytes : (n : ℕ) (xs : List ℕ) → AreBytes xs → AreBytes (take n xs)
-take_bytes zero xs bytes i = omega arith
-take_bytes (suc n) [] bytes i = omega arith
-take_bytes (suc n) (x ∷ xs) bytes zero = bytes zero
-take_bytes (suc n) (x ∷ xs) bytes (suc i) = take_bytes n xs (λ j. bytes (suc j)) i
-
-pub drop_bytes : (n : ℕ) (xs : List ℕ) → AreBytes xs → AreBytes (drop n xs)
-drop_bytes n xs bytes i = subst (λ x. x < 256) (sym (get_or-drop n xs i 0)) (bytes (n + i))
-
--- bytes that spell one number are one
-same_spelled : (xs ys : List ℕ) → length xs ≡ length ys → AreBytes xs → AreBytes ys → le_number xs ≡ le_number ys → xs ≡ ys
-same_spelled [] [] many in_xs in_ys same = refl
-same_spelled [] (y ∷ ys) many in_xs in_ys same = absurd (omega arith)
-same_spelled (x ∷ xs) [] many in_xs in_ys same = absurd (omega arith)
-same_spelled (x ∷ xs) (y ∷ ys) many in_xs in_ys same =
+-- the first n of bytes that spell one number are one
+same_spelled : (n : ℕ) (xs ys : List ℕ) → length xs ≡ length ys → ((i : ℕ) → slice_index xs i < 256) → ((i : ℕ) → slice_index ys i < 256)
+    → le_number (take n xs) ≡ le_number (take n ys) → take n xs ≡ take n ys
+same_spelled zero xs ys many in_xs in_ys same = refl
+same_spelled (suc n) [] [] many in_xs in_ys same = refl
+same_spelled (suc n) [] (y ∷ ys) many in_xs in_ys same = absurd (omega arith)
+same_spelled (suc n) (x ∷ xs) [] many in_xs in_ys same = absurd (omega arith)
+same_spelled (suc n) (x ∷ xs) (y ∷ ys) many in_xs in_ys same =
     let x_small : x < 256 = in_xs zero in
     let y_small : y < 256 = in_ys zero in
     let first : x ≡ y = omega arith in
-    let rest : le_number xs ≡ le_number ys = omega arith in
-    let tail = same_spelled xs ys (omega arith) (λ i. in_xs (suc i)) (λ i. in_ys (suc i)) rest in
+    let rest : le_number (take n xs) ≡ le_number (take n ys) = omega arith in
+    let tail = same_spelled n xs ys (omega arith) (λ i. in_xs (suc i)) (λ i. in_ys (suc i)) rest in
     λ i. first i ∷ tail i
 
 byte_in_word : (xs : List ℕ) (k d : ℕ) → get_or (take 8 (drop (8 * (k / 8)) xs)) (k % 8) d ≡ get_or xs k d
@@ -167,19 +158,20 @@ byte_in_word xs k d =
     let is : 8 * (k / 8) + k % 8 ≡ k = omega arith in
     get_or-take 8 (drop (8 * (k / 8)) xs) (k % 8) d (omega arith) ∙ (get_or-drop (8 * (k / 8)) xs (k % 8) d ∙ ap (λ i. get_or xs i d) is)
 
-part_length : (xs : List ℕ) (n : ℕ) → length (take 8 (drop n xs)) ≡ min 8 (length xs - n)
-part_length xs n = length-take 8 (drop n xs) ∙ ap (min 8) (length-drop n xs)
+bytes_from : (n : ℕ) (xs : List ℕ) → ((i : ℕ) → slice_index xs i < 256) → (i : ℕ) → slice_index (drop n xs) i < 256
+bytes_from n xs in_xs i = subst (λ x. x < 256) (sym (get_or-drop n xs i 0)) (in_xs (n + i))
 
 -- bytes of the same words
-same_bytes_of_words : (xs ys : List ℕ) → length xs ≡ length ys → AreBytes xs → AreBytes ys → ((j : ℕ) → word_at xs j ≡ word_at ys j) → xs ≡ ys
-same_bytes_of_words xs ys many in_xs in_ys same =
+same_bytes : (xs ys : List ℕ) → length xs ≡ length ys → ((i : ℕ) → slice_index xs i < 256) → ((i : ℕ) → slice_index ys i < 256) → ((j : ℕ) → word_at xs j ≡ word_at ys j) → xs ≡ ys
+same_bytes xs ys many in_xs in_ys same =
     same_lists xs ys many (λ k d lt.
       let n = 8 * (k / 8) in
-      let long : length (take 8 (drop n xs)) ≡ length (take 8 (drop n ys)) = part_length xs n ∙ (ap (λ i. min 8 (i - n)) many ∙ sym (part_length ys n)) in
-      let part = same_spelled (take 8 (drop n xs)) (take 8 (drop n ys)) long (take_bytes 8 (drop n xs) (drop_bytes n xs in_xs)) (take_bytes 8 (drop n ys) (drop_bytes n ys in_ys)) (same (k / 8)) in
+      let long : length (drop n xs) ≡ length (drop n ys) = length-drop n xs ∙ (ap (λ i. i - n) many ∙ sym (length-drop n ys)) in
+      let part = same_spelled 8 (drop n xs) (drop n ys) long (bytes_from n xs in_xs) (bytes_from n ys in_ys) (same (k / 8)) in
       sym (byte_in_word xs k d) ∙ (ap (λ (zs : List ℕ). get_or zs (k % 8) d) part ∙ byte_in_word ys k d))
 
-pub tables_are_one : (pointers : Rights) (ws : List Window) (page : ℕ) (a b : List ℕ) → AreWritten pointers ws page a → AreWritten pointers ws page b → AreBytes a → AreBytes b → a ≡ b
+pub tables_are_one : (pointers : Rights) (ws : List Window) (page : ℕ) (a b : List ℕ) → AreWritten pointers ws page a → AreWritten pointers ws page b
+    → ((i : ℕ) → slice_index a i < 256) → ((i : ℕ) → slice_index b i < 256) → a ≡ b
 tables_are_one pointers ws page a b of_a of_b bytes_a bytes_b =
-    same_bytes_of_words a b (of_a.len ∙ sym of_b.len) bytes_a bytes_b
+    same_bytes a b (of_a.len ∙ sym of_b.len) bytes_a bytes_b
     (words_same pointers (word_at a) (word_at b) page of_a.used of_b.used ws of_a.some of_b.some of_a.numbered of_b.numbered of_a.rest of_b.rest)

@@ -1,13 +1,12 @@
 -- Bitmaps by which the same accesses exit are one: each bit of them is that of a port, or of an MSR and a kind of access.
-use Rattle.std.proofs.Common.{◌≡◌, inl, inr, ℕ, ◌+◌, ◌-◌, ◌*◌, ◌/◌, ◌%◌, ◌<◌, ◌==◌, ◌||◌, Bool, true, false, List, ◌++◌, length, get_or, take, drop, Option, Some, refl, ap, sym, ◌∙◌, arith, if◌then◌else◌}
+use Rattle.std.proofs.Common.{◌≡◌, inl, inr, ℕ, ◌+◌, ◌-◌, ◌*◌, ◌/◌, ◌%◌, ◌<◌, ◌==◌, ◌||◌, Bool, true, false, List, length, get_or, take, drop, Option, Some, refl, ap, sym, ◌∙◌, subst, arith, if◌then◌else◌}
 use Rattle.std.specs.Prelude.{nat_lt, slice_index}
 use Rattle.std.specs.Int.{bit_at}
 use Rattle.std.specs.List.{list_any}
 use Rattle.std.proofs.lemmas.Bool.{cases_eq, cases_lt, eq-eqb, le-leb, le-ltb, lt-leb, lt-ltb, ne_eqb, true≢false}
-use Rattle.std.proofs.lemmas.List.{get_or_default, length-drop, length-take-le, same_lists, take-append-drop}
+use Rattle.std.proofs.lemmas.List.{get_or-drop, get_or-take, get_or_default, same_lists}
 use Rattle.std.proofs.lemmas.Nat.Bits.{bit_at-lt, same_from_bits_below}
 use Rattle.std.proofs.Math.Bool.{or-false}
-use Rattle.ept_emit.proofs.OneTables.{AreBytes, drop_bytes, take_bytes}
 use Rattle.machine_layout.specs.Exits.{exits_by, is_set, high_part, low_part, msr_bit, msr_exits, port_exits, port_is_set}
 use Rattle.muen_num.specs.Range.{numbers_below}
 
@@ -34,7 +33,7 @@ bit_of xs k i small =
     λ j. (bit_at (slice_index xs (byte j)) (bit j) == 1)
 
 -- bytes with the same bits
-bitmaps_are_one : (xs ys : List ℕ) → length xs ≡ length ys → AreBytes xs → AreBytes ys → ((n : ℕ) → n < 8 * length xs → is_set xs n ≡ is_set ys n) → xs ≡ ys
+bitmaps_are_one : (xs ys : List ℕ) → length xs ≡ length ys → ((i : ℕ) → slice_index xs i < 256) → ((i : ℕ) → slice_index ys i < 256) → ((n : ℕ) → n < 8 * length xs → is_set xs n ≡ is_set ys n) → xs ≡ ys
 bitmaps_are_one xs ys many in_xs in_ys same =
     same_lists xs ys many (λ k d lt.
       let each : (i : ℕ) → i < 8 → bit_at (get_or xs k 0) i ≡ bit_at (get_or ys k 0) i =
@@ -60,25 +59,40 @@ in_b a b n small =
     let back : 32768 + n - 32768 ≡ n = omega arith in
     ap (λ t. if t then is_set a (32768 + n) else is_set b (32768 + n - 32768)) (le-ltb (32768 + n) 32768 (omega arith)) ∙ ap (is_set b) back
 
-pub ports_are_one : (xs ys : List ℕ) → length xs ≡ 8192 → length ys ≡ 8192 → AreBytes xs → AreBytes ys
+-- one behind the other, the two are one bitmap
+half_a : (xs : List ℕ) (n : ℕ) → n < 32768 → is_set (take 4096 xs) n ≡ is_set xs n
+unfolding is_set
+half_a xs n small =
+    let byte : slice_index (take 4096 xs) (n / 8) ≡ slice_index xs (n / 8) = get_or-take 4096 xs (n / 8) 0 (omega arith) in
+    λ j. (bit_at (byte j) (n % 8) == 1)
+
+half_b : (xs : List ℕ) (n : ℕ) → is_set (drop 4096 xs) n ≡ is_set xs (32768 + n)
+unfolding is_set
+half_b xs n =
+    let byte : slice_index (drop 4096 xs) (n / 8) ≡ slice_index xs (4096 + n / 8) = get_or-drop 4096 xs (n / 8) 0 in
+    let place : 4096 + n / 8 ≡ (32768 + n) / 8 = omega arith in
+    let bit : n % 8 ≡ (32768 + n) % 8 = omega arith in
+    (λ j. (bit_at (byte j) (n % 8) == 1)) ∙ (λ j. (bit_at (slice_index xs (place j)) (bit j) == 1))
+
+pub ports_are_one : (xs ys : List ℕ) → length xs ≡ 8192 → length ys ≡ 8192 → ((i : ℕ) → slice_index xs i < 256) → ((i : ℕ) → slice_index ys i < 256)
     → ((port size : ℕ) → port_exits (take 4096 xs) (drop 4096 xs) port size ≡ port_exits (take 4096 ys) (drop 4096 ys) port size) → xs ≡ ys
 ports_are_one xs ys long_xs long_ys in_xs in_ys same =
     let a = take 4096 xs in
     let b = drop 4096 xs in
     let c = take 4096 ys in
     let d = drop 4096 ys in
-    let long_a : length a ≡ 4096 = length-take-le 4096 xs (omega (arith, long_xs)) in
-    let long_c : length c ≡ 4096 = length-take-le 4096 ys (omega (arith, long_ys)) in
-    let long_b : length b ≡ 4096 = omega (arith, length-drop 4096 xs, long_xs) in
-    let long_d : length d ≡ 4096 = omega (arith, length-drop 4096 ys, long_ys) in
     let each : (port : ℕ) → port < 65536 → port_is_set a b port ≡ port_is_set c d port = λ port small. sym (one_port a b port small) ∙ (same port 1 ∙ one_port c d port small) in
-    let first = bitmaps_are_one a c (long_a ∙ sym long_c) (take_bytes 4096 xs in_xs) (take_bytes 4096 ys in_ys) (λ n lt.
-      let small : n < 32768 = omega (arith, lt, long_a) in
-      sym (in_a a b n small) ∙ (each n (omega (arith, small)) ∙ in_a c d n small)) in
-    let second = bitmaps_are_one b d (long_b ∙ sym long_d) (drop_bytes 4096 xs in_xs) (drop_bytes 4096 ys in_ys) (λ n lt.
-      let small : n < 32768 = omega (arith, lt, long_b) in
-      sym (in_b a b n small) ∙ (each (32768 + n) (omega (arith, small)) ∙ in_b c d n small)) in
-    sym (take-append-drop 4096 xs) ∙ ((λ i. first i ++ second i) ∙ take-append-drop 4096 ys)
+    bitmaps_are_one xs ys (long_xs ∙ sym long_ys) in_xs in_ys (λ n lt. elim (cases_lt n 32768) [
+      | inl low ↦
+          let first : is_set a n ≡ is_set c n = sym (in_a a b n low) ∙ (each n (omega (arith, low)) ∙ in_a c d n low) in
+          sym (half_a xs n low) ∙ (first ∙ half_a ys n low)
+      | inr high ↦
+          let m = n - 32768 in
+          let is : 32768 + m ≡ n = omega (arith, high) in
+          let small : m < 32768 = omega (arith, lt, long_xs, high) in
+          let second : is_set b m ≡ is_set d m = sym (in_b a b m small) ∙ (each (32768 + m) (omega (arith, small)) ∙ in_b c d m small) in
+          subst (λ i. is_set xs i ≡ is_set ys i) is (sym (half_b xs m) ∙ (second ∙ half_b ys m))
+    ])
 
 -- ---- MSRs
 
@@ -94,7 +108,7 @@ exits_at : (xs : List ℕ) (index : ℕ) (write : Bool) (n : ℕ) → msr_bit in
 unfolding msr_exits
 exits_at xs index write n e = ap (exits_by xs) e
 
-pub msrs_are_one : (xs ys : List ℕ) → length xs ≡ 4096 → length ys ≡ 4096 → AreBytes xs → AreBytes ys → ((index : ℕ) (write : Bool) → msr_exits xs index write ≡ msr_exits ys index write) → xs ≡ ys
+pub msrs_are_one : (xs ys : List ℕ) → length xs ≡ 4096 → length ys ≡ 4096 → ((i : ℕ) → slice_index xs i < 256) → ((i : ℕ) → slice_index ys i < 256) → ((index : ℕ) (write : Bool) → msr_exits xs index write ≡ msr_exits ys index write) → xs ≡ ys
 msrs_are_one xs ys long_xs long_ys in_xs in_ys same =
     let bit_same : (index : ℕ) (write : Bool) (m n : ℕ) → msr_bit index write ≡ Some m → m ≡ n → is_set xs n ≡ is_set ys n =
       λ index write m n bit is. let at = bit ∙ ap Some is in sym (exits_at xs index write n at) ∙ (same index write ∙ exits_at ys index write n at) in

@@ -1,6 +1,7 @@
 -- The pages that the kernel keeps for a subject are one: what is said of them leaves no byte open.
-use Rattle.std.proofs.Common.{◌≡◌, ℕ, ◌/◌, sym, ◌∙◌}
-use Rattle.ept_emit.proofs.OneTables.{AreBytes, tables_are_one}
+use Rattle.std.proofs.Common.{◌≡◌, ℕ, ◌/◌, ◌<◌, sym, ◌∙◌}
+use Rattle.std.specs.Prelude.{slice_index}
+use Rattle.ept_emit.proofs.OneTables.{tables_are_one}
 use Rattle.expand_kernel.specs.granted.Grants.{Grants}
 use Rattle.muen_num.specs.declared.limits.TheConstants.{PAGE}
 use Rattle.policy_lawful.specs.declared.resolved.Subject.{Subject}
@@ -13,9 +14,9 @@ use Rattle.subject_emit.proofs.OneBitmaps.{msrs_are_one, ports_are_one}
 
 -- the pages are made of bytes; of the state page and the area what they are says so
 pub record HaveBytes (q : SubjectPages) : Type 0 where
-  pub tables : AreBytes q.tables
-  pub ports : AreBytes q.ports
-  pub msrs : AreBytes q.msrs
+  pub tables : (i : ℕ) → slice_index q.tables i < 256
+  pub ports : (i : ℕ) → slice_index q.ports i < 256
+  pub msrs : (i : ℕ) → slice_index q.msrs i < 256
 
 pub pages_are_one : (x : Placement) (k : ℕ) (s : Subject) (g : Grants) (a b : SubjectPages) → ArePages x k s g a → ArePages x k s g b → HaveBytes a → HaveBytes b → a ≡ b
 pages_are_one x k s g a b of_a of_b bytes_a bytes_b =
