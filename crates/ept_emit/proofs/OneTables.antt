@@ -9,7 +9,7 @@ use Rattle.machine_layout.specs.Walks.{entry_size}
 use Rattle.policy_types.specs.declared.rights.Rights.{Rights}
 use Rattle.ept_emit.specs.Entries.{is_whole, table_entry, word_at}
 use Rattle.ept_emit.specs.Tables.{AreWritten, Below, IsWritten, child}
-use Rattle.ept_emit.proofs.Found.{around, not_lowest}
+use Rattle.ept_emit.proofs.Found.{not_lowest}
 use Rattle.ept_emit.proofs.Numbered.{first_address, table_entry_of}
 use Rattle.ept_emit.proofs.OneNumbering.{AreAll, Comes, as_many, below_down, below_up, comes_same, moved, same_number}
 use Rattle.ept_emit.proofs.Written.{Under, Free, Whole, Part, kind_of, word_of, window_of, written_parts, none_of, leaf_of, table_of, child_of, below_lower, below_lowest}
@@ -158,16 +158,14 @@ byte_in_word xs k d =
     let is : 8 * (k / 8) + k % 8 ≡ k = omega arith in
     get_or-take 8 (drop (8 * (k / 8)) xs) (k % 8) d (omega arith) ∙ (get_or-drop (8 * (k / 8)) xs (k % 8) d ∙ ap (λ i. get_or xs i d) is)
 
-bytes_from : (n : ℕ) (xs : List ℕ) → ((i : ℕ) → slice_index xs i < 256) → (i : ℕ) → slice_index (drop n xs) i < 256
-bytes_from n xs in_xs i = subst (λ x. x < 256) (sym (get_or-drop n xs i 0)) (in_xs (n + i))
-
 -- bytes of the same words
 same_bytes : (xs ys : List ℕ) → length xs ≡ length ys → ((i : ℕ) → slice_index xs i < 256) → ((i : ℕ) → slice_index ys i < 256) → ((j : ℕ) → word_at xs j ≡ word_at ys j) → xs ≡ ys
 same_bytes xs ys many in_xs in_ys same =
     same_lists xs ys many (λ k d lt.
       let n = 8 * (k / 8) in
       let long : length (drop n xs) ≡ length (drop n ys) = length-drop n xs ∙ (ap (λ i. i - n) many ∙ sym (length-drop n ys)) in
-      let part = same_spelled 8 (drop n xs) (drop n ys) long (bytes_from n xs in_xs) (bytes_from n ys in_ys) (same (k / 8)) in
+      let part = same_spelled 8 (drop n xs) (drop n ys) long (λ i. subst (λ x. x < 256) (sym (get_or-drop n xs i 0)) (in_xs (n + i)))
+        (λ i. subst (λ x. x < 256) (sym (get_or-drop n ys i 0)) (in_ys (n + i))) (same (k / 8)) in
       sym (byte_in_word xs k d) ∙ (ap (λ (zs : List ℕ). get_or zs (k % 8) d) part ∙ byte_in_word ys k d))
 
 pub tables_are_one : (pointers : Rights) (ws : List Window) (page : ℕ) (a b : List ℕ) → AreWritten pointers ws page a → AreWritten pointers ws page b
