@@ -1,6 +1,5 @@
-use Rattle.std.proofs.Common.{◌≡◌, length, drop, ◌*◌, map, sym, ap, subst, ◌∙◌}
+use Rattle.std.proofs.Common.{length, drop, map, sym, ap, subst, ◌∙◌}
 use Rattle.std.proofs.lemmas.List.{take_at}
-use Rattle.ept_emit.specs.Pages.{ept_pages, ranges_of}
 use Rattle.subject_emit.specs.Mapped.{mapped, mapped_windows}
 use Rattle.subject_emit.specs.Pages.{AreTablesOf, tables_at}
 use Rattle.subject_emit.proofs.tables.emitted.Goals as goal
