@@ -71,7 +71,8 @@ lowest_is_one extents bytes a b of_a of_b =
 
 -- ---- the file
 
-pub file_is_one : (p : Source) (d : Domains) (t u : DmaFile) → IsFileOf d t → IsFileOf d u → IsBase p (length t.pages) t.base → IsBase p (length u.pages) u.base → IsBytes t.pages → IsBytes u.pages → t ≡ u
+pub file_is_one : (p : Source) (d : Domains) (t u : DmaFile) → IsFileOf d t → IsFileOf d u
+    → IsBase p (length t.pages) t.base → IsBase p (length u.pages) u.base → IsBytes t.pages → IsBytes u.pages → t ≡ u
 file_is_one p d t u of_t of_u base_t base_u bytes_t bytes_u =
     let many = pages_long d (root_page t) t.pages of_t.pages ∙ sym (pages_long d (root_page u) u.pages of_u.pages) in
     let base = lowest_is_one (extents_of p) (length u.pages) t.base u.base (subst (λ n. IsBase p n t.base) many base_t) base_u in

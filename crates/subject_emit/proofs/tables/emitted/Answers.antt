@@ -13,4 +13,13 @@ returns c =
     subst (AreTablesOf (mapped_windows c.args.placed.now c.args.granted.now) (tables_at c.args.placed.now c.args.subject)) (sym is)
     (subst (λ at. AreTablesOf (mapped_windows c.args.placed.now c.args.granted.now) at out) c.tables_at.ensures
     (subst (λ ws. AreTablesOf ws c.tables_at.result out) are
-    (record { walk = c.emit.ensures.walk; alone = c.emit.ensures.alone; paths = c.emit.ensures.paths; leaves = c.emit.ensures.leaves; types = c.emit.ensures.types; ascending = c.emit.ensures.ascending; rest = c.emit.ensures.rest; written = c.emit.ensures.written })))
+    (record {
+      walk = c.emit.ensures.walk;
+      alone = c.emit.ensures.alone;
+      paths = c.emit.ensures.paths;
+      leaves = c.emit.ensures.leaves;
+      types = c.emit.ensures.types;
+      ascending = c.emit.ensures.ascending;
+      rest = c.emit.ensures.rest;
+      written = c.emit.ensures.written;
+    })))
