@@ -1,33 +1,19 @@
 -- The file of the tables of domains: the root table, the context tables, and the tables of each domain, which are those of
 -- EPT in their form (Intel VT-d specification: second-level paging entries), with pages of 4 KiB alone.
-use Rattle.std.specs.Prelude.{◌≡◌, ℕ, ◌+◌, ◌*◌, ◌<◌, ◌≤◌, true, false, List, [], ◌++◌, length, map, slice_index_or}
+use Rattle.std.specs.Prelude.{◌≡◌, ℕ, ◌+◌, ◌<◌, true, false, List, [], ◌++◌, length, map, slice_index_or}
 use Rattle.std.specs.List.{concat, flat_map}
 use Rattle.dma_emit.specs.declared.domains.Domains.{Domains}
 use Rattle.dma_emit.specs.Entries.{context_entry, root_entry, table_bytes}
 use Rattle.dma_emit.specs.Layout.{buses, has_device, tables_page, domain_windows_at}
 use Rattle.dma_tables.specs.DmaWalk.{root_page}
 use Rattle.dma_tables.specs.declared.file.DmaFile.{DmaFile}
-use Rattle.ept_emit.specs.Entries.{word_at}
-use Rattle.ept_emit.specs.Pages.{ept_pages, ranges_of}
-use Rattle.ept_emit.specs.Tables.{AreNumbered}
-use Rattle.ept_emit.specs.declared.window.Window.{Window}
-use Rattle.muen_num.specs.declared.limits.TheConstants.{GUEST_END, PAGE}
+use Rattle.ept_emit.specs.Tables.{AreWritten}
 use Rattle.policy_lawful.specs.rights.Rights.TheVariants.{Rw}
 
--- the tables of a domain with these windows, the highest of which lies in this page: each entry that an address meets has
--- exactly the bits that it must have, where those that refer to a table have both rights; the tables are numbered in the order
--- in which ascending addresses need them, and behind them all is zero
-pub record AreTablesOfDomain (ws : List Window) (page : ℕ) (bytes : List ℕ) : Type 0 where
-  pub len : length bytes ≡ PAGE * ept_pages (ranges_of ws)
-  pub used : ℕ
-  pub some : 1 ≤ used
-  pub few : used ≤ ept_pages (ranges_of ws)
-  pub numbered : AreNumbered Rw (word_at bytes) page 1 used ws 3 0 (λ addr. addr < GUEST_END)
-  pub rest : (j : ℕ) → 512 * used ≤ j → word_at bytes j ≡ 0
-
--- the tables of the domain of a number, where the root table lies in page `root`; none where no device stands in it
+-- the tables of the domain of a number, where the root table lies in page `root`, and entries that refer to a table have both
+-- rights; none where no device stands in it
 pub record IsDomainsTables (d : Domains) (root n : ℕ) (bytes : List ℕ) : Type 0 where
-  pub some : has_device d n ≡ true → AreTablesOfDomain (domain_windows_at d n) (root + tables_page d n) bytes
+  pub some : has_device d n ≡ true → AreWritten Rw (domain_windows_at d n) (root + tables_page d n) bytes
   pub none : has_device d n ≡ false → bytes ≡ []
 
 -- of each domain

@@ -1,11 +1,13 @@
 //! The tables of domains (Intel VT-d specification, second-level translation).
 ghost use Rattle.std.specs.Prelude.{◌≡◌, ◌+◌, ◌*◌, ◌<◌, ◌≤◌, ◌^◌, ◌++◌, length, map, IfOk, OnOk};
 ghost use Rattle.std.specs.List.{concat};
-ghost use Rattle.dma_emit.specs.Emitted.{AreDomainTables, AreTablesOfDomain, IsDomainsTables};
+ghost use Rattle.dma_emit.specs.Emitted.{AreDomainTables, IsDomainsTables};
 ghost use Rattle.dma_emit.specs.Layout.{page_count, tables_page};
 ghost use Rattle.dma_emit.specs.Ready.{AreDomainWindows, IsReady};
 ghost use Rattle.ept_emit.specs.Pages.{ept_pages, ranges_of};
+ghost use Rattle.ept_emit.specs.Tables.{AreWritten};
 ghost use Rattle.muen_num.specs.Range.{numbers_below};
+ghost use Rattle.policy_lawful.specs.rights.Rights.TheVariants.{Rw};
 
 use crate::domains::Domains;
 use crate::layout::has_device;
@@ -20,7 +22,7 @@ fn tables_of(alloc: Global, windows: &[Window], page: u64, count: u64) -> Result
     requires windows { AreDomainWindows windows.now }
     requires count { count ≡ ept_pages (ranges_of windows.now) }
     requires end { page + count ≤ 2 ^ 28 }
-    ensures { IfOk result (AreTablesOfDomain windows.now page) }
+    ensures { IfOk result (AreWritten Rw windows.now page) }
 {
     let mut tables = vec![in alloc; 0u8; (PAGE * count) as usize]?;
     write_tables(windows, Rights::Rw, PAGE * page, tables.as_mut_slice());

@@ -1,11 +1,12 @@
 -- What stands in tables that lie one after another, and which tables lead to which. Tables are numbered from 0, and table k
 -- is in page base + k. A level is that of a table, from 3 of the PML4 table down to 0 of a page table. Each entry that
 -- references a table has the same rights, `pointers`.
-use Rattle.std.specs.Prelude.{◌≡◌, ◌⊎◌, ℕ, zero, suc, ◌+◌, ◌-◌, ◌*◌, ◌/◌, ◌%◌, ◌<◌, ◌≤◌, Bool, true, false, List, Option, Some, None}
+use Rattle.std.specs.Prelude.{◌≡◌, ◌⊎◌, ℕ, zero, suc, ◌+◌, ◌-◌, ◌*◌, ◌/◌, ◌%◌, ◌^◌, ◌<◌, ◌≤◌, Bool, true, false, List, length, Option, Some, None}
 use Rattle.ept_emit.specs.declared.window.Window.{Window}
 use Rattle.machine_layout.specs.Walks.{entry_size}
 use Rattle.policy_types.specs.declared.rights.Rights.{Rights}
-use Rattle.ept_emit.specs.Entries.{is_whole, leaf_entry, table_entry, window_touching}
+use Rattle.ept_emit.specs.Entries.{is_whole, leaf_entry, table_entry, window_touching, word_at}
+use Rattle.ept_emit.specs.Pages.{ept_pages, ranges_of}
 
 abbrev pub Chosen : Type 0 → Type 0 → Bool → Type 0
 Chosen A B true = A
@@ -63,3 +64,14 @@ pub record AreNumbered (pointers : Rights) (word : ℕ → ℕ) (base used top :
   pub reached : (k : ℕ) → used ≤ k → k < top → IsTableReached word base ws level table Within k
   pub order : (h l j k : ℕ) → Within h → Below word base ws level table h l k → used ≤ j → j ≤ k → IsTableReached word base ws level table (λ g. Within g × (g ≤ h)) j
   pub ascending : (g l k j i : ℕ) → Within g → Below word base ws level table g l k → Below word base ws level table g j i → j < l → k < i
+
+-- **these bytes are the tables of the windows**, of which the first lies in this page, and as many as tables of small pages
+-- would take: each entry that an address meets has exactly the bits that it must have, the tables are numbered in the order in
+-- which ascending addresses need them, and behind them all is zero
+pub record AreWritten (pointers : Rights) (ws : List Window) (page : ℕ) (bytes : List ℕ) : Type 0 where
+  pub len : length bytes ≡ 4096 * ept_pages (ranges_of ws)
+  pub used : ℕ
+  pub some : 1 ≤ used
+  pub few : used ≤ ept_pages (ranges_of ws)
+  pub numbered : AreNumbered pointers (word_at bytes) page 1 used ws 3 0 (λ addr. addr < 2 ^ 48)
+  pub rest : (j : ℕ) → 512 * used ≤ j → word_at bytes j ≡ 0

@@ -4,7 +4,7 @@ ghost use Rattle.ept_emit.specs.Pages.{AreApart, ept_pages, ranges_of};
 ghost use Rattle.ept_emit.specs.Emitted.{AreAscending, AreInOrder, AreReadAlone, AreReadOrZero, AreTranslating, HaveGreatestPages, HaveMemoryTypes, HaveOnePath, eptp_of};
 ghost use Rattle.ept_emit.specs.Entries.{IsEmittable, word_at};
 ghost use Rattle.ept_emit.specs.Needs.{needs};
-ghost use Rattle.ept_emit.specs.Tables.{AreNumbered, IsWritten};
+ghost use Rattle.ept_emit.specs.Tables.{AreNumbered, AreWritten};
 ghost use Rattle.machine_layout.specs.Walks.{entry_size};
 ghost use Rattle.policy_types.specs.declared.rights.Rights.TheVariants.{Rwx};
 
@@ -151,7 +151,7 @@ pub fn emit(windows: &[Window], at: u64, out: &mut [u8])
     ensures ascending { AreAscending at out.new }
     ensures order { AreInOrder at out.new }
     ensures rest { AreReadOrZero (ept_pages (ranges_of windows.now)) at out.new }
-    ensures entries { (addr : ℕ) → addr < 2 ^ 48 → IsWritten Rwx (word_at out.new) (at / 4096) 1 (ept_pages (ranges_of windows.now)) windows.now 3 0 addr }
+    ensures written { AreWritten Rwx windows.now (at / 4096) out.new }
     ensures len { length out.new ≡ length out.old }
 {
     write_tables(windows, Rights::Rwx, at, out);

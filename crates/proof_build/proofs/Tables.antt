@@ -37,7 +37,7 @@ module _ (m : Made) (h : IsMade m) (k : ℕ) (s : Subject) (g : Grants) (t : Eve
   tables_span = kernel_span m h k s g t q at 1 (many * PAGE) Ept
 
   pub tables_long : length q.tables ≡ 4096 * many
-  tables_long = at.pages.tables.len ∙ ap (λ n. 4096 * n) (pages_same m.placed g)
+  tables_long = at.pages.tables.written.len ∙ ap (λ n. 4096 * n) (pages_same m.placed g)
 
   -- has so many pages
   span_pages : tables_span.pages ≡ many

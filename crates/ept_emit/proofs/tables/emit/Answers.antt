@@ -1,10 +1,7 @@
-use Rattle.std.proofs.Common.{◌/◌, arith, refl}
-use Rattle.policy_types.specs.declared.rights.Rights.TheVariants.{Rwx}
+use Rattle.std.proofs.Common.{arith, refl}
 use Rattle.ept_emit.specs.Pages.{ept_pages, ranges_of}
 use Rattle.ept_emit.specs.Emitted.{window_at}
-use Rattle.ept_emit.specs.Entries.{word_at}
 use Rattle.ept_emit.proofs.Held.{alone_held, ascending_held, order_held, paths_held, rest_held, size_held, type_held, walk_held}
-use Rattle.ept_emit.proofs.Written.{keeps}
 use Rattle.ept_emit.proofs.tables.emit.Goals as goal
 
 pub returns-clause-walk : goal.returns-clause-walk
@@ -31,9 +28,13 @@ returns-clause-order c = λ m addr level page k held lt r low high. order_held m
 pub returns-clause-rest : goal.returns-clause-rest
 returns-clause-rest c = λ m k held lt. rest_held m c.args.at c.write_tables.result (ept_pages (ranges_of c.args.windows.now)) c.write_tables.new.out c.args.windows.now c.requires.at c.write_tables.ensures.some c.write_tables.ensures.few c.requires.end (omega (arith, c.write_tables.ensures.len, c.requires.room)) c.requires.emittable c.write_tables.ensures.numbered held k lt c.write_tables.ensures.rest
 
-pub returns-clause-entries : goal.returns-clause-entries
-returns-clause-entries c = λ addr lt.
-    let n = c.write_tables.result in
-    let ws = c.args.windows.now in
-    let words = word_at c.write_tables.new.out in
-    keeps Rwx words words (c.args.at / 4096) 1 n 1 _ ws (omega arith) c.write_tables.ensures.few (λ _ _ _. refl) 3 0 addr refl (c.write_tables.ensures.numbered.written addr lt)
+pub returns-clause-written : goal.returns-clause-written
+returns-clause-written c =
+    record {
+      len = omega (arith, c.write_tables.ensures.len, c.requires.room);
+      used = c.write_tables.result;
+      some = c.write_tables.ensures.some;
+      few = c.write_tables.ensures.few;
+      numbered = c.write_tables.ensures.numbered;
+      rest = c.write_tables.ensures.rest;
+    }
