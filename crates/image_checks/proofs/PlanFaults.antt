@@ -35,7 +35,6 @@ a_plan_fault_is_none_of_a_sound_image p i (Device k) d h = no_first (IsDeviceOf 
 -- ---- what is found
 
 module _ (p : Source) (i : Image) (many : HasAsMany p i) (subjects : HasSubjects p i) where
-
   module _ (plan : HasPlan p i) where
     pub all_same : AllZip (IsDeviceOf p i) p.devices i.devices → HasPlanAndEvents p i
     all_same devices = record { many = many; subjects = subjects; cpus = plan.cpus; plan = plan.plan; tau0 = plan.tau0; devices = devices }
