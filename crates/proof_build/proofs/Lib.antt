@@ -9,8 +9,15 @@ pub mod Contents
 pub mod Examples
 pub mod GreatestPages
 pub mod KernelSpans
+pub mod ListsTold
 pub mod MemoryTypes
+pub mod OneEvents
+pub mod OneImage
+pub mod OnePlan
+pub mod OneResolution
+pub mod OneSpans
 pub mod OwnPages
+pub mod PageBytes
 pub mod PagesThere
 pub mod Paths
 pub mod PlanEvents
