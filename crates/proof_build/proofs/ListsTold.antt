@@ -19,7 +19,8 @@ index_one names unique j k a b e =
     sym (position_is names j unique a) ∙ ap (λ n. position_or_len (λ m. bytes_eq m n) names) e ∙ position_is names k unique b
 
 -- so of what has names
-pub named_one : {X : Type 0} (f : X → List ℕ) (xs : List X) → repeated (map f xs) ≡ None → (j k : ℕ) → j < length xs → k < length xs → name_at (map f xs) j ≡ name_at (map f xs) k → j ≡ k
+pub named_one : {X : Type 0} (f : X → List ℕ) (xs : List X) → repeated (map f xs) ≡ None → (j k : ℕ) → j < length xs → k < length xs
+    → name_at (map f xs) j ≡ name_at (map f xs) k → j ≡ k
 named_one f xs unique j k a b e =
     let many : length (map f xs) ≡ length xs = length-map xs f in
     index_one (map f xs) unique j k (omega (arith, many, a)) (omega (arith, many, b)) e
@@ -45,7 +46,8 @@ rest_same f x y xs ys e = cc
 abbrev pub AreTold : {X Y : Type 0} → (X → Y) → (X → Bool) → Type 0
 AreTold {X} {Y} f in_range = (a b : X) → in_range a ≡ true → in_range b ≡ true → f a ≡ f b → a ≡ b
 
-pub lists_told : {X Y : Type 0} (f : X → Y) (in_range : X → Bool) → AreTold f in_range → (xs ys : List X) → list_all in_range xs ≡ true → list_all in_range ys ≡ true → map f xs ≡ map f ys → xs ≡ ys
+pub lists_told : {X Y : Type 0} (f : X → Y) (in_range : X → Bool) → AreTold f in_range → (xs ys : List X) → list_all in_range xs ≡ true → list_all in_range ys ≡ true
+    → map f xs ≡ map f ys → xs ≡ ys
 lists_told f in_range told [] [] a b e = refl
 lists_told f in_range told [] (y ∷ ys) a b e = absurd (cc)
 lists_told f in_range told (x ∷ xs) [] a b e = absurd (cc)
@@ -54,7 +56,8 @@ lists_told f in_range told (x ∷ xs) (y ∷ ys) a b e =
     let q = and_parts (in_range y) (list_all in_range ys) b in
     ap₂ (λ z zs. z ∷ zs) (told x y p.0 q.0 (first_same f x y xs ys e)) (lists_told f in_range told xs ys p.1 q.1 (rest_same f x y xs ys e))
 
-pub options_told : {X Y : Type 0} (f : X → Y) (in_range : X → Bool) → AreTold f in_range → (a b : Option X) → option_map_or in_range a true ≡ true → option_map_or in_range b true ≡ true → option_map f a ≡ option_map f b → a ≡ b
+pub options_told : {X Y : Type 0} (f : X → Y) (in_range : X → Bool) → AreTold f in_range → (a b : Option X) → option_map_or in_range a true ≡ true
+    → option_map_or in_range b true ≡ true → option_map f a ≡ option_map f b → a ≡ b
 options_told f in_range told None None x y e = refl
 options_told f in_range told None (Some b) x y e = absurd (cc)
 options_told f in_range told (Some a) None x y e = absurd (cc)

@@ -1,5 +1,5 @@
 -- The image of a policy over files is one, whatever placement of the policy it is made of.
-use Rattle.std.proofs.Common.{◌≡◌, ℕ, ◌+◌, ◌<◌, ◌≤◌, List, [], ◌∷◌, ◌++◌, length, map, not, Ok, refl, sym, ap, ap₂, ◌∙◌, subst, arith}
+use Rattle.std.proofs.Common.{◌≡◌, ℕ, ◌+◌, List, [], ◌∷◌, ◌++◌, length, map, refl, sym, ap, ap₂, ◌∙◌, subst, arith}
 use Rattle.std.specs.Prelude.{slice_index_or}
 use Rattle.std.specs.List.{AllZip, enumerate_from, flat_map, zip}
 use Rattle.std.proofs.lemmas.List.{same_lists}
@@ -22,16 +22,11 @@ use Rattle.image_pack.specs.declared.parts.SpanPart.{SpanPart}
 use Rattle.image_pack.specs.declared.parts.SubjectPart.{SubjectPart}
 use Rattle.image_pack.specs.plan.Plan.{Plan}
 use Rattle.image_soundness.specs.ThingBytes.{thing_bytes}
-use Rattle.iobm_emit.specs.Ports.{is_granted_access}
-use Rattle.machine_layout.specs.Exits.{area_bytes}
-use Rattle.machine_layout.specs.PageFields.{padded}
-use Rattle.msrbm_emit.specs.Area.{area_of, msr_count}
+use Rattle.msrbm_emit.specs.Area.{msr_count}
 use Rattle.muen_num.proofs.Lists.{there}
 use Rattle.muen_num.proofs.Pairs.{both_at}
-use Rattle.muen_num.specs.declared.limits.TheConstants.{MOST_MSRS, PAGE}
 use Rattle.policy_lawful.proofs.UniqueNames.{unique}
 use Rattle.policy_lawful.specs.Contents.{Held}
-use Rattle.policy_lawful.specs.MsrGrants.{is_granted}
 use Rattle.policy_lawful.specs.Resolution.{Resolution, source_of}
 use Rattle.policy_lawful.specs.declared.resolved.Subject.{Subject}
 use Rattle.policy_lawful.specs.source.Source.{Source}
@@ -45,8 +40,7 @@ use Rattle.region_alloc.specs.Placed.{Placement}
 use Rattle.region_alloc.specs.Placement.{placement_of}
 use Rattle.span_emit.specs.SpansOf.{spans_of}
 use Rattle.subject_emit.proofs.OnePages.{pages_are_one}
-use Rattle.subject_emit.specs.Mapped.{mapped}
-use Rattle.subject_emit.specs.Pages.{ArePages, AreTablesOf, tables_at}
+use Rattle.subject_emit.specs.Pages.{ArePages}
 use Rattle.subject_emit.specs.declared.subject_pages.SubjectPages.{SubjectPages}
 
 -- ---- what is granted
@@ -85,13 +79,13 @@ parts_alike x n (s ∷ ss) (g ∷ gs) (h ∷ hs) (t ∷ ts) a =
 pages_alike : (x : Placement) (k : ℕ) (s : Subject) (g h : Grants) (q : SubjectPages) → AreAlike g h → ArePages x k s h q → ArePages x k s g q
 pages_alike x k s g h q a of_h = record {
   state = of_h.state;
-  tables = subst (λ ws. AreTablesOf (map (mapped x) ws) (tables_at x k) q.tables) (sym a.windows) of_h.tables;
+  tables = rw a.windows of_h.tables;
   ports_len = of_h.ports_len;
-  ports = λ port size. of_h.ports port size ∙ ap (λ ps. not (is_granted_access ps port size)) (sym a.ports);
+  ports = λ port size. rw a.ports (of_h.ports port size);
   msrs_len = of_h.msrs_len;
-  msrs = λ index write. of_h.msrs index write ∙ ap (λ ms. not (is_granted ms index write)) (sym a.msrs);
-  few = subst (λ ms. msr_count ms ≤ MOST_MSRS) (sym a.msrs) of_h.few;
-  area = of_h.area ∙ ap (λ ms. padded PAGE (area_bytes (area_of ms))) (sym a.msrs);
+  msrs = λ index write. rw a.msrs (of_h.msrs index write);
+  few = rw a.msrs of_h.few;
+  area = rw a.msrs of_h.area;
 }
 
 -- ---- of one placement, but for entries for events and routes
@@ -100,7 +94,7 @@ pages_many : (m : Made) → IsMade m → length m.pages ≡ length (policy_of m)
 pages_many m h =
     let ss = (policy_of m).subjects in
     let gs = m.placed.expanded.grants in
-    AllZip-long (λ e q. ArePages m.placed e.0 e.1.0 e.1.1 q) (enumerate_from 0 (zip ss gs)) m.pages h.pages
+    AllZip-long (λ (e : ℕ × (Subject × Grants)) (q : SubjectPages). ArePages m.placed e.0 e.1.0 e.1.1 q) (enumerate_from 0 (zip ss gs)) m.pages h.pages
     ∙ length-enumerate_from 0 (zip ss gs)
     ∙ zip_length ss gs (AllZip-long (AreGrantsOf (policy_of m)) ss gs h.expansion.grants)
 
@@ -199,7 +193,7 @@ module _ (m : Made) (h : IsMade m) (parts : IsParts (image_of m)) where
 
     addresses : m.placed.addresses ≡ n.placed.addresses
     addresses =
-        let both : Ok m.placed.addresses ≡ Ok n.placed.addresses = sym h.placement ∙ ap placement_of sources ∙ k.placement in
+        let both = sym h.placement ∙ ap placement_of sources ∙ k.placement in
         cc
 
     pub of_one_policy : image_of m ≡ image_of n

@@ -25,7 +25,8 @@ minors_one : (fs gs : List Minor) → map frame_of_minor fs ≡ map frame_of_min
 minors_one fs gs e = mapped_one frame_of_minor minor_of (λ f. refl) fs gs e
 
 -- those of each CPU
-cpus_one : (xs ys : List (List Minor)) → length xs ≡ length ys → ((cpu : ℕ) → cpu < length xs → map frame_of_minor (slice_index_or xs cpu []) ≡ map frame_of_minor (slice_index_or ys cpu [])) → xs ≡ ys
+cpus_one : (xs ys : List (List Minor)) → length xs ≡ length ys
+    → ((cpu : ℕ) → cpu < length xs → map frame_of_minor (slice_index_or xs cpu []) ≡ map frame_of_minor (slice_index_or ys cpu [])) → xs ≡ ys
 cpus_one [] [] l same = refl
 cpus_one [] (y ∷ ys) l same = absurd (omega (arith, l))
 cpus_one (x ∷ xs) [] l same = absurd (omega (arith, l))

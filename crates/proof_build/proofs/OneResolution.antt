@@ -126,8 +126,11 @@ module _ (r : Resolution) (h : IsResolved r) where
       let a = and_parts _ _ b.0 in
       record { device = a.0; memory = a.1; io_ports = b.1; irqs = c.1 }
 
-  of_one_device : (a b : DeviceUse) → device_in_range r a ≡ true → device_in_range r (record b { device = a.device }) ≡ true → device_named r a ≡ device_named r (record b { device = a.device })
-      → a ≡ record b { device = a.device }
+  -- the first is told from the second, were that of this device
+  abbrev IsToldAt : DeviceUse → DeviceUse → ℕ → Type 0
+  IsToldAt a b k = device_in_range r (record b { device = k }) ≡ true → device_named r a ≡ device_named r (record b { device = k }) → a ≡ record b { device = k }
+
+  of_one_device : (a b : DeviceUse) → device_in_range r a ≡ true → IsToldAt a b a.device
   of_one_device a b x y e =
       let p = device_parts a x in
       let q = device_parts (record b { device = a.device }) y in
@@ -142,8 +145,9 @@ module _ (r : Resolution) (h : IsResolved r) where
   device_told a b x y e =
       let here = device_parts a x in
       let other = device_parts b y in
-      let device = named_one (λ (d : Device). d.name) r.devices (devices_unique r h) a.device b.device (ltb-true _ _ here.device) (ltb-true _ _ other.device) (ap (λ (d : NamedDevice). d.device) e) in
-      subst (λ k. device_in_range r (record b { device = k }) ≡ true → device_named r a ≡ device_named r (record b { device = k }) → a ≡ record b { device = k }) device (of_one_device a b x) y e
+      let device = named_one (λ (d : Device). d.name) r.devices (devices_unique r h) a.device b.device (ltb-true _ _ here.device) (ltb-true _ _ other.device)
+      (ap (λ (d : NamedDevice). d.device) e) in
+      subst (IsToldAt a b) device (of_one_device a b x) y e
 
   -- ---- its component
 
@@ -186,12 +190,13 @@ module _ (r : Resolution) (h : IsResolved r) where
         names_apart (provided ++ wanted_memory c) (wanted_channels c) (unique_logical r h used c is) (length provided + j) k (omega (arith, many, low)) (part_within wanted_channels k y)
         (get_or-append-add provided (wanted_memory c) j [] ∙ sym (part_named wanted_memory j) ∙ e ∙ part_named wanted_channels k)
 
-    logical_one : (names : Component → List (List ℕ)) → repeated (names c) ≡ None → (j k : ℕ) → nat_lt j (length (component_part r names used)) ≡ true → nat_lt k (length (component_part r names used)) ≡ true
+    logical_one : (names : Component → List (List ℕ)) → repeated (names c) ≡ None → (j k : ℕ)
+        → nat_lt j (length (component_part r names used)) ≡ true → nat_lt k (length (component_part r names used)) ≡ true
         → name_at (component_part r names used) j ≡ name_at (component_part r names used) k → j ≡ k
     logical_one names unique j k x y e = index_one (names c) unique j k (part_within names j x) (part_within names k y) (sym (part_named names j) ∙ e ∙ part_named names k)
 
-    by_wanted : (v w : Wanted) (p q : ℕ) (s t : Option Rights) → entry_in_range r used v p ≡ true → entry_in_range r used w q ≡ true → entry_named r used v (map_entry v p s) ≡ entry_named r used w (map_entry w q t)
-        → map_entry v p s ≡ map_entry w q t
+    by_wanted : (v w : Wanted) (p q : ℕ) (s t : Option Rights) → entry_in_range r used v p ≡ true → entry_in_range r used w q ≡ true
+        → entry_named r used v (map_entry v p s) ≡ entry_named r used w (map_entry w q t) → map_entry v p s ≡ map_entry w q t
     by_wanted (WantedMemory j) (WantedMemory k) p q s t x y e =
         let a = and_parts _ _ x in
         let b = and_parts _ _ y in
@@ -214,8 +219,11 @@ module _ (r : Resolution) (h : IsResolved r) where
     entry_told : AreTold (λ (e : MapEntry). entry_named r used e.logical e) (λ e. entry_in_range r used e.logical e.physical)
     entry_told a b x y e = by_wanted a.logical b.logical a.physical b.physical a.rights b.rights x y e
 
-  of_one_component : (a b : ComponentUse) → component_in_range r a ≡ true → component_in_range r (record b { used = a.used }) ≡ true → component_named r a ≡ component_named r (record b { used = a.used })
-      → a ≡ record b { used = a.used }
+  -- so of a component
+  abbrev IsToldOf : ComponentUse → ComponentUse → ℕ → Type 0
+  IsToldOf a b k = component_in_range r (record b { used = k }) ≡ true → component_named r a ≡ component_named r (record b { used = k }) → a ≡ record b { used = k }
+
+  of_one_component : (a b : ComponentUse) → component_in_range r a ≡ true → IsToldOf a b a.used
   of_one_component a b x y e =
       let p = and_parts _ _ x in
       let q = and_parts _ _ y in
@@ -228,8 +236,9 @@ module _ (r : Resolution) (h : IsResolved r) where
   component_told a b x y e =
       let p = and_parts _ _ x in
       let q = and_parts _ _ y in
-      let used = named_one (λ (c : Component). c.name) r.components (unique (source_of r) h.names).components a.used b.used (ltb-true _ _ p.0) (ltb-true _ _ q.0) (ap (λ (u : NamedComponent). u.used) e) in
-      subst (λ k. component_in_range r (record b { used = k }) ≡ true → component_named r a ≡ component_named r (record b { used = k }) → a ≡ record b { used = k }) used (of_one_component a b x) y e
+      let used = named_one (λ (c : Component). c.name) r.components (unique (source_of r) h.names).components a.used b.used (ltb-true _ _ p.0) (ltb-true _ _ q.0)
+      (ap (λ (u : NamedComponent). u.used) e) in
+      subst (IsToldOf a b) used (of_one_component a b x) y e
 
   -- ---- its events, and whom it monitors
 
@@ -251,7 +260,8 @@ module _ (r : Resolution) (h : IsResolved r) where
       let vector = ap (λ (v : NamedTarget). v.vector) e in
       λ i. record { event = event i; vector = vector i }
 
-  subject_one : (j k : ℕ) → nat_lt j (length r.subjects) ≡ true → nat_lt k (length r.subjects) ≡ true → name_at (map (λ s. s.name) r.subjects) j ≡ name_at (map (λ s. s.name) r.subjects) k → j ≡ k
+  subject_one : (j k : ℕ) → nat_lt j (length r.subjects) ≡ true → nat_lt k (length r.subjects) ≡ true
+      → name_at (map (λ s. s.name) r.subjects) j ≡ name_at (map (λ s. s.name) r.subjects) k → j ≡ k
   subject_one j k x y e = named_one (λ (s : Subject). s.name) r.subjects (subjects_unique r h.names) j k (ltb-true _ _ x) (ltb-true _ _ y) e
 
   abbrev monitor_named : Monitor → NamedMonitor

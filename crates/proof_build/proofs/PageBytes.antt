@@ -39,7 +39,8 @@ module _ (m : Made) (h : IsMade m) (parts : IsParts (image_of m)) where
 
   module _ (k : ℕ) (s : Subject) (g : Grants) (t : EventTables) (q : SubjectPages) (at : IsAtIndex m k s g t q) where
     -- .. so the region of this number among those of the kernel for the subject
-    of_kernel : (c size : ℕ) (part : TagPart) (bytes : List ℕ) → slice_get (kernel_regions s.name (ept_pages (granted_ranges g.windows))) c ≡ Some (anywhere Kernel s.name part size) → slice_get (kernel_bytes q) c ≡ Some bytes → IsBytes bytes
+    of_kernel : (c size : ℕ) (part : TagPart) (bytes : List ℕ)
+        → slice_get (kernel_regions s.name (ept_pages (granted_ranges g.windows))) c ≡ Some (anywhere Kernel s.name part size) → slice_get (kernel_bytes q) c ≡ Some bytes → IsBytes bytes
     of_kernel c size part bytes region held =
         let span : SpanPart = kernel_span m h k s g t q at c size part in
         let spans = spans_of m.placed in
