@@ -7,6 +7,7 @@ pub mod Layouts
 pub mod InOrder
 pub mod TablesOf
 pub mod PlacesThere
+pub mod OneFile
 pub mod OnlyOne
 pub mod Places
 pub mod Walk

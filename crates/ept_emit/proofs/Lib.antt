@@ -3,6 +3,8 @@ pub mod Counts
 pub mod Found
 pub mod Written
 pub mod Numbered
+pub mod OneNumbering
+pub mod OneTables
 pub mod EntryBits
 pub mod Walked
 pub mod Addresses

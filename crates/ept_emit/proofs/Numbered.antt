@@ -13,12 +13,12 @@ use Rattle.ept_emit.proofs.Written.{Under, Meets, word_of, window_of, written_fr
 
 -- ---- entries that reference no table
 
-below_none : (out : ℕ → ℕ) (base : ℕ) (ws : List Window) (l k g l2 k2 : ℕ) → window_of ws l g ≡ None → Below out base ws l k g l2 k2 → ⊥
+pub below_none : (out : ℕ → ℕ) (base : ℕ) (ws : List Window) (l k g l2 k2 : ℕ) → window_of ws l g ≡ None → Below out base ws l k g l2 k2 → ⊥
 below_none out base ws zero k g l2 k2 none b = below_lowest out base ws k g l2 k2 b
 below_none out base ws (suc l) k g l2 k2 none b =
     leads_none (λ c. Meets out base ws l c g l2 k2) (child base (word_of out (suc l) k g)) (suc l) (g / entry_size (suc l)) (window_of ws (suc l) g) none (below_parts out base ws l k g l2 k2 b)
 
-below_leaf : (out : ℕ → ℕ) (base : ℕ) (ws : List Window) (l k g l2 k2 : ℕ) (w : Window) → window_of ws l g ≡ Some w → is_whole w l (g / entry_size l) ≡ true → Below out base ws l k g l2 k2 → ⊥
+pub below_leaf : (out : ℕ → ℕ) (base : ℕ) (ws : List Window) (l k g l2 k2 : ℕ) (w : Window) → window_of ws l g ≡ Some w → is_whole w l (g / entry_size l) ≡ true → Below out base ws l k g l2 k2 → ⊥
 below_leaf out base ws zero k g l2 k2 w some whole b = below_lowest out base ws k g l2 k2 b
 below_leaf out base ws (suc l) k g l2 k2 w some whole b =
     leads_leaf (λ c. Meets out base ws l c g l2 k2) (child base (word_of out (suc l) k g)) (suc l) (g / entry_size (suc l)) (window_of ws (suc l) g) w some whole (below_parts out base ws l k g l2 k2 b)
@@ -68,17 +68,17 @@ reference_is pointers base c hi word h lt =
     }
 
 -- an address of an entry is one of the table that it references
-entry_table : (l e g : ℕ) → g / entry_size (suc l) ≡ e → g / entry_size l / 512 ≡ e
+pub entry_table : (l e g : ℕ) → g / entry_size (suc l) ≡ e → g / entry_size l / 512 ≡ e
 entry_table l e g h =
     let m : entry_size l * 512 ≡ 512 * entry_size l = omega arith in
     div-div-eq-div-mul g (entry_size l) 512 ∙ (ap (λ n. g / n) m ∙ h)
 
-table_entry_of : (l e g : ℕ) → g / entry_size l / 512 ≡ e → g / entry_size (suc l) ≡ e
+pub table_entry_of : (l e g : ℕ) → g / entry_size l / 512 ≡ e → g / entry_size (suc l) ≡ e
 table_entry_of l e g h =
     let m : entry_size l * 512 ≡ 512 * entry_size l = omega arith in
     sym (ap (λ n. g / n) m) ∙ (sym (div-div-eq-div-mul g (entry_size l) 512) ∙ h)
 
-first_address : (l e : ℕ) → entry_size l * e / entry_size l ≡ e
+pub first_address : (l e : ℕ) → entry_size l * e / entry_size l ≡ e
 first_address l e = let m : entry_size l * e ≡ e * entry_size l = omega arith in let some : 0 < entry_size l = omega (arith, span_some l) in ap (λ n. n / entry_size l) m ∙ mul-div_cancel e {n = entry_size l} some
 
 module _ (pointers : Rights) (out : ℕ → ℕ) (base used top : ℕ) (ws : List Window) (l k e : ℕ) (w : Window) (at : out (512 * k + e % 512) ≡ table_entry pointers (base + used)) (some : window_touching ws (entry_size (suc l) * e) (entry_size (suc l)) ≡ Some w) (part : is_whole w (suc l) e ≡ false) (more : used < top) (below : AreNumbered pointers out base (used + 1) top ws l used (InTable l e)) where

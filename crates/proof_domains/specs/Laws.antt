@@ -1,8 +1,12 @@
--- The law: tables that are emitted for the domains of devices fit the images that are built.
-use Rattle.std.specs.Prelude.{◌≡◌, ℕ, List, Some, true}
+-- The laws: tables that are emitted for the domains of devices fit the images that are built; and they are one.
+use Rattle.std.specs.Prelude.{◌≡◌, ℕ, List, length, Some, true}
+use Rattle.dma_emit.specs.Base.{IsBase}
+use Rattle.dma_emit.specs.Domains.{domains_of}
+use Rattle.dma_emit.specs.Emitted.{IsFileOf}
 use Rattle.dma_emit.specs.Placed.{IsPlaced, Placement}
 use Rattle.dma_emit.specs.Reached.{device_access_kind, placed_at}
 use Rattle.dma_tables.specs.DmaWalk.{dma_walk}
+use Rattle.dma_tables.specs.Tables.{IsDmaFile}
 use Rattle.dma_tables.specs.declared.file.DmaFile.{DmaFile}
 use Rattle.dma_tables.specs.parts.Image.{Image}
 use Rattle.policy_lawful.specs.Contents.{Held}
@@ -21,3 +25,14 @@ EmittedTablesFit =
     → ((device : List ℕ) (addr : ℕ)
     → dma_walk t device addr true ≡ placed_at x (dma_access (source_of x.expanded.lawful) device addr (device_access_kind true)))
     → Fit (source_of x.expanded.lawful) i (Some t)
+
+-- these bytes are the file of the tables of a placed policy's domains, which lie in the lowest pages that are free
+pub record AreFileOfTables (x : Placement) (bytes : List ℕ) : Type 0 where
+  pub tables : DmaFile
+  pub bytes_are : IsDmaFile bytes tables
+  pub of_domains : IsFileOf (domains_of x) tables
+  pub base : IsBase (source_of x.expanded.lawful) (length tables.pages) tables.base
+
+-- no two files are
+abbrev pub DomainTablesAreOne : Type 0
+DomainTablesAreOne = (x : Placement) (a b : List ℕ) → AreFileOfTables x a → AreFileOfTables x b → a ≡ b

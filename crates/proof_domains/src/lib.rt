@@ -1,13 +1,20 @@
-//! The tables that are emitted for the domains of devices of a policy fit the images that are built for it.
+//! The tables that are emitted for the domains of devices of a policy fit the images that are built for it,
+//! and are one file.
 //!
-//! The function here carries this law; no command calls it.
+//! The functions here carry these laws; no command calls them.
 #![tactic(auto)]
 
-ghost use Rattle.proof_domains.specs.Laws.{EmittedTablesFit};
+ghost use Rattle.proof_domains.specs.Laws.{DomainTablesAreOne, EmittedTablesFit};
 
 /// Tables that lead each write of a device where a placed policy declares it, as `emit` of `dma_emit`
 /// makes them, fit (`Fit`) each image that is sound for the policy and has the policy's regions where
 /// they were placed, as `build` makes it.
 pub fn emitted_tables_fit()
     ensures { EmittedTablesFit }
+{}
+
+/// What bytes are the file of the tables of a placed policy's domains is fixed to the last byte: root
+/// table, context tables, each domain's tables, the list of devices, and where they lie.
+pub fn domain_tables_are_one()
+    ensures { DomainTablesAreOne }
 {}
