@@ -1,5 +1,5 @@
 -- The image of a policy over files is one, whatever placement of the policy it is made of.
-use Rattle.std.proofs.Common.{◌≡◌, ℕ, ◌+◌, List, [], ◌∷◌, ◌++◌, length, map, refl, sym, ap, ap₂, ◌∙◌, subst, arith}
+use Rattle.std.proofs.Common.{◌≡◌, ℕ, ◌+◌, List, [], ◌∷◌, ◌++◌, get_or, length, map, refl, sym, ap, ap₂, ◌∙◌, subst, arith}
 use Rattle.std.specs.Prelude.{slice_index_or}
 use Rattle.std.specs.List.{AllZip, enumerate_from, flat_map, zip}
 use Rattle.std.proofs.lemmas.List.{same_lists}
@@ -13,7 +13,7 @@ use Rattle.expand_kernel.specs.Regions.{regions_of}
 use Rattle.expand_kernel.specs.granted.Grants.{Grants}
 use Rattle.expand_kernel.specs.granted.Route.{Route}
 use Rattle.image_emit.proofs.ByNumber.{zip_length}
-use Rattle.image_emit.proofs.BySubject.{at_index_there}
+use Rattle.image_emit.proofs.BySubject.{IsAtIndex, at_index_there}
 use Rattle.image_emit.specs.Made.{IsMade, Made, choice_region, image_of, kernel_bytes, policy_of, subject_part, subject_parts}
 use Rattle.image_pack.specs.Parts.{IsParts, counted_image}
 use Rattle.image_pack.specs.declared.parts.DevicePart.{DevicePart}
@@ -147,6 +147,15 @@ module _ (m : Made) (h : IsMade m) (parts : IsParts (image_of m)) where
           ap (λ ts. map (subject_part m.placed) (enumerate_from 0 (zip r.subjects (zip m.placed.expanded.grants ts)))) one_events
           ∙ parts_alike m.placed 0 r.subjects m.placed.expanded.grants grants events alike
 
+      -- those of a subject
+      at_index : (j : ℕ) (s : Subject) (g g' : Grants) (t t' : EventTables) → AreAlike g g' → (p : (q : SubjectPages) × IsAtIndex m j s g t q) (p' : (q : SubjectPages) × IsAtIndex other j s g' t' q) (d : SubjectPages)
+          → get_or m.pages j d ≡ get_or pages j d
+      at_index j s g g' t t' a p p' d =
+          let bytes = have_bytes m h parts j s g t p.0 p.1 in
+          let bytes' = have_bytes other k others j s g' t' p'.0 p'.1 in
+          let same : p.0 ≡ p'.0 = pages_are_one m.placed j s g p.0 p'.0 p.1.pages (pages_alike m.placed j s g g' p'.0 a (moved j s g' p'.0 p'.1.pages)) bytes bytes' in
+          get_or_from_slice_get m.pages j p.0 d p.1.kept ∙ same ∙ sym (get_or_from_slice_get pages j p'.0 d p'.1.kept)
+
       one_pages : m.pages ≡ pages
       one_pages =
           let gs = m.placed.expanded.grants in
@@ -163,13 +172,7 @@ module _ (m : Made) (h : IsMade m) (parts : IsParts (image_of m)) where
           let g' = there grants j (omega (arith, l, many, grants_there)) in
           let t = there m.events j (omega (arith, l, many, events_here)) in
           let t' = there events j (omega (arith, l, many, events_there)) in
-          let p = at_index_there m h j s.0 g.0 t.0 s.1 g.1 t.1 in
-          let p' = at_index_there other k j s.0 g'.0 t'.0 s.1 g'.1 t'.1 in
-          let same_grants = both_at AreAlike gs grants j g.0 g'.0 alike g.1 g'.1 in
-          get_or_from_slice_get m.pages j p.0 d p.1.kept
-          ∙ pages_are_one m.placed j s.0 g.0 p.0 p'.0 p.1.pages (pages_alike m.placed j s.0 g.0 g'.0 p'.0 same_grants (moved j s.0 g'.0 p'.0 p'.1.pages))
-          (have_bytes m h parts j s.0 g.0 t.0 p.0 p.1) (have_bytes other k others j s.0 g'.0 t'.0 p'.0 p'.1)
-          ∙ sym (get_or_from_slice_get pages j p'.0 d p'.1.kept))
+          at_index j s.0 g.0 g'.0 t.0 t'.0 (both_at AreAlike gs grants j g.0 g'.0 alike g.1 g'.1) (at_index_there m h j s.0 g.0 t.0 s.1 g.1 t.1) (at_index_there other k j s.0 g'.0 t'.0 s.1 g'.1 t'.1) d)
 
       pub images_same : image_of m ≡ image_of other
       unfolding image_of
