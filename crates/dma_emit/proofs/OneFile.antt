@@ -54,9 +54,9 @@ pages_are_one d root a b of_a of_b bytes_a bytes_b =
     let in_a = each_bytes of_a.tables (rest_bytes (first ++ contexts) (concat of_a.tables) (subst IsBytes of_a.pages_are bytes_a)) in
     let in_b = each_bytes of_b.tables (rest_bytes (first ++ contexts) (concat of_b.tables) (subst IsBytes of_b.pages_are bytes_b)) in
     let tables : of_a.tables ≡ of_b.tables = same_lists of_a.tables of_b.tables many (λ n other lt.
-      let there : n < length d.windows = omega (arith, lt, of_a.are.many) in
-      let here = domain_is_one d root n (get_or of_a.tables n []) (get_or of_b.tables n []) (of_a.are.each n there) (of_b.are.each n there) (in_a n) (in_b n) in
-      get_or_default of_a.tables n other [] lt ∙ (here ∙ get_or_default of_b.tables n [] other (omega (arith, lt, many)))) in
+    let there : n < length d.windows = omega (arith, lt, of_a.are.many) in
+    let here = domain_is_one d root n (get_or of_a.tables n []) (get_or of_b.tables n []) (of_a.are.each n there) (of_b.are.each n there) (in_a n) (in_b n) in
+    get_or_default of_a.tables n other [] lt ∙ (here ∙ get_or_default of_b.tables n [] other (omega (arith, lt, many)))) in
     of_a.pages_are ∙ (ap (λ (ts : List (List ℕ)). first ++ contexts ++ concat ts) tables ∙ sym of_b.pages_are)
 
 -- ---- where they lie

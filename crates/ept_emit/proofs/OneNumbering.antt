@@ -165,18 +165,20 @@ module _ (pointers : Rights) (a b : ℕ → ℕ) (base m n : ℕ) (ws : List Win
 both_below : (pointers : Rights) (a b : ℕ → ℕ) (base m n : ℕ) (ws : List Window) → AreAll pointers a base m ws → AreAll pointers b base n ws → (k : ℕ) → ComesBelow a b base ws k × ComesBelow b a base ws k
 both_below pointers a b base m n ws of_a of_b zero = ((λ g l j in_g lt x. absurd (omega (arith, lt))), (λ g l j in_g lt x. absurd (omega (arith, lt))))
 both_below pointers a b base m n ws of_a of_b (suc k) =
-    let less = both_below pointers a b base m n ws of_a of_b k in
-    ((λ g l j in_g lt x. elim (cases_lt j k) [
-      | inl below ↦ less.0 g l j in_g below x
-      | inr not_below ↦
-          let same : j ≡ k = omega (arith, lt, not_below) in
-          subst (λ i. Comes b base ws g l i) (sym same) (same_at pointers a b base m n ws of_a of_b k less.0 less.1 g l in_g (subst (λ i. Comes a base ws g l i) same x))
-    ]), (λ g l j in_g lt x. elim (cases_lt j k) [
-      | inl below ↦ less.1 g l j in_g below x
-      | inr not_below ↦
-          let same : j ≡ k = omega (arith, lt, not_below) in
-          subst (λ i. Comes a base ws g l i) (sym same) (same_at pointers b a base n m ws of_b of_a k less.1 less.0 g l in_g (subst (λ i. Comes b base ws g l i) same x))
-    ]))
+    let less = both_below pointers a b base m n ws of_a of_b k in (
+      (λ g l j in_g lt x. elim (cases_lt j k) [
+        | inl below ↦ less.0 g l j in_g below x
+        | inr not_below ↦
+            let same : j ≡ k = omega (arith, lt, not_below) in
+            subst (λ i. Comes b base ws g l i) (sym same) (same_at pointers a b base m n ws of_a of_b k less.0 less.1 g l in_g (subst (λ i. Comes a base ws g l i) same x))
+      ]),
+      (λ g l j in_g lt x. elim (cases_lt j k) [
+        | inl below ↦ less.1 g l j in_g below x
+        | inr not_below ↦
+            let same : j ≡ k = omega (arith, lt, not_below) in
+            subst (λ i. Comes a base ws g l i) (sym same) (same_at pointers b a base n m ws of_b of_a k less.1 less.0 g l in_g (subst (λ i. Comes b base ws g l i) same x))
+      ]),
+    )
 
 -- **the number of a table** is the same
 pub comes_same : (pointers : Rights) (a b : ℕ → ℕ) (base m n : ℕ) (ws : List Window) → AreAll pointers a base m ws → AreAll pointers b base n ws

@@ -80,9 +80,9 @@ module _ (pointers : Rights) (a b : ℕ → ℕ) (base m n : ℕ) (ws : List Win
       let c = child base (word_of a 3 0 g) in
       let d = child base (word_of b 3 0 g) in
       one_entry 3 0 g (of_a.written g in_g) (of_b.written g in_g) (λ w some part.
-        let here_a : Comes a base ws g 2 c = below_up base ws a 2 0 g 2 c w some part (inl (refl, refl)) in
-        let here_b : Comes b base ws g 2 d = below_up base ws b 2 0 g 2 d w some part (inl (refl, refl)) in
-        same_number base ws b 3 0 g g 2 c d refl (comes_same pointers a b base m n ws of_a of_b g 2 c in_g here_a) here_b)
+      let here_a : Comes a base ws g 2 c = below_up base ws a 2 0 g 2 c w some part (inl (refl, refl)) in
+      let here_b : Comes b base ws g 2 d = below_up base ws b 2 0 g 2 d w some part (inl (refl, refl)) in
+      same_number base ws b 3 0 g g 2 c d refl (comes_same pointers a b base m n ws of_a of_b g 2 c in_g here_a) here_b)
 
   -- of a table that a walk comes to, by its level
   lower_same : (l k g : ℕ) (w : Window) → g < 2 ^ 48 → window_of ws l g ≡ Some w → is_whole w l (g / entry_size l) ≡ false → Comes a base ws g l k → Comes b base ws g l k
@@ -162,11 +162,11 @@ byte_in_word xs k d =
 same_bytes : (xs ys : List ℕ) → length xs ≡ length ys → ((i : ℕ) → slice_index xs i < 256) → ((i : ℕ) → slice_index ys i < 256) → ((j : ℕ) → word_at xs j ≡ word_at ys j) → xs ≡ ys
 same_bytes xs ys many in_xs in_ys same =
     same_lists xs ys many (λ k d lt.
-      let n = 8 * (k / 8) in
-      let long : length (drop n xs) ≡ length (drop n ys) = length-drop n xs ∙ (ap (λ i. i - n) many ∙ sym (length-drop n ys)) in
-      let part = same_spelled 8 (drop n xs) (drop n ys) long (λ i. subst (λ x. x < 256) (sym (get_or-drop n xs i 0)) (in_xs (n + i)))
-        (λ i. subst (λ x. x < 256) (sym (get_or-drop n ys i 0)) (in_ys (n + i))) (same (k / 8)) in
-      sym (byte_in_word xs k d) ∙ (ap (λ (zs : List ℕ). get_or zs (k % 8) d) part ∙ byte_in_word ys k d))
+    let n = 8 * (k / 8) in
+    let long : length (drop n xs) ≡ length (drop n ys) = length-drop n xs ∙ (ap (λ i. i - n) many ∙ sym (length-drop n ys)) in
+    let part = same_spelled 8 (drop n xs) (drop n ys) long (λ i. subst (λ x. x < 256) (sym (get_or-drop n xs i 0)) (in_xs (n + i)))
+    (λ i. subst (λ x. x < 256) (sym (get_or-drop n ys i 0)) (in_ys (n + i))) (same (k / 8)) in
+    sym (byte_in_word xs k d) ∙ (ap (λ (zs : List ℕ). get_or zs (k % 8) d) part ∙ byte_in_word ys k d))
 
 pub tables_are_one : (pointers : Rights) (ws : List Window) (page : ℕ) (a b : List ℕ) → AreWritten pointers ws page a → AreWritten pointers ws page b
     → ((i : ℕ) → slice_index a i < 256) → ((i : ℕ) → slice_index b i < 256) → a ≡ b

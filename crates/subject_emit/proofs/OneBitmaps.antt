@@ -36,11 +36,11 @@ bit_of xs k i small =
 bitmaps_are_one : (xs ys : List ℕ) → length xs ≡ length ys → ((i : ℕ) → slice_index xs i < 256) → ((i : ℕ) → slice_index ys i < 256) → ((n : ℕ) → n < 8 * length xs → is_set xs n ≡ is_set ys n) → xs ≡ ys
 bitmaps_are_one xs ys many in_xs in_ys same =
     same_lists xs ys many (λ k d lt.
-      let each : (i : ℕ) → i < 8 → bit_at (get_or xs k 0) i ≡ bit_at (get_or ys k 0) i =
-        λ i small. one_bit (bit_at (get_or xs k 0) i) (bit_at (get_or ys k 0) i) (bit_at-lt (get_or xs k 0) i) (bit_at-lt (get_or ys k 0) i)
-        (sym (bit_of xs k i small) ∙ (same (8 * k + i) (omega (arith, lt, small)) ∙ bit_of ys k i small)) in
-      let byte = same_from_bits_below 8 (get_or xs k 0) (get_or ys k 0) (in_xs k) (in_ys k) each in
-      get_or_default xs k d 0 lt ∙ (byte ∙ get_or_default ys k 0 d (omega (arith, lt, many))))
+    let each : (i : ℕ) → i < 8 → bit_at (get_or xs k 0) i ≡ bit_at (get_or ys k 0) i =
+    λ i small. one_bit (bit_at (get_or xs k 0) i) (bit_at (get_or ys k 0) i) (bit_at-lt (get_or xs k 0) i) (bit_at-lt (get_or ys k 0) i)
+    (sym (bit_of xs k i small) ∙ (same (8 * k + i) (omega (arith, lt, small)) ∙ bit_of ys k i small)) in
+    let byte = same_from_bits_below 8 (get_or xs k 0) (get_or ys k 0) (in_xs k) (in_ys k) each in
+    get_or_default xs k d 0 lt ∙ (byte ∙ get_or_default ys k 0 d (omega (arith, lt, many))))
 
 -- ---- ports
 
@@ -111,16 +111,16 @@ exits_at xs index write n e = ap (exits_by xs) e
 pub msrs_are_one : (xs ys : List ℕ) → length xs ≡ 4096 → length ys ≡ 4096 → ((i : ℕ) → slice_index xs i < 256) → ((i : ℕ) → slice_index ys i < 256) → ((index : ℕ) (write : Bool) → msr_exits xs index write ≡ msr_exits ys index write) → xs ≡ ys
 msrs_are_one xs ys long_xs long_ys in_xs in_ys same =
     let bit_same : (index : ℕ) (write : Bool) (m n : ℕ) → msr_bit index write ≡ Some m → m ≡ n → is_set xs n ≡ is_set ys n =
-      λ index write m n bit is. let at = bit ∙ ap Some is in sym (exits_at xs index write n at) ∙ (same index write ∙ exits_at ys index write n at) in
+    λ index write m n bit is. let at = bit ∙ ap Some is in sym (exits_at xs index write n at) ∙ (same index write ∙ exits_at ys index write n at) in
     bitmaps_are_one xs ys (long_xs ∙ sym long_ys) in_xs in_ys (λ n lt.
-      let small : n < 32768 = omega (arith, lt, long_xs) in
-      elim (cases_lt n 16384) [
-        | inl read ↦ elim (cases_lt n 8192) [
-          | inl low ↦ bit_same n false _ n (low_bit n false low) (omega arith)
-          | inr high ↦ bit_same (3221225472 + (n - 8192)) false _ n (high_bit (n - 8192) false (omega arith)) (omega arith)
-        ]
-        | inr written ↦ elim (cases_lt n 24576) [
-          | inl low ↦ bit_same (n - 16384) true _ n (low_bit (n - 16384) true (omega arith)) (omega arith)
-          | inr high ↦ bit_same (3221225472 + (n - 24576)) true _ n (high_bit (n - 24576) true (omega arith)) (omega arith)
-        ]
-      ])
+    let small : n < 32768 = omega (arith, lt, long_xs) in
+    elim (cases_lt n 16384) [
+      | inl read ↦ elim (cases_lt n 8192) [
+        | inl low ↦ bit_same n false _ n (low_bit n false low) (omega arith)
+        | inr high ↦ bit_same (3221225472 + (n - 8192)) false _ n (high_bit (n - 8192) false (omega arith)) (omega arith)
+      ]
+      | inr written ↦ elim (cases_lt n 24576) [
+        | inl low ↦ bit_same (n - 16384) true _ n (low_bit (n - 16384) true (omega arith)) (omega arith)
+        | inr high ↦ bit_same (3221225472 + (n - 24576)) true _ n (high_bit (n - 24576) true (omega arith)) (omega arith)
+      ]
+    ])
