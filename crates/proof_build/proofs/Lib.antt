@@ -9,11 +9,9 @@ pub mod Contents
 pub mod Examples
 pub mod GreatestPages
 pub mod KernelSpans
-pub mod ListsTold
 pub mod MemoryTypes
 pub mod OneEvents
 pub mod OneImage
-pub mod OnePlan
 pub mod OneResolution
 pub mod OneSpans
 pub mod OwnPages

@@ -23,7 +23,7 @@ use Rattle.policy_lawful.specs.source.Device.{Device}
 use Rattle.policy_lawful.specs.source.Irq.{Irq}
 use Rattle.policy_lawful.specs.source.SourceWay.{SourceWay}
 use Rattle.policy_lawful.specs.source.SourceWay.TheVariants.{Call, Trap}
-use Rattle.proof_build.proofs.ListsTold.{beside_one, mapped_one, named_one}
+use Rattle.image_soundness.proofs.ListsTold.{beside_one, mapped_one, named_one}
 
 module _ (r : Resolution) (h : IsResolved r) where
   -- a subject by its name

@@ -31,7 +31,7 @@ use Rattle.policy_lawful.specs.Resolution.{Resolution, source_of}
 use Rattle.policy_lawful.specs.declared.resolved.Subject.{Subject}
 use Rattle.policy_lawful.specs.source.Source.{Source}
 use Rattle.proof_build.proofs.OneEvents.{devices_are_one, tables_are_one}
-use Rattle.proof_build.proofs.OnePlan.{plans_are_one}
+use Rattle.image_soundness.proofs.OnePlan.{plans_are_one}
 use Rattle.proof_build.proofs.OneResolution.{resolutions_are_one}
 use Rattle.proof_build.proofs.OneSpans.{spans_are_one}
 use Rattle.proof_build.proofs.PageBytes.{have_bytes}
@@ -183,7 +183,7 @@ module _ (m : Made) (h : IsMade m) (parts : IsParts (image_of m)) where
           let devices_by = one_devices in
           let plan_by = one_plan in
           λ i. counted_image r.processor.logical_cpus (choice_region r) (spans_by i) (parts_by i) (plan_by i) (devices_by i)
-              (map (λ s. slice_index_or (m.things ++ flat_map kernel_bytes (pages_by i)) s.number []) (spans_by i))
+          (map (λ s. slice_index_or (m.things ++ flat_map kernel_bytes (pages_by i)) s.number []) (spans_by i))
 
   -- ---- of one policy
 

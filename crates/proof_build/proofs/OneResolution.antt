@@ -49,7 +49,7 @@ use Rattle.policy_lawful.specs.source.Monitor.{Monitor as NamedMonitor}
 use Rattle.policy_lawful.specs.source.Region.{Region}
 use Rattle.policy_lawful.specs.source.Source.{Source}
 use Rattle.policy_lawful.specs.source.Subject.{Subject as NamedSubject}
-use Rattle.proof_build.proofs.ListsTold.{AreTold, index_one, lists_told, named_one, names_apart, options_told}
+use Rattle.image_soundness.proofs.ListsTold.{AreTold, index_one, lists_told, named_one, names_apart, options_told}
 
 module _ (r : Resolution) (h : IsResolved r) where
   -- ---- windows of a subject
@@ -161,17 +161,14 @@ module _ (r : Resolution) (h : IsResolved r) where
   map_entry logical physical rights = record { logical = logical; physical = physical; rights = rights }
 
   module _ (used : ℕ) (c : Component) (is : slice_get r.components used ≡ Some c) where
-    part_is : (names : Component → List (List ℕ)) → component_part r names used ≡ names c
-    part_is names = ap (λ o. option_map_or names o []) is
-
     part_within : (names : Component → List (List ℕ)) (k : ℕ) → nat_lt k (length (component_part r names used)) ≡ true → k < length (names c)
     part_within names k x =
         let low = ltb-true k (length (component_part r names used)) x in
-        let same : length (component_part r names used) ≡ length (names c) = ap length (part_is names) in
+        let same : length (component_part r names used) ≡ length (names c) = ap (λ o. length (option_map_or names o [])) is in
         omega (arith, low, same)
 
     part_named : (names : Component → List (List ℕ)) (k : ℕ) → name_at (component_part r names used) k ≡ name_at (names c) k
-    part_named names k = ap (λ ns. name_at ns k) (part_is names)
+    part_named names k = ap (λ o. name_at (option_map_or names o []) k) is
 
     abbrev provided : List (List ℕ)
     provided = map (λ x. x.logical) c.provides

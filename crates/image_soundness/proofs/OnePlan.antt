@@ -14,7 +14,7 @@ use Rattle.policy_lawful.specs.Resolution.{name_at}
 use Rattle.policy_lawful.specs.Rules.{repeated}
 use Rattle.policy_lawful.specs.source.Source.{Source}
 use Rattle.policy_lawful.specs.source.Subject.{Subject}
-use Rattle.proof_build.proofs.ListsTold.{first_same, mapped_one, named_one, rest_same}
+use Rattle.image_soundness.proofs.ListsTold.{first_same, mapped_one, named_one, rest_same}
 
 -- ---- minor frames
 
