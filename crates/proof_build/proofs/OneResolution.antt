@@ -10,7 +10,6 @@ use Rattle.policy_lawful.proofs.SourceElements.{parts_in_range}
 use Rattle.policy_lawful.proofs.UniqueNames.{channels_unique, devices_unique, events_unique, groups_unique, names_of_subjects, parts_unique, regions_unique, subjects_unique, unique, unique_logical, unique_parts}
 use Rattle.policy_lawful.specs.Resolution.{IsResolved, Resolution, channel_named, component_in_range, component_named, component_part, cpu_named, device_in_range, device_named, device_part, entry_in_range, entry_named, group_in_range, group_named, major_in_range, major_named, mapping_named, name_at, source_of, subject_in_range, subject_in_range_among, subject_named, subject_named_among}
 use Rattle.policy_lawful.specs.Rules.{repeated}
-use Rattle.policy_lawful.specs.declared.resolved.ChannelUse.{ChannelUse}
 use Rattle.policy_lawful.specs.declared.resolved.ComponentUse.{ComponentUse}
 use Rattle.policy_lawful.specs.declared.resolved.CpuFrames.{CpuFrames}
 use Rattle.policy_lawful.specs.declared.resolved.DeviceMapping.{DeviceMapping}
@@ -21,7 +20,6 @@ use Rattle.policy_lawful.specs.declared.resolved.Group.{Group}
 use Rattle.policy_lawful.specs.declared.resolved.IrqUse.{IrqUse}
 use Rattle.policy_lawful.specs.declared.resolved.MajorFrame.{MajorFrame}
 use Rattle.policy_lawful.specs.declared.resolved.MapEntry.{MapEntry}
-use Rattle.policy_lawful.specs.declared.resolved.Mapping.{Mapping}
 use Rattle.policy_lawful.specs.declared.resolved.MinorFrame.{MinorFrame}
 use Rattle.policy_lawful.specs.declared.resolved.Monitor.{Monitor}
 use Rattle.policy_lawful.specs.declared.resolved.Subject.{Subject}

@@ -1,5 +1,5 @@
 -- The spans of an image are one: those of a placement, by their addresses.
-use Rattle.std.proofs.Common.{◌≡◌, ◌+◌, ◌*◌, ◌<◌, ◌≤◌, Bool, true, false, List, get_or, sym, ◌∙◌, arith, le-leb}
+use Rattle.std.proofs.Common.{◌≡◌, Bool, true, false, List, get_or, sym, ◌∙◌, arith, le-leb}
 use Rattle.std.specs.Prelude.{nat_le}
 use Rattle.std.specs.List.{AllPairs}
 use Rattle.std.specs.List.Sorted.{IsPermutation}
