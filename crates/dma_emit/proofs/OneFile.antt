@@ -1,6 +1,6 @@
 -- The file of the tables of domains is one: its pages follow from the domains and from where they lie, and where they lie from how
 -- many they are.
-use Rattle.std.proofs.Common.{◌≡◌, inl, inr, ℕ, zero, suc, ◌+◌, ◌/◌, ◌<◌, true, false, List, [], ◌∷◌, ◌++◌, length, get_or, map, refl, sym, ap, ◌∙◌, subst, arith}
+use Rattle.std.proofs.Common.{◌≡◌, inl, inr, ℕ, zero, suc, ◌+◌, ◌/◌, ◌<◌, List, [], ◌∷◌, ◌++◌, length, get_or, sym, ap, ◌∙◌, subst, arith}
 use Rattle.std.specs.List.{concat, flat_map}
 use Rattle.std.proofs.lemmas.Bool.{cases_Bool, cases_lt, cases_order, true≢false}
 use Rattle.std.proofs.lemmas.List.{get_or_append_left, get_or-append-add, get_or_default, get_or_past, same_lists}
@@ -71,7 +71,8 @@ lowest_is_one extents bytes a b of_a of_b =
 
 -- ---- the file
 
-pub file_is_one : (p : Source) (d : Domains) (t u : DmaFile) → IsFileOf d t → IsFileOf d u → IsBase p (length t.pages) t.base → IsBase p (length u.pages) u.base → IsBytes t.pages → IsBytes u.pages → t ≡ u
+pub file_is_one : (p : Source) (d : Domains) (t u : DmaFile) → IsFileOf d t → IsFileOf d u
+    → IsBase p (length t.pages) t.base → IsBase p (length u.pages) u.base → IsBytes t.pages → IsBytes u.pages → t ≡ u
 file_is_one p d t u of_t of_u base_t base_u bytes_t bytes_u =
     let many = pages_long d (root_page t) t.pages of_t.pages ∙ sym (pages_long d (root_page u) u.pages of_u.pages) in
     let base = lowest_is_one (extents_of p) (length u.pages) t.base u.base (subst (λ n. IsBase p n t.base) many base_t) base_u in

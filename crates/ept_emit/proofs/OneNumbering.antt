@@ -79,7 +79,8 @@ module _ (base : ℕ) (ws : List Window) where
       ]
 
   -- and in other words, for the same windows, to some number
-  pub other_number : (word other : ℕ → ℕ) (l c d g h l2 k : ℕ) → g / entry_size (suc l2) ≡ h / entry_size (suc l2) → Below word base ws l c g l2 k → (j : ℕ) × Below other base ws l d h l2 j
+  pub other_number : (word other : ℕ → ℕ) (l c d g h l2 k : ℕ) → g / entry_size (suc l2) ≡ h / entry_size (suc l2) → Below word base ws l c g l2 k
+      → (j : ℕ) × Below other base ws l d h l2 j
   other_number word other zero c d g h l2 k e x = absurd (below_lowest word base ws c g l2 k x)
   other_number word other (suc l) c d g h l2 k e x =
       let low = below_lower word base ws (suc l) c g l2 k x in
@@ -116,7 +117,8 @@ Comes word base ws g l k = Below word base ws 3 0 g l k
 abbrev ComesBelow : (ℕ → ℕ) → (ℕ → ℕ) → ℕ → List Window → ℕ → Type 0
 ComesBelow word other base ws k = (g l j : ℕ) → g < 2 ^ 48 → j < k → Comes word base ws g l j → Comes other base ws g l j
 
-module _ (pointers : Rights) (a b : ℕ → ℕ) (base m n : ℕ) (ws : List Window) (of_a : AreAll pointers a base m ws) (of_b : AreAll pointers b base n ws) (k : ℕ) (a_to_b : ComesBelow a b base ws k) (b_to_a : ComesBelow b a base ws k) where
+module _ (pointers : Rights) (a b : ℕ → ℕ) (base m n : ℕ) (ws : List Window)
+    (of_a : AreAll pointers a base m ws) (of_b : AreAll pointers b base n ws) (k : ℕ) (a_to_b : ComesBelow a b base ws k) (b_to_a : ComesBelow b a base ws k) where
   -- the other's table of number k is another one, which lies before the table that has a greater number there; then the one
   -- numbers these two the other way round
   not_greater : (g l k2 : ℕ) → g < 2 ^ 48 → Comes a base ws g l k → Comes b base ws g l k2 → k < k2 → ⊥
@@ -162,7 +164,8 @@ module _ (pointers : Rights) (a b : ℕ → ℕ) (base m n : ℕ) (ws : List Win
       ]
 
 -- up to each number
-both_below : (pointers : Rights) (a b : ℕ → ℕ) (base m n : ℕ) (ws : List Window) → AreAll pointers a base m ws → AreAll pointers b base n ws → (k : ℕ) → ComesBelow a b base ws k × ComesBelow b a base ws k
+both_below : (pointers : Rights) (a b : ℕ → ℕ) (base m n : ℕ) (ws : List Window) → AreAll pointers a base m ws → AreAll pointers b base n ws
+    → (k : ℕ) → ComesBelow a b base ws k × ComesBelow b a base ws k
 both_below pointers a b base m n ws of_a of_b zero = ((λ g l j in_g lt x. absurd (omega (arith, lt))), (λ g l j in_g lt x. absurd (omega (arith, lt))))
 both_below pointers a b base m n ws of_a of_b (suc k) =
     let less = both_below pointers a b base m n ws of_a of_b k in (

@@ -1,5 +1,6 @@
 -- Tables of windows are one: which bytes they are follows from the windows, the page of the first and the rights of references.
-use Rattle.std.proofs.Common.{◌≡◌, inl, inr, ℕ, zero, suc, ◌+◌, ◌-◌, ◌*◌, ◌/◌, ◌%◌, ◌^◌, ◌<◌, ◌≤◌, false, List, [], ◌∷◌, length, get_or, take, drop, Some, refl, ap, sym, ◌∙◌, arith, subst}
+use Rattle.std.proofs.Common.{◌≡◌, ◌+◌, ◌-◌, ◌*◌, ◌/◌, ◌%◌, ◌^◌, ◌<◌, ◌≤◌, ◌∷◌, ◌∙◌}
+use Rattle.std.proofs.Common.{inl, inr, ℕ, zero, suc, false, List, [], length, get_or, take, drop, Some, refl, ap, sym, arith, subst}
 use Rattle.std.specs.Prelude.{slice_index}
 use Rattle.std.proofs.lemmas.Bool.{cases_lt}
 use Rattle.std.proofs.lemmas.List.{get_or-drop, get_or-take, length-drop, same_lists}
@@ -54,10 +55,13 @@ in_table (suc zero) h i low in_h small = omega arith
 in_table (suc (suc zero)) h i low in_h small = omega arith
 in_table (suc (suc (suc l))) h i low in_h small = absurd (omega arith)
 
-module _ (pointers : Rights) (a b : ℕ → ℕ) (base m n : ℕ) (ws : List Window) (some_a : 1 ≤ m) (some_b : 1 ≤ n) (of_a : AreAll pointers a base m ws) (of_b : AreAll pointers b base n ws) (rest_a : (j : ℕ) → 512 * m ≤ j → a j ≡ 0) (rest_b : (j : ℕ) → 512 * n ≤ j → b j ≡ 0) where
+module _ (pointers : Rights) (a b : ℕ → ℕ) (base m n : ℕ) (ws : List Window)
+    (some_a : 1 ≤ m) (some_b : 1 ≤ n) (of_a : AreAll pointers a base m ws) (of_b : AreAll pointers b base n ws)
+    (rest_a : (j : ℕ) → 512 * m ≤ j → a j ≡ 0) (rest_b : (j : ℕ) → 512 * n ≤ j → b j ≡ 0) where
   -- an entry, where the tables that it may reference have one number
   one_entry : (l k g : ℕ) → IsWritten pointers a base 1 m ws l k g → IsWritten pointers b base 1 n ws l k g
-      → ((w : Window) → window_of ws l g ≡ Some w → is_whole w l (g / entry_size l) ≡ false → child base (word_of a l k g) ≡ child base (word_of b l k g)) → word_of a l k g ≡ word_of b l k g
+      → ((w : Window) → window_of ws l g ≡ Some w → is_whole w l (g / entry_size l) ≡ false → child base (word_of a l k g) ≡ child base (word_of b l k g))
+      → word_of a l k g ≡ word_of b l k g
   one_entry l k g in_a in_b same =
       let e = g / entry_size l in
       let parts_a = written_parts pointers a base 1 m ws l k g in_a in
@@ -159,7 +163,8 @@ byte_in_word xs k d =
     get_or-take 8 (drop (8 * (k / 8)) xs) (k % 8) d (omega arith) ∙ (get_or-drop (8 * (k / 8)) xs (k % 8) d ∙ ap (λ i. get_or xs i d) is)
 
 -- bytes of the same words
-same_bytes : (xs ys : List ℕ) → length xs ≡ length ys → ((i : ℕ) → slice_index xs i < 256) → ((i : ℕ) → slice_index ys i < 256) → ((j : ℕ) → word_at xs j ≡ word_at ys j) → xs ≡ ys
+same_bytes : (xs ys : List ℕ) → length xs ≡ length ys → ((i : ℕ) → slice_index xs i < 256) → ((i : ℕ) → slice_index ys i < 256)
+    → ((j : ℕ) → word_at xs j ≡ word_at ys j) → xs ≡ ys
 same_bytes xs ys many in_xs in_ys same =
     same_lists xs ys many (λ k d lt.
     let n = 8 * (k / 8) in

@@ -1,5 +1,6 @@
 -- Bitmaps by which the same accesses exit are one: each bit of them is that of a port, or of an MSR and a kind of access.
-use Rattle.std.proofs.Common.{◌≡◌, inl, inr, ℕ, ◌+◌, ◌-◌, ◌*◌, ◌/◌, ◌%◌, ◌<◌, ◌==◌, ◌||◌, Bool, true, false, List, length, get_or, take, drop, Option, Some, refl, ap, sym, ◌∙◌, subst, arith, if◌then◌else◌}
+use Rattle.std.proofs.Common.{◌≡◌, ◌+◌, ◌-◌, ◌*◌, ◌/◌, ◌%◌, ◌<◌, ◌==◌, ◌||◌, ◌∙◌, if◌then◌else◌}
+use Rattle.std.proofs.Common.{inl, inr, ℕ, Bool, true, false, List, length, get_or, take, drop, Some, refl, ap, sym, subst, arith}
 use Rattle.std.specs.Prelude.{nat_lt, slice_index}
 use Rattle.std.specs.Int.{bit_at}
 use Rattle.std.specs.List.{list_any}
@@ -33,7 +34,8 @@ bit_of xs k i small =
     λ j. (bit_at (slice_index xs (byte j)) (bit j) == 1)
 
 -- bytes with the same bits
-bitmaps_are_one : (xs ys : List ℕ) → length xs ≡ length ys → ((i : ℕ) → slice_index xs i < 256) → ((i : ℕ) → slice_index ys i < 256) → ((n : ℕ) → n < 8 * length xs → is_set xs n ≡ is_set ys n) → xs ≡ ys
+bitmaps_are_one : (xs ys : List ℕ) → length xs ≡ length ys → ((i : ℕ) → slice_index xs i < 256) → ((i : ℕ) → slice_index ys i < 256)
+    → ((n : ℕ) → n < 8 * length xs → is_set xs n ≡ is_set ys n) → xs ≡ ys
 bitmaps_are_one xs ys many in_xs in_ys same =
     same_lists xs ys many (λ k d lt.
     let each : (i : ℕ) → i < 8 → bit_at (get_or xs k 0) i ≡ bit_at (get_or ys k 0) i =
@@ -108,7 +110,8 @@ exits_at : (xs : List ℕ) (index : ℕ) (write : Bool) (n : ℕ) → msr_bit in
 unfolding msr_exits
 exits_at xs index write n e = ap (exits_by xs) e
 
-pub msrs_are_one : (xs ys : List ℕ) → length xs ≡ 4096 → length ys ≡ 4096 → ((i : ℕ) → slice_index xs i < 256) → ((i : ℕ) → slice_index ys i < 256) → ((index : ℕ) (write : Bool) → msr_exits xs index write ≡ msr_exits ys index write) → xs ≡ ys
+pub msrs_are_one : (xs ys : List ℕ) → length xs ≡ 4096 → length ys ≡ 4096 → ((i : ℕ) → slice_index xs i < 256) → ((i : ℕ) → slice_index ys i < 256)
+    → ((index : ℕ) (write : Bool) → msr_exits xs index write ≡ msr_exits ys index write) → xs ≡ ys
 msrs_are_one xs ys long_xs long_ys in_xs in_ys same =
     let bit_same : (index : ℕ) (write : Bool) (m n : ℕ) → msr_bit index write ≡ Some m → m ≡ n → is_set xs n ≡ is_set ys n =
     λ index write m n bit is. let at = bit ∙ ap Some is in sym (exits_at xs index write n at) ∙ (same index write ∙ exits_at ys index write n at) in

@@ -1,6 +1,5 @@
-use Rattle.std.proofs.Common.{◌≡◌, length, drop, ◌*◌, map, sym, ap, subst, ◌∙◌}
+use Rattle.std.proofs.Common.{length, drop, map, sym, ap, subst, ◌∙◌}
 use Rattle.std.proofs.lemmas.List.{take_at}
-use Rattle.ept_emit.specs.Pages.{ept_pages, ranges_of}
 use Rattle.subject_emit.specs.Mapped.{mapped, mapped_windows}
 use Rattle.subject_emit.specs.Pages.{AreTablesOf, tables_at}
 use Rattle.subject_emit.proofs.tables.emitted.Goals as goal
@@ -14,4 +13,13 @@ returns c =
     subst (AreTablesOf (mapped_windows c.args.placed.now c.args.granted.now) (tables_at c.args.placed.now c.args.subject)) (sym is)
     (subst (λ at. AreTablesOf (mapped_windows c.args.placed.now c.args.granted.now) at out) c.tables_at.ensures
     (subst (λ ws. AreTablesOf ws c.tables_at.result out) are
-    (record { walk = c.emit.ensures.walk; alone = c.emit.ensures.alone; paths = c.emit.ensures.paths; leaves = c.emit.ensures.leaves; types = c.emit.ensures.types; ascending = c.emit.ensures.ascending; rest = c.emit.ensures.rest; written = c.emit.ensures.written })))
+    (record {
+      walk = c.emit.ensures.walk;
+      alone = c.emit.ensures.alone;
+      paths = c.emit.ensures.paths;
+      leaves = c.emit.ensures.leaves;
+      types = c.emit.ensures.types;
+      ascending = c.emit.ensures.ascending;
+      rest = c.emit.ensures.rest;
+      written = c.emit.ensures.written;
+    })))
