@@ -3,7 +3,6 @@ pub mod ThingSpans
 pub mod Telling
 pub mod DevicesTold
 pub mod Equal
-pub mod OnePlan
 pub mod Places
 pub mod PlanFaults
 pub mod PlanTold

@@ -3,7 +3,7 @@ use Rattle.std.proofs.Common.{◌≡◌, ◌∙◌, ℕ, Bool, Option, Some, Non
 use Rattle.std.specs.Prelude.{option_map}
 use Rattle.std.proofs.lemmas.Option.{same_Some}
 use Rattle.image_pack.specs.plan.Plan.{Plan}
-use Rattle.image_checks.proofs.OnePlan.{one_plan}
+use Rattle.image_soundness.proofs.OnePlan.{plans_are_one}
 use Rattle.image_checks.proofs.Decided.{decided}
 use Rattle.image_checks.specs.Firsts.{Decides}
 use Rattle.image_checks.specs.PlanFault.{HasChoice, HasPlan}
@@ -21,7 +21,7 @@ use Rattle.policy_lawful.specs.source.Tau0.{Tau0}
 pub plan_told : (r : Resolution) → IsResolved r → (made given : Plan) → IsPlanOf (source_of r) made → (b : Bool) → Decides (made ≡ given) b → Decides (IsPlanOf (source_of r) given) b
 plan_told r resolved made given is b d =
     decided (made ≡ given) (IsPlanOf (source_of r) given) b (λ e. subst (IsPlanOf (source_of r)) e is)
-    (λ h. one_plan (source_of r) (unique (source_of r) resolved.names).subjects made given is h) d
+    (λ h. plans_are_one (source_of r) (unique (source_of r) resolved.names).subjects made given is h) d
 
 -- ---- the region of the scheduler
 

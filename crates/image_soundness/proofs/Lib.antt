@@ -4,7 +4,9 @@ pub mod AddressesByNumber
 pub mod DevicesOf
 pub mod GroupsByIndex
 pub mod Led
+pub mod ListsTold
 pub mod NamesOfTargets
+pub mod OnePlan
 pub mod SoundFacts
 pub mod SubjectsOfBoth
 pub mod ThingBytes

@@ -1,12 +1,12 @@
--- What an image is made of: its regions are filled, and it is sound for what was seen.
-use Rattle.std.proofs.Common.{◌≡◌, ℕ, List, [], ◌∷◌, sym, ap, subst, ◌∙◌}
+-- What an image is made of: its regions are filled, and what holds over the files that were seen.
+use Rattle.std.proofs.Common.{◌≡◌, ℕ, List, [], ◌∷◌, refl, sym, ap, subst, ◌∙◌}
 use Rattle.std.specs.FinMap.{insert}
 use Rattle.std.specs.Prelude.{IfOk, Result}
 use Rattle.std.proofs.lemmas.Result.{IfOk-weaker}
 use Rattle.expand_kernel.specs.Expansion.{Expansion}
-use Rattle.image_emit.specs.Made.{IsFilled}
+use Rattle.image_emit.specs.Made.{IsEmitted, IsFilled}
 use Rattle.proof_build.specs.ThingBytes.{thing_bytes}
-use Rattle.proof_build.specs.Sound.{IsSound}
+use Rattle.proof_build.specs.Built.{IsMadeFor}
 use Rattle.image_pack.specs.declared.parts.Image.{Image}
 use Rattle.muen_outside.specs.Looks.{ShowAll}
 use Rattle.muen_outside.specs.Store.{Store}
@@ -19,6 +19,10 @@ use Rattle.muen_build.proofs.Held.{things_held}
 use Rattle.muen_build.proofs.Refusing.{accepted_so}
 use Rattle.muen_build.proofs.Rooms.{things_filled}
 
+-- where things hold what the policy says over files, what is emitted of them is made for policy and files
+pub made_for : (x : Placement) (things : List (List ℕ)) (i : Image) → IsEmitted x things i → (files : Store) → things ≡ thing_bytes files x.expanded.lawful → IsMadeFor (source_of x.expanded.lawful) files i
+made_for x things i emitted files e = record { placed = x; of_policy = refl; emitted = subst (λ bytes. IsEmitted x bytes i) e emitted }
+
 module _ (x : Placement) (placed : IsPlaced x) where
   -- of its policy, as it is reached
   module _ (expanded : Expansion) (of_placed : expanded ≡ x.expanded) (lawful r : Resolution) (of_expanded : lawful ≡ expanded.lawful) (of_lawful : r ≡ lawful)
@@ -29,9 +33,9 @@ module _ (x : Placement) (placed : IsPlaced x) where
     pub filled_so : IsFilled x things
     filled_so = subst (IsFilled x) (sym things_are) (things_filled ((name, document) ∷ []) found x placed.resolved placed.expansion.regions)
 
-    pub sound_so : {E : Type 0} (result : Result Image E) → Accepts name (looks_of found) document (source_of x.expanded.lawful)
-        → IfOk result (λ i. (files : Store) → things ≡ thing_bytes files x.expanded.lawful → IsSound (source_of x.expanded.lawful) files i)
-        → IfOk result (λ i. (files : Store) → ShowAll files (looks_of found) → IsSound (source_of x.expanded.lawful) (insert files name document) i)
-    sound_so result accepts sound =
+    pub seen_so : {E : Type 0} (Holds : Store → Image → Type 0) (result : Result Image E) → Accepts name (looks_of found) document (source_of x.expanded.lawful)
+        → IfOk result (λ i. (files : Store) → things ≡ thing_bytes files x.expanded.lawful → Holds files i)
+        → IfOk result (λ i. (files : Store) → ShowAll files (looks_of found) → Holds (insert files name document) i)
+    seen_so Holds result accepts held =
         IfOk-weaker result _ _
-        (λ i h files s. h (insert files name document) (things_are ∙ things_held ((name, document) ∷ []) found x.expanded.lawful (placed_by_index x.expanded.lawful placed.resolved) (λ m t. (accepted_so (insert m name document) document (source_of x.expanded.lawful) (accepts m t)).contents) files s)) sound
+        (λ i h files s. h (insert files name document) (things_are ∙ things_held ((name, document) ∷ []) found x.expanded.lawful (placed_by_index x.expanded.lawful placed.resolved) (λ m t. (accepted_so (insert m name document) document (source_of x.expanded.lawful) (accepts m t)).contents) files s)) held

@@ -1,7 +1,7 @@
 //! The image of a document's policy.
-ghost use Rattle.std.specs.Prelude.{◌≡◌, IfErr, IfOk, Ok};
+ghost use Rattle.std.specs.Prelude.{◌≡◌, ℕ, IfErr, IfOk, List, Ok};
 ghost use Rattle.std.specs.FinMap.{insert};
-ghost use Rattle.proof_build.specs.Built.{HasGreatestPages, HasKernelSpans, HasMemoryTypes, HasNoSpareTables, HasSpans, TablesAscend};
+ghost use Rattle.proof_build.specs.Built.{HasGreatestPages, HasKernelSpans, HasMemoryTypes, HasNoSpareTables, HasSpans, IsMadeFor, TablesAscend};
 ghost use Rattle.proof_build.specs.Paths.{HasOnePathPerTable};
 ghost use Rattle.proof_build.specs.Sound.{ForEachSubject, IsSound};
 ghost use Rattle.muen_build.specs.Accepting.{Accepts, FailsWith, looks_of};
@@ -11,6 +11,7 @@ ghost use Rattle.muen_build.specs.Refusals.{lawful_policy_of};
 ghost use Rattle.muen_outside.specs.Looks.{ShowAll};
 ghost use Rattle.muen_outside.specs.Store.{Store};
 ghost use Rattle.policy_lawful.specs.Resolution.{source_of};
+ghost use Rattle.policy_lawful.specs.source.Source.{Source};
 
 use crate::accept;
 use crate::accepted::{Accepted, BuildError, ComponentFiles};
@@ -33,6 +34,7 @@ fn parts(
 ) -> Result<Parts, NoMemory>
     requires lawful { lawful_policy_of document.now ≡ Ok (source_of placed.now.expanded.lawful) }
     requires accepts { Accepts name.now (looks_of found.now) document.now (source_of placed.now.expanded.lawful) }
+    ensures made { IfOk result (λ i. (files : Store) → ShowAll files (looks_of found.now) → IsMadeFor (source_of placed.now.expanded.lawful) (insert files name.now document.now) i) }
     ensures sound { IfOk result (λ i. (files : Store) → ShowAll files (looks_of found.now) → IsSound (source_of placed.now.expanded.lawful) (insert files name.now document.now) i) }
     ensures spans { IfOk result (HasSpans (source_of placed.now.expanded.lawful)) }
     ensures kernel { IfOk result (λ i. ForEachSubject (source_of placed.now.expanded.lawful) i (HasKernelSpans i)) }
@@ -95,3 +97,9 @@ pub fn build<F: Files>(
     drop(placed);
     Ok(image?)
 }
+
+/// Of a policy and files there is one image: two builds of the policy over the same files have the same
+/// bytes, whoever builds.
+pub fn images_are_one()
+    ensures { (policy : Source) (files : Store) (a b : List ℕ) → IsImageFor policy files a → IsImageFor policy files b → a ≡ b }
+{}

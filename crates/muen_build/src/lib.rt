@@ -24,7 +24,7 @@ mod things;
 pub use accepted::{Accepted, BuildError, ComponentFiles};
 use contents::read_contents;
 pub use given::Given;
-pub use image_bytes::{build, image};
+pub use image_bytes::{build, image, images_are_one};
 use muen_num::Seq;
 use muen_outside::Files;
 pub use named::names_file;

@@ -10,7 +10,12 @@ pub mod Examples
 pub mod GreatestPages
 pub mod KernelSpans
 pub mod MemoryTypes
+pub mod OneEvents
+pub mod OneImage
+pub mod OneResolution
+pub mod OneSpans
 pub mod OwnPages
+pub mod PageBytes
 pub mod PagesThere
 pub mod Paths
 pub mod PlanEvents

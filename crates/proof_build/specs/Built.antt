@@ -1,6 +1,7 @@
 -- What an image of a policy has beside being sound: its spans are the policy's regions and devices, what a subject's part
 -- numbers is the subject's own, tables ascend along a walk, what no walk reads of them is zero,
 -- and its pages are the greatest and have the memory types of what they show (Intel SDM volume 3, "VMX Support for Address Translation").
+-- And when it is the one image of a policy and files.
 use Rattle.std.specs.Prelude.{◌≡◌, ◌⊎◌, ℕ, ◌+◌, ◌*◌, ◌/◌, ◌%◌, ◌<◌, ◌≤◌, ◌&&◌, nat_le, Bool, true, List, ◌++◌, length, map, replicate, Ok, Some}
 use Rattle.std.specs.List.{All, find, list_any}
 use Rattle.std.specs.Option.{IfSome}
@@ -8,9 +9,11 @@ use Rattle.std.specs.Str.{bytes_eq}
 use Rattle.machine_layout.specs.Reads.{Reads}
 use Rattle.ept_emit.specs.Entries.{type_of}
 use Rattle.expand_kernel.specs.Regions.{regions_of}
+use Rattle.image_emit.specs.Made.{IsEmitted}
 use Rattle.image_soundness.specs.Memory.{Span, by_number, memory_of, span_at}
 use Rattle.image_soundness.specs.Named.{tag_at}
 use Rattle.image_soundness.specs.Sound.{address_of, is_tables}
+use Rattle.image_soundness.specs.ThingBytes.{thing_bytes}
 use Rattle.image_pack.specs.SpanConditions.{end_of}
 use Rattle.image_pack.specs.declared.parts.Image.{Image}
 use Rattle.image_pack.specs.declared.parts.SubjectPart.{SubjectPart}
@@ -20,11 +23,14 @@ use Rattle.muen_num.specs.declared.limits.TheConstants.{GUEST_END, PAGE}
 use Rattle.muen_num.specs.declared.tag.Tag.{Tag}
 use Rattle.muen_num.specs.declared.tag.TagPart.{TagPart}
 use Rattle.muen_num.specs.declared.tag.TagPart.TheVariants.{State, Ept, Iobm, Msrbm, Msrs}
+use Rattle.policy_lawful.specs.Contents.{Held}
+use Rattle.policy_lawful.specs.Resolution.{source_of}
 pub use Rattle.policy_lawful.specs.Things.{thing_caching}
 use Rattle.policy_lawful.specs.Thing.{Thing}
 use Rattle.policy_lawful.specs.Windows.{Window, holds, windows_of}
 use Rattle.policy_lawful.specs.source.Source.{Source}
 use Rattle.policy_lawful.specs.source.Subject.{Subject}
+use Rattle.region_alloc.specs.Placed.{Placement}
 use Rattle.region_alloc.specs.Placement.{placement_of}
 use Rattle.span_emit.specs.Spans.{device_spans, region_spans}
 
@@ -113,3 +119,11 @@ abbrev pub HasMemoryTypes : Source → Image → Subject → SubjectPart → Typ
 HasMemoryTypes p i s q =
     (addr : ℕ) → addr < GUEST_END
     → IfSome (find (λ w. holds w addr) (windows_of p s)) (λ w. leaf_type (memory_of i) q.eptp addr ≡ Some (type_of (thing_caching p w.thing)))
+
+-- ---- made of the policy
+
+-- it is made of a placement of the policy, whose regions hold what the policy says over these files
+pub record IsMadeFor (p : Source) (files : Held) (i : Image) : Type 0 where
+  pub placed : Placement
+  pub of_policy : source_of placed.expanded.lawful ≡ p
+  pub emitted : IsEmitted placed (thing_bytes files placed.expanded.lawful) i

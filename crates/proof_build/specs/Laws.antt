@@ -7,7 +7,8 @@ use Rattle.image_soundness.specs.Sound.{ForEachSubject, IsSound}
 use Rattle.policy_lawful.specs.Resolution.{source_of}
 use Rattle.policy_lawful.specs.Contents.{Held}
 use Rattle.region_alloc.specs.Placed.{Placement}
-use Rattle.proof_build.specs.Built.{HasGreatestPages, HasKernelSpans, HasMemoryTypes, HasNoSpareTables, HasSpans, TablesAscend}
+use Rattle.policy_lawful.specs.source.Source.{Source}
+use Rattle.proof_build.specs.Built.{HasGreatestPages, HasKernelSpans, HasMemoryTypes, HasNoSpareTables, HasSpans, IsMadeFor, TablesAscend}
 use Rattle.image_soundness.specs.Paths.{HasOnePathPerTable}
 
 -- where its regions hold what the policy says over some files, it is sound for the policy and these files
@@ -50,3 +51,7 @@ abbrev pub PagesHaveTheirTypes : Type 0
 PagesHaveTheirTypes =
     (x : Placement) (things : List (List ℕ)) (i : Image) → IsImageOf x things i
     → ForEachSubject (source_of x.expanded.lawful) i (HasMemoryTypes (source_of x.expanded.lawful) i)
+
+-- of a policy and files there is one
+abbrev pub ImagesAreOne : Type 0
+ImagesAreOne = (p : Source) (files : Held) (i j : Image) → IsMadeFor p files i → IsMadeFor p files j → i ≡ j

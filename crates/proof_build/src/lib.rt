@@ -1,10 +1,10 @@
-//! The image that is made of a placed policy is sound for the policy.
+//! The image that is made of a placed policy is sound for the policy, and it is the only one.
 //!
 //! The functions here carry the laws; no command calls one. The definitions of what else holds of such
 //! an image stand in specs/ (`Built`).
 #![tactic(auto)]
 
-ghost use Rattle.proof_build.specs.Laws.{ImagesAreSound, KernelSpansAreOwn, NoTableIsSpare, PagesAreGreatest, PagesHaveTheirTypes, SpansAreThePolicys, TablesHaveOnePath, WalksAscend};
+ghost use Rattle.proof_build.specs.Laws.{ImagesAreOne, ImagesAreSound, KernelSpansAreOwn, NoTableIsSpare, PagesAreGreatest, PagesHaveTheirTypes, SpansAreThePolicys, TablesHaveOnePath, WalksAscend};
 
 /// An image that is made of a placed policy, whose regions hold what the policy says over some files, is
 /// sound for the policy and these files.
@@ -24,4 +24,10 @@ pub fn images_of_policies_are_laid_out()
     ensures spare { NoTableIsSpare }
     ensures leaves { PagesAreGreatest }
     ensures types { PagesHaveTheirTypes }
+{}
+
+/// Of a policy and files there is one image: whatever placement of the policy an image is made of, and
+/// whoever makes it, its parts are the same.
+pub fn images_of_policies_are_one()
+    ensures { ImagesAreOne }
 {}

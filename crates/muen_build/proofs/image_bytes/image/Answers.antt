@@ -4,6 +4,7 @@ pub returns : goal.returns
 returns c = λ files s. record {
   parts = c.in_ok-parts.parts;
   image = c.in_ok-image.ensures;
+  made = c.in_ok-parts.ensures.made files s;
   sound = c.in_ok-parts.ensures.sound files s;
   spans = c.in_ok-parts.ensures.spans;
   kernel_spans = c.in_ok-parts.ensures.kernel;
