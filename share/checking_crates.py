@@ -7,7 +7,7 @@ from crate_list import below, count_line, crates, readme
 
 
 # what has to be read for all clauses of muen, and for `boots`, in lines: share/footprint
-MOST_LINES = (5324, 2316)
+MOST_LINES = (5665, 2316)
 
 
 class Crates(Case):
