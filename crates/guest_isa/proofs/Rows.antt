@@ -12,23 +12,23 @@ use Rattle.guest_isa.specs.GuestIsa.{AreRows, Row, number_of, opcode_at, opcode_
 
 -- ---- the code's table
 
-pub at_number : (rows : List CodeRow) (n : ℕ) → AreRows rows → option_map (λ (r : CodeRow). r.1) (slice_get rows n) ≡ opcode_at n
+pub at_number : (rows : List CodeRow) (n : ℕ) → AreRows rows → option_map (λ (r : CodeRow). r.opcode) (slice_get rows n) ≡ opcode_at n
 at_number rows n e = among (slice_get rows n) ∙ ap (option_map (λ (r : Row). r.opcode)) (sym (slice_get-map row_shown rows n) ∙ ap (λ (rs : List Row). slice_get rs n) e)
   where
-    among : (o : Option CodeRow) → option_map (λ (r : CodeRow). r.1) o ≡ option_map (λ (r : Row). r.opcode) (option_map row_shown o)
+    among : (o : Option CodeRow) → option_map (λ (r : CodeRow). r.opcode) o ≡ option_map (λ (r : Row). r.opcode) (option_map row_shown o)
     among None = refl
     among (Some r) = refl
 
-word_among : (word : List ℕ) (rows : List CodeRow) → option_map (λ (r : CodeRow). r.1) (find (λ r. bytes_eq r.2.now word) rows)
+word_among : (word : List ℕ) (rows : List CodeRow) → option_map (λ (r : CodeRow). r.opcode) (find (λ r. bytes_eq r.word.now word) rows)
     ≡ option_map (λ (r : Row). r.opcode) (find (λ r. bytes_eq r.word word) (map row_shown rows))
 word_among word [] = refl
 word_among word (r ∷ rs) =
-    elim (bytes_eq r.2.now word) as (λ b. option_map (λ (r : CodeRow). r.1) (cond b (Some r) (find (λ r. bytes_eq r.2.now word) rs)) ≡ option_map (λ (r : Row). r.opcode) (cond b (Some (row_shown r)) (find (λ r. bytes_eq r.word word) (map row_shown rs)))) [
+    elim (bytes_eq r.word.now word) as (λ b. option_map (λ (r : CodeRow). r.opcode) (cond b (Some r) (find (λ r. bytes_eq r.word.now word) rs)) ≡ option_map (λ (r : Row). r.opcode) (cond b (Some (row_shown r)) (find (λ r. bytes_eq r.word word) (map row_shown rs)))) [
       | true ↦ refl
       | false ↦ word_among word rs
     ]
 
-pub with_word : (rows : List CodeRow) (word : List ℕ) → AreRows rows → option_map (λ (r : CodeRow). r.1) (find (λ r. bytes_eq r.2.now word) rows) ≡ opcode_with word
+pub with_word : (rows : List CodeRow) (word : List ℕ) → AreRows rows → option_map (λ (r : CodeRow). r.opcode) (find (λ r. bytes_eq r.word.now word) rows) ≡ opcode_with word
 with_word rows word e =
     word_among word rows ∙ ap (λ (rs : List Row). option_map (λ (r : Row). r.opcode) (find (λ r. bytes_eq r.word word) rs)) e
 

@@ -16,11 +16,11 @@ use Rattle.muen_num.specs.declared.access.AccessSize.{AccessSize}
 use Rattle.muen_num.specs.declared.limits.TheConstants.{EXIT_EPT_VIOLATION, EXIT_EXCEPTION, GUEST_END}
 use Rattle.state_page.specs.Memory.{le_bytes}
 use Rattle.state_page.specs.declared.state.SubjectState.{SubjectState}
-use Rattle.guest_isa.specs.GuestIsa.{fields_of, decode_of, register, advanced, with_register, extended, offset_by, low_bytes, port_of, passed, set_register, jumped, jumped_if, effect_by, effect_of}
+use Rattle.guest_isa.specs.GuestIsa.{fields_of, decode_of, register, advanced, with_register, extended, passed, set_register, jumped, jumped_if, effect_by, effect_of}
 use Rattle.guest_isa.specs.declared.instr.Asked.{Asked}
 use Rattle.guest_isa.specs.declared.instr.Instr.{Instr}
 use Rattle.guest_isa.specs.declared.opcode.Opcode.{Opcode}
-use Rattle.guest_isa.specs.declared.opcode.Opcode.TheVariants.{Nop, Li, Lih, Mov, Add, Sub, And, Or, Xor, Shl, Shr, Load, Store, Jmp, Jz, Jnz, Jb, In, Out, Rdmsr, Wrmsr, Rdtsc, Vmcall, Hlt, Sti, Cli, Setv, Reti}
+use Rattle.guest_isa.specs.declared.opcode.Opcode.TheVariants.{Li, Lih, Mov, Add, Sub, And, Or, Xor, Shl, Shr, Jmp, Jz, Jnz, Jb, Wrmsr, Sti, Cli, Setv, Reti}
 use Rattle.guest_isa.specs.declared.instr.Wish.{Wish}
 use Rattle.guest_isa.specs.declared.instr.Wish.TheVariants.{Nothing, Set as Sets, Load as Loads, Store as Stores, PortIn, PortOut, ReadMsr, WriteMsr, Tick, Call as Calls, Halt as Halts}
 use Rattle.guest_isa.specs.Step.{World, Stored, MsrWrite, Answer, went_on, exits, sets, reach_of, word_at, loaded, stored_to, port_read, port_written, msr_read, msr_written, performed, executed, fetched, step}
@@ -137,7 +137,6 @@ shifted_word : (n m : ℕ) → IsWord n → IsWord (n / m)
 shifted_word n m h = omega (arith, h, div-le_self n m)
 
 effect_fits : (o : Opcode) (s : SubjectState) (i : Instr) → FitsInstr i → FitsState s → FitsAsked (effect_by o s i)
-effect_fits Nop s i h f = passed_fits s Nothing f tt
 effect_fits Li s i h f = set_fits s i.rd (extended i.imm) h.word f
 effect_fits Lih s i h f = set_fits s i.rd _ (joined_word (register s i.rd) (cast_unsigned w32 i.imm) h.half) f
 effect_fits Mov s i h f = set_fits s i.rd (register s i.rs) (register_fits s i.rs f) f
@@ -148,28 +147,20 @@ effect_fits Or s i h f = set_fits s i.rd _ (or_lt 64 (register s i.rd) (register
 effect_fits Xor s i h f = set_fits s i.rd _ (xor_lt 64 (register s i.rd) (register s i.rs) (register_fits s i.rd f) (register_fits s i.rs f)) f
 effect_fits Shl s i h f = set_fits s i.rd _ (omega arith) f
 effect_fits Shr s i h f = set_fits s i.rd _ (shifted_word (register s i.rd) (2 ^ (register s i.rs % 64)) (register_fits s i.rd f)) f
-effect_fits Load s i h f = passed_fits s (Loads i.rd (offset_by (register s i.rs) i.imm) i.size) f tt
-effect_fits Store s i h f =
-    passed_fits s (Stores (offset_by (register s i.rs) i.imm) i.size (low_bytes i.size (register s i.rd))) f tt
 effect_fits Jmp s i h f = jumped_fits s i.imm f
 effect_fits Jz s i h f = jumped_if_fits (register s i.rd == 0) s i.imm f
 effect_fits Jnz s i h f = jumped_if_fits (not (register s i.rd == 0)) s i.imm f
 effect_fits Jb s i h f = jumped_if_fits (nat_lt (register s i.rd) (register s i.rs)) s i.imm f
-effect_fits In s i h f = passed_fits s (PortIn i.rd (port_of (register s i.rs) i.imm) i.size) f tt
-effect_fits Out s i h f =
-    passed_fits s (PortOut (port_of (register s i.rs) i.imm) i.size (low_bytes i.size (register s i.rd))) f tt
-effect_fits Rdmsr s i h f = passed_fits s (ReadMsr i.rd (register s i.rs % 2 ^ 32)) f tt
 effect_fits Wrmsr s i h f =
     passed_fits s (WriteMsr (register s i.rs % 2 ^ 32) (register s i.rd)) f (register_fits s i.rd f)
-effect_fits Rdtsc s i h f = passed_fits s (Tick i.rd) f tt
-effect_fits Vmcall s i h f = passed_fits s (Calls (register s i.rs)) f tt
-effect_fits Hlt s i h f = passed_fits s Halts f tt
 effect_fits Sti s i h f = passed_fits (record s { interrupts = true }) Nothing (interrupts_fit s true f) tt
 effect_fits Cli s i h f = passed_fits (record s { interrupts = false }) Nothing (interrupts_fit s false f) tt
 effect_fits Setv s i h f =
     passed_fits (record s { vbase = register s i.rs }) Nothing (record { many = f.many; regs = f.regs; pc = f.pc; epc = f.epc; vbase = register_fits s i.rs f }) tt
 effect_fits Reti s i h f =
     record { after = record { many = f.many; regs = f.regs; pc = f.epc; epc = f.epc; vbase = f.vbase }; wish = tt }
+-- the others write no word in it
+effect_fits _ s i h f = passed_fits s _ f tt
 
 -- ---- answers
 
