@@ -4,21 +4,18 @@ use Rattle.std.specs.Prelude.{if◌then◌else◌}
 use Rattle.std.specs.Int.{cast_signed}
 use Rattle.std.specs.Int.RustNames.{FitsSigned}
 use Rattle.std.proofs.lemmas.Bool.{and_parts, leb-true, ltb-true}
-use Rattle.muen_num.specs.declared.access.AccessSize.{AccessSize}
-use Rattle.guest_isa.specs.GuestIsa.{IsValid, instruction_with, named_by, shape_of}
+use Rattle.guest_isa.specs.GuestIsa.{IsValid, named_by, shape_of}
 use Rattle.guest_isa.specs.declared.instr.Instr.{Instr}
-use Rattle.guest_isa.specs.declared.opcode.Opcode.{Opcode}
 use Rattle.guest_isa.specs.declared.opcode.Shape.{Shape}
 use Rattle.guest_isa.specs.declared.opcode.Shape.TheVariants.{High, Jump, JumpIf, JumpBelow}
-use Rattle.guest_isa.proofs.Spelled.{valid_with}
+use Rattle.asm_text.specs.Appended.{IsFit}
 use Rattle.asm_text.specs.Layout.{SymbolTable}
-use Rattle.asm_text.specs.Meaning.{fits_in_bits, fits_signed, if_fits, immediate_by, immediate_of, residue, sum_of, distance_by, jump_by}
+use Rattle.asm_text.specs.Meaning.{fits_in_bits, fits_signed, if_fits, immediate_by, immediate_of, instruction_of, residue, sum_of, distance_by, jump_by}
 use Rattle.asm_text.specs.declared.fault.Want.{Want}
 use Rattle.asm_text.specs.declared.fault.Want.TheVariants.{Near, Range}
 use Rattle.asm_text.specs.declared.meaning.Sum.{Sum}
 use Rattle.asm_text.specs.declared.statement.Operation.{Operation}
 use Rattle.asm_listing.proofs.Chunks.{signed_fits}
-use Rattle.asm_listing.proofs.Instructions.{none_fits}
 use Rattle.asm_text.proofs.Accepted.{Holds, after}
 
 -- ---- immediates
@@ -67,9 +64,13 @@ pub record IsSound (i : Instr) : Type 0 where
   pub valid : IsValid i
   pub fits : FitsSigned w32 i.imm
 
+-- 0 fits it
+none_fits : FitsSigned w32 (pos 0)
+none_fits = record { sfits = omega arith }
+
 kept_fits : (t : Bool) (z : ℤ) → FitsSigned w32 z → FitsSigned w32 (if t then z else pos 0)
 kept_fits true z fits = fits
 kept_fits false z fits = none_fits
 
-pub sound_with : (o : Opcode) (rd rs : ℕ) (size : AccessSize) (z : ℤ) → rd < 16 → rs < 16 → FitsSigned w32 z → IsSound (instruction_with o rd rs size z)
-sound_with o rd rs size z h k fits = record { valid = valid_with o rd rs size z h k; fits = kept_fits (named_by o).imm z fits }
+pub operation_sound : (o : Operation) (z : ℤ) → IsFit o → FitsSigned w32 z → IsSound (instruction_of o z)
+operation_sound o z fit fits = record { valid = fit z; fits = kept_fits (named_by o.opcode).imm z fits }

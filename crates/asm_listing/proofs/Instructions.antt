@@ -1,27 +1,26 @@
 -- The line of an instruction says it.
 use Rattle.std.proofs.Common.{◌≡◌, ℕ, ◌-◌, ◌^◌, true, false, ℤ, pos, negsuc, List, [], ◌∷◌, ◌++◌, length, Option, Some, None, Result, Ok, refl, ap, sym, subst, ◌∙◌, append_assoc, w32, to_z-of_z, add-one, arith}
 use Rattle.std.specs.Prelude.{◌&&◌, if◌then◌else◌, codes, nat_le, nat_lt}
-use Rattle.std.specs.Fmt.{signed_decimal}
 use Rattle.std.specs.Int.{cast_signed, cast_unsigned}
 use Rattle.std.specs.Int.RustNames.{FitsSigned}
 use Rattle.std.specs.List.{list_all}
 use Rattle.std.specs.Str.{bytes_eq}
-use Rattle.std.proofs.lemmas.Bool.{and_parts, false≢true, le-leb, lt-ltb, ltb-true}
+use Rattle.std.proofs.lemmas.Bool.{and_parts, le-leb, lt-ltb}
 use Rattle.muen_num.specs.AccessSize.{bytes_of}
-use Rattle.muen_num.specs.declared.access.AccessSize.{AccessSize}
-use Rattle.muen_num.specs.declared.access.AccessSize.TheVariants.{One, Two, Four, Eight}
-use Rattle.guest_isa.specs.GuestIsa.{IsSmall, IsValid, instr, instruction_named, instruction_with, named, opcode_with, row_of, shape_of, word_of}
+use Rattle.muen_num.specs.declared.access.AccessSize.TheVariants.{One}
+use Rattle.guest_isa.specs.GuestIsa.{IsValid, instr, instruction_with, named, opcode_with, row_of, shape_of, word_of}
 use Rattle.guest_isa.specs.declared.instr.Instr.{Instr}
 use Rattle.guest_isa.specs.declared.opcode.Opcode.{Opcode}
 use Rattle.guest_isa.specs.declared.opcode.Opcode.TheVariants.{Nop}
 use Rattle.guest_isa.specs.declared.opcode.Shape.{Shape}
-use Rattle.guest_isa.specs.declared.opcode.Shape.TheVariants.{Alone, Immediate, High, Pair, Memory, PortRead, PortWrite, Destination, Source, Jump, JumpIf, JumpBelow}
+use Rattle.guest_isa.specs.declared.opcode.Shape.TheVariants.{High, Jump, JumpIf, JumpBelow}
 use Rattle.guest_isa.proofs.Spelled.{own_fields}
 use Rattle.text_words.specs.Steps.{◌>>=◌, ◌>>◌}
 use Rattle.asm_text.specs.Layout.{SymbolTable}
 use Rattle.asm_text.specs.Meaning.{instruction as instruction_item, fits_in_bits, fits_signed, if_fits, immediate_by, immediate_of, instruction_of, assembled_item_of, residue}
-use Rattle.asm_text.specs.Reading.{at_end, definition, directive, instruction, label, source_line_of, named as named_label, offset_line, operands, operands_of, statement, worded}
-use Rattle.asm_text.specs.Tokens.{Tokens, end_with, token, word_goes_on, is_word_byte, tokens_of}
+use Rattle.asm_text.specs.Reading.{at_end, definition, directive, instruction, label, source_line_of, named as named_label, no_operands, offset_line, operands_of, statement, worded}
+use Rattle.asm_text.specs.Parts.{parts_of}
+use Rattle.asm_text.specs.Tokens.{Tokens, end_with, token, is_word_byte, tokens_of}
 use Rattle.asm_text.specs.Words.{data_size_of}
 use Rattle.asm_text.specs.declared.fault.LineError.{LineError}
 use Rattle.asm_text.specs.declared.fault.Want.TheVariants.{Near, Range}
@@ -32,25 +31,20 @@ use Rattle.asm_text.specs.declared.statement.Operation.{Operation}
 use Rattle.asm_text.specs.declared.statement.SourceLine.{SourceLine}
 use Rattle.asm_text.specs.declared.statement.Statement.{Statement}
 use Rattle.asm_text.specs.declared.statement.Statement.TheVariants.{Instruction}
-use Rattle.asm_listing.specs.Source.{displacement_text, instruction_text, operands_text, register_text, size_text}
-use Rattle.asm_listing.proofs.Shapes.{OperandsRead, alone_read, destination_read, high_read, immediate_read, jump_below_read, jump_if_read, jump_read, memory_read, pair_read, port_read_read, port_write_read, source_read}
+use Rattle.asm_listing.specs.Source.{instruction_text}
+use Rattle.asm_listing.proofs.Parts.{Says, nothing_said, parts_end, parts_read, parts_text, shape_readable, shape_said, shape_unmarked}
 use Rattle.asm_listing.proofs.Values.{IsUnmarked}
-use Rattle.asm_listing.proofs.Words.{◌⧺◌, IsWord, word_parted}
+use Rattle.asm_listing.proofs.Words.{IsWord, word_by, word_parted}
 
 -- ---- words
 
-word_bytes : (o : Opcode) → list_all is_word_byte (word_of o) ≡ true
+spelled : (o : Opcode) → (nat_lt 0 (length (word_of o)) && list_all is_word_byte (word_of o)) ≡ true
 unfolding row_of
-word_bytes Nop = refl
-word_bytes _ = refl
-
-word_some : (o : Opcode) → nat_lt 0 (length (word_of o)) ≡ true
-unfolding row_of
-word_some Nop = refl
-word_some _ = refl
+spelled Nop = refl
+spelled _ = refl
 
 word_is : (o : Opcode) → IsWord (word_of o)
-word_is o = record { some = ltb-true 0 (length (word_of o)) (word_some o); bytes = word_bytes o }
+word_is o = word_by (word_of o) (spelled o)
 
 no_offset : (o : Opcode) → bytes_eq (word_of o) (codes ".at") ≡ false
 unfolding row_of
@@ -137,110 +131,25 @@ pub record InstructionRead (i : Instr) : Type 0 where
   pub line : source_line_of (tokens_of (instruction_text i)) ≡ Ok (as_line (Instruction operation))
   pub item : (names : SymbolTable) (here : ℕ) → assembled_item_of names here (Instruction operation) ≡ Ok (instruction_item i)
 
-read_by : (i : Instr) (text : List ℕ) (rd rs : ℕ) (size : AccessSize) (imm : ℤ)
-    → instruction_text i ≡ word_of i.opcode ++ text → word_goes_on text ≡ false → OperandsRead (shape_of i.opcode) (tokens_of text) rd rs size imm
-    → FitsSigned w32 imm → instruction_with i.opcode rd rs size imm ≡ i → InstructionRead i
-unfolding immediate_of
-read_by i text rd rs size imm is ends o fits back =
-    let word = word_of i.opcode in
-    let left = length (word ++ text) in
-    let with = operands rd rs size o.read in
-    let shape = shape_of i.opcode in
-    record {
-      operation = operation left i.opcode with;
-      line =
-          ap (λ t. source_line_of (tokens_of t)) is
-          ∙ ap source_line_of (word_parted word text (word_is i.opcode) ends)
-          ∙ line_by left word (tokens_of text) (Instruction (operation left i.opcode with)) o.unmarked (instruction_worded left i.opcode (tokens_of text) with o.is);
-      item = λ names here.
-          ap (λ (r : Result Sum LineError). r >>= immediate_by shape here o.read.left >>= λ z. Ok (instruction_item (instruction_of (operation left i.opcode with) z))) (o.sum names)
-          ∙ ap (λ (r : Result ℤ LineError). r >>= λ z. Ok (instruction_item (instruction_of (operation left i.opcode with) z))) (immediate_is shape here o.read.left imm fits)
-          ∙ ap (λ (x : Instr). Ok (instruction_item x)) back;
-    }
-
--- 0 fits it
-pub none_fits : FitsSigned w32 (pos 0)
-none_fits = record { sfits = omega arith }
-
--- the texts of operands, grouped to the right
-
-grouped_4 : (a b c d : List ℕ) → a ++ b ++ c ++ d ≡ a ⧺ b ⧺ c ⧺ d
-grouped_4 a b c d = simp append_assoc
-
-grouped_6 : (a b c d e f : List ℕ) → a ++ b ++ c ++ d ++ e ++ f ≡ a ⧺ b ⧺ c ⧺ d ⧺ e ⧺ f
-grouped_6 a b c d e f = simp append_assoc
-
-grouped_7 : (a b c d e f g : List ℕ) → a ++ b ++ c ++ d ++ e ++ f ++ g ≡ a ⧺ b ⧺ c ⧺ d ⧺ e ⧺ f ⧺ g
-grouped_7 a b c d e f g = simp append_assoc
-
--- what is printed of an access of at most one byte
-one_byte : (size : AccessSize) → One ≡ (if nat_le (bytes_of size) 1 then size else One)
-one_byte One = refl
-one_byte Two = refl
-one_byte Four = refl
-one_byte Eight = refl
-
-few_bytes : (size : AccessSize) → nat_le (bytes_of size) 4 ≡ true → IsSmall size
-few_bytes One h = tt
-few_bytes Two h = tt
-few_bytes Four h = tt
-few_bytes Eight h = absurd (false≢true h)
-
-module _ (i : Instr) (v : IsValid i) where
-  -- by its shape
-  read_as : (s : Shape) → shape_of i.opcode ≡ s → (text : List ℕ) (rd rs : ℕ) (size : AccessSize) (imm : ℤ)
-      → operands_text s i ≡ text → word_goes_on text ≡ false → OperandsRead s (tokens_of text) rd rs size imm → FitsSigned w32 imm
-      → instruction_named (named s) i.opcode rd rs size imm ≡ instruction_named (named s) i.opcode i.rd i.rs i.size i.imm → InstructionRead i
-  unfolding instruction_text
-  read_as s e text rd rs size imm is ends o fits same =
-      read_by i text rd rs size imm
-      (ap (λ s. word_of i.opcode ++ operands_text s i) e ∙ ap (λ (t : List ℕ). word_of i.opcode ++ t) is)
-      ends (subst (λ s. OperandsRead s (tokens_of text) rd rs size imm) (sym e) o) fits
-      (ap (λ s. instruction_named (named s) i.opcode rd rs size imm) e
-      ∙ same
-      ∙ ap (λ s. instruction_named (named s) i.opcode i.rd i.rs i.size i.imm) (sym e)
-      ∙ own_fields i v)
-
-  at_most : (s : Shape) → shape_of i.opcode ≡ s → nat_le (bytes_of i.size) (named s).most ≡ true
-  at_most s e = subst (λ s. nat_le (bytes_of i.size) (named s).most ≡ true) e (and_parts _ (nat_le (bytes_of i.size) (named (shape_of i.opcode)).most) v.2).1
-
-  shape_read : FitsSigned w32 i.imm → (s : Shape) → shape_of i.opcode ≡ s → InstructionRead i
-  shape_read fits Alone e =
-      read_as Alone e [] 0 0 One (pos 0) refl refl alone_read none_fits (λ j. instr i.opcode 0 0 (one_byte i.size j) (pos 0))
-  shape_read fits Immediate e =
-      read_as Immediate e (codes " " ⧺ register_text i.rd ⧺ codes ", " ⧺ signed_decimal i.imm) i.rd 0 One i.imm (grouped_4 (codes " ") (register_text i.rd) (codes ", ") (signed_decimal i.imm)) refl
-      (immediate_read i.rd i.imm v.0 fits) fits (λ j. instr i.opcode i.rd 0 (one_byte i.size j) i.imm)
-  shape_read fits High e =
-      read_as High e (codes " " ⧺ register_text i.rd ⧺ codes ", " ⧺ signed_decimal i.imm) i.rd 0 One i.imm (grouped_4 (codes " ") (register_text i.rd) (codes ", ") (signed_decimal i.imm)) refl
-      (high_read i.rd i.imm v.0 fits) fits (λ j. instr i.opcode i.rd 0 (one_byte i.size j) i.imm)
-  shape_read fits Pair e =
-      read_as Pair e (codes " " ⧺ register_text i.rd ⧺ codes ", " ⧺ register_text i.rs) i.rd i.rs One (pos 0) (grouped_4 (codes " ") (register_text i.rd) (codes ", ") (register_text i.rs)) refl
-      (pair_read i.rd i.rs v.0 v.1) none_fits (λ j. instr i.opcode i.rd i.rs (one_byte i.size j) (pos 0))
-  shape_read fits Memory e =
-      read_as Memory e (codes " " ⧺ register_text i.rd ⧺ codes ", " ⧺ size_text i.size ⧺ codes " at " ⧺ register_text i.rs ⧺ displacement_text i.imm) i.rd i.rs i.size i.imm
-      (grouped_7 (codes " ") (register_text i.rd) (codes ", ") (size_text i.size) (codes " at ") (register_text i.rs) (displacement_text i.imm)) refl
-      (memory_read i.rd i.rs i.size i.imm v.0 v.1 fits) fits refl
-  shape_read fits PortRead e =
-      read_as PortRead e (codes " " ⧺ register_text i.rd ⧺ codes ", " ⧺ size_text i.size ⧺ codes " at port " ⧺ register_text i.rs ⧺ displacement_text i.imm) i.rd i.rs i.size i.imm
-      (grouped_7 (codes " ") (register_text i.rd) (codes ", ") (size_text i.size) (codes " at port ") (register_text i.rs) (displacement_text i.imm)) refl
-      (port_read_read i.rd i.rs i.size i.imm v.0 v.1 (few_bytes i.size (at_most PortRead e)) fits) fits refl
-  shape_read fits PortWrite e =
-      read_as PortWrite e (codes " " ⧺ register_text i.rd ⧺ codes ", " ⧺ size_text i.size ⧺ codes " to port " ⧺ register_text i.rs ⧺ displacement_text i.imm) i.rd i.rs i.size i.imm
-      (grouped_7 (codes " ") (register_text i.rd) (codes ", ") (size_text i.size) (codes " to port ") (register_text i.rs) (displacement_text i.imm)) refl
-      (port_write_read i.rd i.rs i.size i.imm v.0 v.1 (few_bytes i.size (at_most PortWrite e)) fits) fits refl
-  shape_read fits Destination e =
-      read_as Destination e (codes " " ⧺ register_text i.rd) i.rd 0 One (pos 0) refl refl (destination_read i.rd v.0) none_fits (λ j. instr i.opcode i.rd 0 (one_byte i.size j) (pos 0))
-  shape_read fits Source e =
-      read_as Source e (codes " " ⧺ register_text i.rs) 0 i.rs One (pos 0) refl refl (source_read i.rs v.1) none_fits (λ j. instr i.opcode 0 i.rs (one_byte i.size j) (pos 0))
-  shape_read fits Jump e =
-      read_as Jump e (codes " " ⧺ signed_decimal i.imm) 0 0 One i.imm refl refl (jump_read i.imm fits) fits (λ j. instr i.opcode 0 0 (one_byte i.size j) i.imm)
-  shape_read fits JumpIf e =
-      read_as JumpIf e (codes " " ⧺ register_text i.rd ⧺ codes ", " ⧺ signed_decimal i.imm) i.rd 0 One i.imm (grouped_4 (codes " ") (register_text i.rd) (codes ", ") (signed_decimal i.imm)) refl
-      (jump_if_read i.rd i.imm v.0 fits) fits (λ j. instr i.opcode i.rd 0 (one_byte i.size j) i.imm)
-  shape_read fits JumpBelow e =
-      read_as JumpBelow e (codes " " ⧺ register_text i.rd ⧺ codes ", " ⧺ register_text i.rs ⧺ codes ", " ⧺ signed_decimal i.imm) i.rd i.rs One i.imm
-      (grouped_6 (codes " ") (register_text i.rd) (codes ", ") (register_text i.rs) (codes ", ") (signed_decimal i.imm)) refl
-      (jump_below_read i.rd i.rs i.imm v.0 v.1 fits) fits (λ j. instr i.opcode i.rd i.rs (one_byte i.size j) i.imm)
-
 pub instruction_read : (i : Instr) → IsValid i → FitsSigned w32 i.imm → InstructionRead i
-instruction_read i v fits = shape_read i v fits (shape_of i.opcode) refl
+unfolding instruction_text immediate_of
+instruction_read i v fits =
+    let s = shape_of i.opcode in
+    let most = (and_parts _ (nat_le (bytes_of i.size) (named s).most) v.2).1 in
+    let r = parts_read i v fits (parts_of s) no_operands (instr i.opcode 0 0 One (pos 0)) (shape_readable i s most) (nothing_said i.opcode) in
+    let says = subst (Says r.read) (shape_said i s most ∙ own_fields i v) r.says in
+    let word = word_of i.opcode in
+    let text = parts_text i (parts_of s) in
+    let left = length (word ++ text) in
+    let own : Operation = operation left i.opcode r.read in
+    record {
+      operation = own;
+      line =
+          ap source_line_of (word_parted word text (word_is i.opcode) (parts_end i (parts_of s)))
+          ∙ line_by left word (tokens_of text) (Instruction own) (shape_unmarked i v fits s) (instruction_worded left i.opcode (tokens_of text) r.read r.is);
+      item = λ names here.
+          ap (λ (r : Result Sum LineError). r >>= immediate_by s here own.operands.value.left >>= λ z. Ok (instruction_item (instruction_of own z))) (says.sum names)
+          ∙ ap (λ (r : Result ℤ LineError). r >>= λ z. Ok (instruction_item (instruction_of own z))) (immediate_is s here own.operands.value.left i.imm fits)
+          ∙ (λ j. Ok (instruction_item (instruction_with i.opcode (says.rd j) (says.rs j) (says.size j) i.imm)))
+          ∙ ap (λ (x : Instr). Ok (instruction_item x)) (own_fields i v);
+    }

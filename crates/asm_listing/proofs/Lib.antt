@@ -1,6 +1,6 @@
 pub mod Words
 pub mod Values
-pub mod Shapes
+pub mod Parts
 pub mod Instructions
 pub mod DataLines
 pub mod Chunks

@@ -9,15 +9,15 @@ use Rattle.muen_num.specs.declared.access.AccessSize.TheVariants.{One, Two, Four
 use Rattle.muen_num.specs.declared.limits.TheConstants.{COMPONENT_FILE_MOST}
 use Rattle.guest_isa.proofs.Spelled.{bytes_low, encoding_low}
 use Rattle.text_words.specs.Parts.{lines_of}
-use Rattle.asm_text.specs.Appended.{behind}
+use Rattle.asm_text.specs.Appended.{behind, IsFitAt}
 use Rattle.asm_text.specs.Layout.{SymbolTable, at_start, in_source_line, layout_from}
 use Rattle.asm_text.specs.Meaning.{SourceItem, instruction, data_of, zeros, bytes_of_item, immediate_of, instruction_of, assembled_item_of, items_of, little_endian, numbers_of, source_items}
 use Rattle.asm_text.specs.declared.statement.Placed.{Placed}
 use Rattle.asm_text.specs.declared.statement.Statement.{Statement}
 use Rattle.asm_text.specs.declared.statement.Statement.TheVariants.{Nothing, Definition, Offset, Data, Instruction}
 use Rattle.asm_text.proofs.Accepted.{Holds, holds_then}
-use Rattle.asm_text.proofs.Seats.{AreSeated, AreSeatedIn, IsLong, IsPassed, encoding_long, filled, in_line_holds, layout_seated, numbers_long, numbers_many}
-use Rattle.asm_listing.proofs.Accepted.{IsSound, immediate_fits, sound_with}
+use Rattle.asm_text.proofs.Seats.{AreLaid, IsLaid, IsLong, encoding_long, filled, in_line_holds, numbers_long, numbers_many, text_laid}
+use Rattle.asm_listing.proofs.Accepted.{IsSound, immediate_fits, operation_sound}
 use Rattle.guest_isa.specs.Words.{IsByte}
 
 -- ---- items
@@ -51,30 +51,30 @@ numbers_low size (n ∷ ns) = All-append IsByte (little_endian size n) (flat_map
 abbrev IsPlaced : ℕ → ℕ → SourceItem → Type 0
 IsPlaced here to item = IsSeat here item × All IsByte (bytes_of_item item) × (here + length (bytes_of_item item) ≡ to)
 
-item_placed : (names : SymbolTable) (here : ℕ) (statement : Statement) → IsPassed here statement → Holds (IsPlaced here (behind here statement)) (assembled_item_of names here statement)
+item_placed : (names : SymbolTable) (here : ℕ) (statement : Statement) → IsFitAt here statement → Holds (IsPlaced here (behind here statement)) (assembled_item_of names here statement)
 item_placed names here Nothing h = (tt, All-nil IsByte, omega arith)
 item_placed names here (Definition left name number) h = (tt, All-nil IsByte, omega arith)
 item_placed names here (Offset left offset) h =
     let none : 0 < 256 = omega arith in
-    let same : here + (offset - here) ≡ offset = omega arith in
+    let same : here + (offset - here) ≡ offset = omega (arith, h.0) in
     (tt, All-replicate IsByte (offset - here) 0 none, filled here (offset - here) ∙ same)
 item_placed names here (Data left size values) h =
     holds_then (IsLong values) (IsPlaced here (behind here (Data left size values))) (numbers_of names size values) _ (numbers_many names size values) λ ns many.
     (tt, numbers_low size ns, ap (λ n. here + n) (numbers_long size ns ∙ ap (λ n. n * bytes_of size) many))
 item_placed names here (Instruction o) h =
     holds_then (FitsSigned w32) (IsPlaced here (here + 8)) (immediate_of names here o) _ (immediate_fits names here o) λ z fits.
-    let sound = sound_with o.opcode o.operands.rd o.operands.rs o.operands.size z h.1.rd h.1.rs fits in
+    let sound = operation_sound o z h.1 fits in
     ((h.0, sound), encoding_low (instruction_of o z) sound.valid, ap (λ n. here + n) (encoding_long (instruction_of o z)))
 
-pub items_standing : (names : SymbolTable) (lines : List Placed) (here : ℕ) → AreSeated here lines → Holds (AreStanding here) (items_of names lines)
+pub items_standing : (names : SymbolTable) (lines : List Placed) (here : ℕ) → AreLaid here lines → Holds (AreStanding here) (items_of names lines)
 unfolding items_of
-items_standing names [] here h = h
+items_standing names [] here h = h.1
 items_standing names (line ∷ lines) here h =
     let to = behind here line.statement in
     let item = assembled_item_of names line.here line.statement in
-    let placed : Holds (IsPlaced here to) item = subst (λ n. Holds (IsPlaced here to) (assembled_item_of names n line.statement)) (sym h.0) (item_placed names here line.statement h.1) in
+    let placed : Holds (IsPlaced here to) item = subst (λ n. Holds (IsPlaced here to) (assembled_item_of names n line.statement)) (sym h.0.0) (item_placed names here line.statement h.0.1) in
     holds_then (IsPlaced here to) (AreStanding here) (in_source_line line.number line.end item) _ (in_line_holds (IsPlaced here to) line.number line.end item placed) λ x p.
-    holds_then (AreStanding to) (AreStanding here) (items_of names lines) _ (items_standing names lines to h.2) λ xs rest.
+    holds_then (AreStanding to) (AreStanding here) (items_of names lines) _ (items_standing names lines to (h.0.2, h.1)) λ xs rest.
     (p.0, p.1, subst (λ n. AreStanding n xs) (sym p.2) rest)
 
 -- ---- a source
@@ -82,6 +82,5 @@ items_standing names (line ∷ lines) here h =
 pub said_standing : (text : List ℕ) → Holds (AreStanding 0) (source_items text)
 unfolding source_items
 said_standing text =
-    let room : 0 ≤ COMPONENT_FILE_MOST = omega arith in
-    holds_then (AreSeatedIn 0) (AreStanding 0) (layout_from at_start 1 (lines_of text)) _ (layout_seated (lines_of text) at_start 1 room) λ layout seated.
-    items_standing layout.names layout.lines 0 seated
+    holds_then (IsLaid 0) (AreStanding 0) (layout_from at_start 1 (lines_of text)) _ (text_laid text) λ layout laid.
+    items_standing layout.names layout.lines 0 laid
