@@ -34,32 +34,21 @@ use Rattle.asm_text.specs.declared.statement.Statement.TheVariants.{Instruction}
 use Rattle.asm_listing.specs.Source.{instruction_text}
 use Rattle.asm_listing.proofs.Parts.{Says, nothing_said, parts_end, parts_read, parts_text, shape_readable, shape_said, shape_unmarked}
 use Rattle.asm_listing.proofs.Values.{IsUnmarked}
-use Rattle.asm_listing.proofs.Words.{IsWord, word_by, word_parted}
+use Rattle.asm_listing.proofs.Words.{word_by, word_parted}
 
 -- ---- words
 
-spelled : (o : Opcode) → (nat_lt 0 (length (word_of o)) && list_all is_word_byte (word_of o)) ≡ true
-unfolding row_of
-spelled Nop = refl
-spelled _ = refl
+-- the word of each row is one, its own, and neither an offset's nor that of data
+record IsRowWord (o : Opcode) : Type 0 where
+  bytes : (nat_lt 0 (length (word_of o)) && list_all is_word_byte (word_of o)) ≡ true
+  own : opcode_with (word_of o) ≡ Some o
+  offset : bytes_eq (word_of o) (codes ".at") ≡ false
+  data_size : data_size_of (word_of o) ≡ None
 
-word_is : (o : Opcode) → IsWord (word_of o)
-word_is o = word_by (word_of o) (spelled o)
-
-no_offset : (o : Opcode) → bytes_eq (word_of o) (codes ".at") ≡ false
+word_is : (o : Opcode) → IsRowWord o
 unfolding row_of
-no_offset Nop = refl
-no_offset _ = refl
-
-no_data : (o : Opcode) → data_size_of (word_of o) ≡ None
-unfolding row_of
-no_data Nop = refl
-no_data _ = refl
-
-own_word : (o : Opcode) → opcode_with (word_of o) ≡ Some o
-unfolding row_of
-own_word Nop = refl
-own_word _ = refl
+word_is Nop = record { bytes = refl; own = refl; offset = refl; data_size = refl }
+word_is _ = record { bytes = refl; own = refl; offset = refl; data_size = refl }
 
 -- ---- lines
 
@@ -92,7 +81,7 @@ instruction_worded : (left : ℕ) (o : Opcode) (more : Tokens) (with : Operands)
     → worded left (word_of o) more ≡ Ok (Instruction (operation left o with))
 unfolding instruction at_end
 instruction_worded left o more with e =
-    (λ i. if no_offset o i then offset_line left more else directive left (word_of o) more (no_data o i) (own_word o i))
+    (λ i. if (word_is o).offset i then offset_line left more else directive left (word_of o) more ((word_is o).data_size i) ((word_is o).own i))
     ∙ ap (λ (r : Result (Operands × Tokens) LineError). r >>= λ x. at_end x.1 >> Ok (Instruction (operation left o x.0))) e
 
 -- ---- immediates
@@ -145,7 +134,7 @@ instruction_read i v fits =
     record {
       operation = own;
       line =
-          ap source_line_of (word_parted word text (word_is i.opcode) (parts_end i (parts_of s)))
+          ap source_line_of (word_parted word text (word_by word (word_is i.opcode).bytes) (parts_end i (parts_of s)))
           ∙ line_by left word (tokens_of text) (Instruction own) (shape_unmarked i v fits s) (instruction_worded left i.opcode (tokens_of text) r.read r.is);
       item = λ names here.
           ap (λ (r : Result Sum LineError). r >>= immediate_by s here own.operands.value.left >>= λ z. Ok (instruction_item (instruction_of own z))) (says.sum names)

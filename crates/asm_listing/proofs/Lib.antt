@@ -6,7 +6,5 @@ pub mod DataLines
 pub mod Chunks
 pub mod Seen
 pub mod Sources
-pub mod Accepted
-pub mod Placed
 pub mod Again
 pub mod Printing

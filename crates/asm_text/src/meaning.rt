@@ -58,10 +58,7 @@ fn sum_of_atom(names: &BTreeMap<Name, Meaning>, atom: Atom) -> Option<Sum>
             number: i128::from(n),
             labels: 0,
         }),
-        Atom::Name(name) => match names.get(&name) {
-            Some(meaning) => Some(sum_of_meaning(*meaning)),
-            None => None,
-        },
+        Atom::Name(name) => Some(sum_of_meaning(*names.get(&name)?)),
     }
 }
 

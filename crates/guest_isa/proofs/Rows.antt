@@ -34,26 +34,25 @@ with_word rows word e =
 
 -- ---- opcodes and numbers
 
-pub opcode_back : (o : Opcode) → opcode_at (number_of o) ≡ Some o
-unfolding row_of
-opcode_back Nop = refl
-opcode_back _ = refl
+-- what each row passes
+record IsRow (o : Opcode) : Type 0 where
+  back : opcode_at (number_of o) ≡ Some o
+  low : nat_lt (number_of o) 256 ≡ true
+  short : nat_le (length (word_of o)) 6 ≡ true
 
-below_end : (o : Opcode) → nat_lt (number_of o) 256 ≡ true
+row_is : (o : Opcode) → IsRow o
 unfolding row_of
-below_end Nop = refl
-below_end _ = refl
+row_is Nop = record { back = refl; low = refl; short = refl }
+row_is _ = record { back = refl; low = refl; short = refl }
+
+pub opcode_back : (o : Opcode) → opcode_at (number_of o) ≡ Some o
+opcode_back o = (row_is o).back
 
 pub number_low : (o : Opcode) → number_of o < 256
-number_low o = ltb-true (number_of o) 256 (below_end o)
-
-short : (o : Opcode) → nat_le (length (word_of o)) 6 ≡ true
-unfolding row_of
-short Nop = refl
-short _ = refl
+number_low o = ltb-true (number_of o) 256 (row_is o).low
 
 pub word_short : (o : Opcode) → length (word_of o) ≤ 6
-word_short o = leb-true (length (word_of o)) 6 (short o)
+word_short o = leb-true (length (word_of o)) 6 (row_is o).short
 
 -- from this number on
 are_numbered : ℕ → List Row → Bool

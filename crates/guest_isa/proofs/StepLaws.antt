@@ -29,6 +29,7 @@ use Rattle.guest_isa.specs.declared.reach.Reach.{Reach}
 use Rattle.guest_isa.specs.declared.reach.Reach.TheVariants.{Reached, Refused}
 use Rattle.guest_isa.specs.Words.{IsWord, FitsState}
 use Rattle.guest_isa.proofs.Spelled.{OfSome, by_fields}
+use Rattle.guest_isa.proofs.Alike.{reach_both}
 use Rattle.guest_isa.proofs.StateLaws.{word_below}
 
 -- what the world tells are words
@@ -199,23 +200,14 @@ module _ {X : Type 0} (w : World X) where
       (addr < GUEST_END) × (addr % count size ≡ 0) × (w.look Write addr ≡ Reached target offset)
   Looked size addr (Refused reason qualification guest) = Unit {0}
 
-  -- by whether the address is a multiple of the size, and whether it is beyond the end
-  abbrev by : Bool → Bool → ℕ → Reach X → Reach X
-  by fine high addr c =
-      if fine then (if high then Refused EXIT_EPT_VIOLATION (kind_bit Write) addr else c) else Refused EXIT_EXCEPTION 0 0
-
-  by_looked : (size : AccessSize) (fine high : Bool) (addr : ℕ) (c : Reach X) → (fine ≡ true → high ≡ false → Looked size addr c) → Looked size addr (by fine high addr c)
-  by_looked size true true addr c h = tt
-  by_looked size true false addr c h = h refl refl
-  by_looked size false high addr c h = tt
-
   looked_of : (size : AccessSize) (addr : ℕ) (c : Reach X) → addr < GUEST_END → addr % count size ≡ 0 → w.look Write addr ≡ c → Looked size addr c
   looked_of size addr (Reached target offset) l a e = (l, a, e)
   looked_of size addr (Refused reason qualification guest) l a e = tt
 
   looked : (size : AccessSize) (addr : ℕ) → Looked size addr (reach_of w.look Write (count size) addr)
   looked size addr =
-      by_looked size (addr % count size == 0) (nat_le GUEST_END addr) addr (w.look Write addr) (λ a l. looked_of size addr (w.look Write addr) (leb-false GUEST_END addr l) (eqb-true (addr % count size) 0 a) refl)
+      reach_both (λ c d. Looked size addr c) w.look w.look Write (count size) addr (λ reason qualification at. tt)
+      (λ aligned below. looked_of size addr (w.look Write addr) below aligned refl)
 
   is_stored : (s after : SubjectState) (addr : ℕ) (size : AccessSize) (value : ℕ) (c : Reach X) → Looked size addr c → (FitsState s → FitsState after) → IsAnswer s (stored_to s after addr size value c)
   is_stored s after addr size value (Reached target offset) l h = record {
