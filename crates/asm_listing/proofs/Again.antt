@@ -16,7 +16,7 @@ use Rattle.asm_text.specs.declared.fault.Want.{Want}
 use Rattle.asm_text.specs.declared.fault.Want.TheVariants.{Near, Range}
 use Rattle.asm_text.specs.declared.meaning.Sum.{Sum}
 use Rattle.asm_text.specs.declared.statement.Operation.{Operation}
-use Rattle.asm_listing.proofs.Chunks.{signed_fits, chunks_by, first_chunk, no_chunk}
+use Rattle.asm_listing.proofs.Chunks.{IsSound, chunks_by, first_chunk, no_chunk}
 use Rattle.asm_text.proofs.Accepted.{Holds, after, holds_then, holds_at}
 use Rattle.std.specs.List.{All, flat_map, Contains}
 use Rattle.std.proofs.lemmas.List.Elements.{All-append, All-cons, All-nil, All-replicate, Contains-append_left, Contains-append_right}
@@ -24,7 +24,7 @@ use Rattle.muen_num.specs.AccessSize.{bytes_of}
 use Rattle.muen_num.specs.declared.access.AccessSize.{AccessSize}
 use Rattle.muen_num.specs.declared.access.AccessSize.TheVariants.{One, Two, Four, Eight}
 use Rattle.muen_num.specs.declared.limits.TheConstants.{COMPONENT_FILE_MOST}
-use Rattle.guest_isa.proofs.Spelled.{bytes_low, encoding_low, encoding_decodes}
+use Rattle.guest_isa.proofs.Spelled.{bytes_low, encoding_low, encoding_decodes, signed_fits}
 use Rattle.text_words.specs.Parts.{lines_of}
 use Rattle.asm_text.specs.declared.statement.Placed.{Placed}
 use Rattle.asm_text.specs.declared.statement.Statement.{Statement}
@@ -43,10 +43,6 @@ fits_by : (z : ℤ) → fits_signed 32 z ≡ true → FitsSigned w32 z
 fits_by (pos n) e = record { sfits = ltb-true n (2 ^ 31) e }
 fits_by (negsuc n) e = let low : n ≤ 2 ^ 31 - 1 = leb-true n (2 ^ 31 - 1) (and_parts _ true e).0 in record { sfits = omega arith }
 
-residue_low : (z : ℤ) → fits_in_bits 32 z ≡ true → residue 32 z < 2 ^ 32
-residue_low (pos n) e = ltb-true n (2 ^ 32) e
-residue_low (negsuc n) e = omega arith
-
 if_fits_holds : {X : Type 0} (P : X → Type 0) (t : Bool) (left : ℕ) (want : Want) (x : X) → (t ≡ true → P x) → Holds P (if_fits t left want x)
 if_fits_holds P true left want x h = h refl
 if_fits_holds P false left want x h = tt
@@ -60,7 +56,7 @@ near here left s = after (FitsSigned w32) (distance_by s.labels here left s.numb
 by_shape : (shape : Shape) (here left : ℕ) (s : Sum) → Holds (FitsSigned w32) (immediate_by shape here left s)
 by_shape High here left s =
     let z = s.number in
-    if_fits_holds (FitsSigned w32) (fits_in_bits 32 z) left Range (cast_signed w32 (residue 32 z)) (λ e. signed_fits (residue 32 z) (residue_low z e))
+    if_fits_holds (FitsSigned w32) (fits_in_bits 32 z) left Range (cast_signed w32 (residue 32 z)) (λ _. signed_fits (residue 32 z))
 by_shape Jump here left s = near here left s
 by_shape JumpIf here left s = near here left s
 by_shape JumpBelow here left s = near here left s
@@ -71,11 +67,6 @@ unfolding immediate_of
 immediate_fits names here o = after (FitsSigned w32) (sum_of names o.operands.value.terms) _ λ s. by_shape (shape_of o.opcode) here o.operands.value.left s
 
 -- ---- the instruction
-
--- an instruction of the table
-pub record IsSound (i : Instr) : Type 0 where
-  pub valid : IsValid i
-  pub fits : FitsSigned w32 i.imm
 
 -- 0 fits it
 none_fits : FitsSigned w32 (pos 0)

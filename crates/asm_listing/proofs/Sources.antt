@@ -1,6 +1,6 @@
 -- What is printed of bytes says them.
 use Rattle.std.proofs.Common.{◌≡◌, ℕ, ◌+◌, ◌*◌, ◌%◌, ◌<◌, ◌≤◌, Bool, true, false, List, [], ◌∷◌, ◌++◌, length, map, Option, Some, None, Result, Ok, refl, ap, ap₂, sym, subst, ◌∙◌, append_assoc, append-nil, length-append, arith}
-use Rattle.std.specs.Prelude.{◌==◌, if◌then◌else◌, codes}
+use Rattle.std.specs.Prelude.{IfSome, ◌==◌, if◌then◌else◌, codes}
 use Rattle.std.specs.List.{All, flat_map, slice_split}
 use Rattle.std.proofs.lemmas.Bool.{and_parts, eq-eqb, eqb-true, le-ltb}
 use Rattle.std.proofs.lemmas.Bool.Decides.{nat_tests}
@@ -27,7 +27,7 @@ use Rattle.asm_text.specs.declared.statement.Statement.{Statement}
 use Rattle.asm_text.specs.declared.statement.Statement.TheVariants.{Data, Instruction}
 use Rattle.asm_listing.specs.Laws.{AreBytes, SourcesAssemble}
 use Rattle.asm_listing.specs.Source.{chunk_text, chunks_of, instruction_in, source_of, text_by}
-use Rattle.asm_listing.proofs.Chunks.{AreDecoded, chunks_by, decoded, first_chunk, no_chunk, one_chunk}
+use Rattle.asm_listing.proofs.Chunks.{IsDecoded, chunks_by, decoded, first_chunk, no_chunk, one_chunk}
 use Rattle.asm_listing.proofs.DataLines.{data_read}
 use Rattle.asm_listing.proofs.Instructions.{as_line, instruction_read}
 use Rattle.asm_listing.proofs.Seen.{Seen, data_seen, instruction_seen}
@@ -80,7 +80,7 @@ module _ (chunk : List ℕ) (some : 0 < length chunk) (all : All IsByte chunk) w
         bytes = data_bytes chunk all;
       }
 
-  decoded_is : (o : Option Instr) → length chunk ≡ 8 → AreDecoded chunk o → IsRead chunk o
+  decoded_is : (o : Option Instr) → length chunk ≡ 8 → IfSome o (IsDecoded chunk) → IsRead chunk o
   decoded_is None l h = data_is
   decoded_is (Some i) l h =
       let r = instruction_read i h.valid h.fits in

@@ -103,23 +103,15 @@ fn append_instruction(out: &mut [u8], at: usize, i: &Instr) -> usize
 // ---- data
 
 // A byte in two digits.
-fn append_digits(out: &mut [u8], at: usize, byte: u8) -> usize
-    requires { at + 2 ≤ length out.old }
-    ensures end { result ≡ at + 2 }
-    ensures text { take result out.new ≡ take at out.old ++ encode_lower (byte ∷ []) }
-{
-    let mut digits = [0u8; 2];
-    let _ = hex::encode_to_slice([byte], &mut digits);
-    append(out, at, &digits)
-}
-
 fn append_byte(out: &mut [u8], at: usize, byte: u8) -> usize
     requires { at + 4 ≤ length out.old }
     ensures end { result ≡ at + 4 }
     ensures text { take result out.new ≡ take at out.old ++ byte_text byte }
 {
+    let mut digits = [0u8; 2];
+    let _ = hex::encode_to_slice([byte], &mut digits);
     let at = append(out, at, b"0x");
-    append_digits(out, at, byte)
+    append(out, at, &digits)
 }
 
 fn append_next_byte(out: &mut [u8], at: usize, byte: u8) -> usize

@@ -1,14 +1,14 @@
 -- A step keeps words, it stores where it looked, and it writes MSRs that may be written.
 use Rattle.std.proofs.Common.{◌≡◌, ◌∙◌, ℕ, suc, ◌+◌, ◌-◌, ◌*◌, ◌/◌, ◌%◌, ◌^◌, ◌<◌, ◌==◌, Bool, true, false, List, Option, Some, None, refl, subst, arith, length-set, w32, w64}
-use Rattle.std.specs.Prelude.{ℤ, pos, negsuc, not, nat_le, nat_lt, if◌then◌else◌, option_and_then}
-use Rattle.std.specs.Int.{cast_signed, cast_unsigned, to_le_bytes}
+use Rattle.std.specs.Prelude.{ℤ, IfSome, not, nat_le, nat_lt, if◌then◌else◌, option_and_then}
+use Rattle.std.specs.Int.{cast_unsigned, to_le_bytes}
+use Rattle.std.specs.Int.RustNames.{FitsSigned}
 use Rattle.std.specs.Int.Bits.{and_lt}
 use Rattle.std.proofs.lemmas.Bool.Decides.{nat_tests}
 use Rattle.std.proofs.lemmas.List.Elements.{All-set}
 use Rattle.std.proofs.lemmas.Nat.{or_lt, xor_lt}
 use Rattle.std.proofs.lemmas.Bool.{eqb-true, leb-false}
 use Rattle.std.proofs.Math.Nat.{div-le_self}
-use mir.Val.{sel}
 use Rattle.muen_num.specs.Access.{kind_bit}
 use Rattle.muen_num.specs.AccessSize.{bytes_of as count}
 use Rattle.muen_num.specs.declared.access.AccessKind.TheVariants.{Read, Write, Fetch}
@@ -28,7 +28,7 @@ use Rattle.guest_isa.specs.declared.end.Change.{Change}
 use Rattle.guest_isa.specs.declared.reach.Reach.{Reach}
 use Rattle.guest_isa.specs.declared.reach.Reach.TheVariants.{Reached, Refused}
 use Rattle.guest_isa.specs.Words.{IsWord, FitsState}
-use Rattle.guest_isa.proofs.Spelled.{OfSome, by_fields}
+use Rattle.guest_isa.proofs.Spelled.{by_fields, signed_fits, unsigned_low, unsigned_word}
 use Rattle.guest_isa.proofs.Alike.{reach_both}
 use Rattle.guest_isa.proofs.StateLaws.{word_below}
 
@@ -53,37 +53,10 @@ pub record IsWritten {X : Type 0} (w : World X) (m : MsrWrite) : Type 0 where
   pub allowed : w.sets_msr m.index ≡ true
   pub word : IsWord m.value
 
--- ---- immediates
-
--- by its sign
-word_by : (n : ℕ) (small : Bool) → (small ≡ true → n < 2 ^ 31) → cast_unsigned w64 (sel small (pos n) (negsuc (2 ^ 32 - suc n))) < 2 ^ 64
-word_by n true h = let l = h refl in omega (arith, l)
-word_by n false h = omega arith
-
-half_by : (n : ℕ) (small : Bool) → (small ≡ true → n < 2 ^ 31) → cast_unsigned w32 (sel small (pos n) (negsuc (2 ^ 32 - suc n))) < 2 ^ 32
-half_by n true h = let l = h refl in omega (arith, l)
-half_by n false h = omega arith
-
-small_of : (n : ℕ) → nat_lt n (2 ^ 31) ≡ true → n < 2 ^ 31
-small_of n h = grind (arith, nat_tests, h)
-
--- a number that is read as 32 signed bits, written as 64 bits and as 32
-immediate_word : (n : ℕ) → cast_unsigned w64 (cast_signed w32 n) < 2 ^ 64
-immediate_word n = word_by n (nat_lt n (2 ^ 31)) (small_of n)
-
-immediate_half : (n : ℕ) → cast_unsigned w32 (cast_signed w32 n) < 2 ^ 32
-immediate_half n = half_by n (nat_lt n (2 ^ 31)) (small_of n)
-
--- the immediate of an instruction has the bits that it is read with: as a word, and as the half of one
-record FitsInstr (i : Instr) : Type 0 where
-  pub word : IsWord (extended i.imm)
-  pub half : cast_unsigned w32 i.imm < 2 ^ 32
-
-decoded : (b : List ℕ) → OfSome FitsInstr (decode_of b)
+-- the immediate of what is decoded has 32 bits
+decoded : (b : List ℕ) → IfSome (decode_of b) (λ i. FitsSigned w32 i.imm)
 unfolding decode_of
-decoded b =
-    let f = fields_of b in
-    by_fields FitsInstr f λ o size at sized test. record { word = immediate_word f.imm; half = immediate_half f.imm }
+decoded b = let f = fields_of b in by_fields (λ i. FitsSigned w32 i.imm) f λ o size at sized test. signed_fits f.imm
 
 -- ---- effects
 
@@ -137,9 +110,9 @@ joined_word low high h = omega (arith, h)
 shifted_word : (n m : ℕ) → IsWord n → IsWord (n / m)
 shifted_word n m h = omega (arith, h, div-le_self n m)
 
-effect_fits : (o : Opcode) (s : SubjectState) (i : Instr) → FitsInstr i → FitsState s → FitsAsked (effect_by o s i)
-effect_fits Li s i h f = set_fits s i.rd (extended i.imm) h.word f
-effect_fits Lih s i h f = set_fits s i.rd _ (joined_word (register s i.rd) (cast_unsigned w32 i.imm) h.half) f
+effect_fits : (o : Opcode) (s : SubjectState) (i : Instr) → FitsSigned w32 i.imm → FitsState s → FitsAsked (effect_by o s i)
+effect_fits Li s i h f = set_fits s i.rd (extended i.imm) (unsigned_word i.imm h) f
+effect_fits Lih s i h f = set_fits s i.rd _ (joined_word (register s i.rd) (cast_unsigned w32 i.imm) (unsigned_low i.imm h)) f
 effect_fits Mov s i h f = set_fits s i.rd (register s i.rs) (register_fits s i.rs f) f
 effect_fits Add s i h f = set_fits s i.rd _ (omega arith) f
 effect_fits Sub s i h f = set_fits s i.rd _ (omega arith) f
@@ -166,19 +139,11 @@ effect_fits _ s i h f = passed_fits s _ f tt
 -- ---- answers
 
 module _ {X : Type 0} (w : World X) where
-  abbrev OnStored : Option (Stored X) → Type 0
-  OnStored None = Unit {0}
-  OnStored (Some st) = IsStored w st
-
-  abbrev OnWritten : Option MsrWrite → Type 0
-  OnWritten None = Unit {0}
-  OnWritten (Some m) = IsWritten w m
-
   -- the answer of a step from this state
   record IsAnswer (s : SubjectState) (a : Answer X) : Type 0 where
     pub state : FitsWorld w → FitsState s → FitsState a.state
-    pub stored : OnStored a.stored
-    pub msr : FitsState s → OnWritten a.msr
+    pub stored : IfSome a.stored (IsStored w)
+    pub msr : FitsState s → IfSome a.msr (IsWritten w)
 
   is_plain : (s after : SubjectState) (change : Change) → (FitsWorld w → FitsState s → FitsState after) → IsAnswer s (went_on after change)
   is_plain s after change h = record { state = λ v f. exited_fits after false (h v f); stored = tt; msr = λ f. tt }
@@ -253,7 +218,7 @@ module _ {X : Type 0} (w : World X) where
   is_performed s after (Calls number) h g = is_exit s _ 0 0 number
   is_performed s after Halts h g = is_exit s _ 0 0 0
 
-  is_executed : (s : SubjectState) (o : Option Instr) → OfSome FitsInstr o → IsAnswer s (executed w s o)
+  is_executed : (s : SubjectState) (o : Option Instr) → IfSome o (λ i. FitsSigned w32 i.imm) → IsAnswer s (executed w s o)
   is_executed s None d = is_exit s _ 0 0 0
   is_executed s (Some i) d =
       is_performed s (effect_of s i).after (effect_of s i).wish (λ f. (effect_fits i.opcode s i d f).after) (λ f. (effect_fits i.opcode s i d f).wish)
@@ -266,20 +231,14 @@ module _ {X : Type 0} (w : World X) where
   is_answer : (s : SubjectState) → IsAnswer s (step w s)
   is_answer s = is_fetched s (reach_of w.look Fetch 8 s.pc)
 
-  is_some_stored : (o : Option (Stored X)) (st : Stored X) → OnStored o → o ≡ Some st → IsStored w st
-  is_some_stored o st h e = subst OnStored e h
-
-  is_some_written : (o : Option MsrWrite) (m : MsrWrite) → OnWritten o → o ≡ Some m → IsWritten w m
-  is_some_written o m h e = subst OnWritten e h
-
   -- a step keeps words
   pub step_fits : (s : SubjectState) → FitsWorld w → FitsState s → FitsState (step w s).state
   step_fits s v f = (is_answer s).state v f
 
   -- what a step stores was looked up
   pub step_stored : (s : SubjectState) (st : Stored X) → (step w s).stored ≡ Some st → IsStored w st
-  step_stored s st e = is_some_stored (step w s).stored st (is_answer s).stored e
+  step_stored s st e = subst (λ o. IfSome o (IsStored w)) e (is_answer s).stored
 
   -- an MSR that a step writes may be written
   pub step_msr : (s : SubjectState) (m : MsrWrite) → FitsState s → (step w s).msr ≡ Some m → IsWritten w m
-  step_msr s m f e = is_some_written (step w s).msr m ((is_answer s).msr f) e
+  step_msr s m f e = subst (λ o. IfSome o (IsWritten w)) e ((is_answer s).msr f)
