@@ -12,7 +12,6 @@ use Rattle.asm_text.specs.Parts.{parts_of}
 use Rattle.asm_text.specs.Reading.{at_end, data_line, definition, directive, displacement, found, instruction, integer, keyword, label, source_line_of, name_or_wanted, no_operands, number, offset_line, operands_of, port_size, read_part, read_parts, register_token, size, statement, value, values, worded}
 use Rattle.asm_text.specs.Tokens.{Tokens, end_with, token}
 use Rattle.asm_text.specs.Words.{behind, if_below, data_size_of}
-use Rattle.asm_text.specs.declared.fault.LineError.{LineError}
 use Rattle.asm_text.specs.declared.fault.Want.TheVariants.{Register}
 use Rattle.guest_isa.specs.declared.opcode.Opcode.{Opcode}
 use Rattle.guest_isa.specs.declared.opcode.Shape.{Shape}
