@@ -17,7 +17,7 @@ use Rattle.text_words.specs.Steps.{◌>>=◌, ◌>>◌}
 use Rattle.asm_text.specs.Layout.{SymbolTable}
 use Rattle.asm_text.specs.Meaning.{sum_of}
 use Rattle.asm_text.specs.Parts.{parts_of}
-use Rattle.asm_text.specs.Reading.{keyword, no_operands, passed, port_size, read_part, read_parts, register_token, signed_terms, size, small}
+use Rattle.asm_text.specs.Reading.{keyword, line_bytes_left, no_operands, passed, port_size, read_part, read_parts, register_token, signed_terms, size, small}
 use Rattle.asm_text.specs.Tokens.{Tokens, end_with, token, word_goes_on, tokens_of}
 use Rattle.asm_text.specs.declared.fault.LineError.{LineError}
 use Rattle.asm_text.specs.declared.fault.Want.{Want}
@@ -86,17 +86,17 @@ few_bytes Eight h = absurd (false≢true h)
 
 pub shape_readable : (i : Instr) (s : Shape) → nat_le (bytes_of i.size) (named s).most ≡ true → AreReadable i (parts_of s)
 shape_readable i Alone h = tt
-shape_readable i Immediate h = (tt, tt, refl, tt)
-shape_readable i High h = (tt, tt, refl, tt)
-shape_readable i Pair h = (tt, tt, tt, tt)
-shape_readable i Memory h = (tt, tt, tt, tt, tt, refl, tt)
-shape_readable i PortRead h = (tt, tt, few_bytes i.size h, tt, tt, tt, refl, tt)
-shape_readable i PortWrite h = (tt, tt, few_bytes i.size h, tt, tt, tt, refl, tt)
+shape_readable i Immediate h = (tt, (tt, (refl, tt)))
+shape_readable i High h = (tt, (tt, (refl, tt)))
+shape_readable i Pair h = (tt, (tt, (tt, tt)))
+shape_readable i Memory h = (tt, (tt, (tt, (tt, (tt, (refl, tt))))))
+shape_readable i PortRead h = (tt, (tt, (few_bytes i.size h, (tt, (tt, (tt, (refl, tt)))))))
+shape_readable i PortWrite h = (tt, (tt, (few_bytes i.size h, (tt, (tt, (tt, (refl, tt)))))))
 shape_readable i Destination h = (tt, tt)
 shape_readable i Source h = (tt, tt)
 shape_readable i Jump h = (refl, tt)
-shape_readable i JumpIf h = (tt, tt, refl, tt)
-shape_readable i JumpBelow h = (tt, tt, tt, tt, refl, tt)
+shape_readable i JumpIf h = (tt, (tt, (refl, tt)))
+shape_readable i JumpBelow h = (tt, (tt, (tt, (tt, (refl, tt)))))
 
 -- ---- sizes
 
@@ -116,7 +116,9 @@ small_passed left Eight r h = absurd h
 port_size_read : (n : AccessSize) (rest : List ℕ) → IsSmall n → word_goes_on rest ≡ false → port_size (tokens_of (size_text n ++ rest)) ≡ Ok (n, tokens_of rest)
 unfolding port_size
 port_size_read n rest few ends =
-    ap (λ (r : Result (AccessSize × Tokens) LineError). r >>= λ x. small _ x.0 >> Ok (x.0, x.1)) (size_read n rest ends) ∙ small_passed _ n (Ok (n, tokens_of rest)) few
+    let left = line_bytes_left (tokens_of (size_text n ++ rest)) in
+    ap (λ (r : Result (AccessSize × Tokens) LineError). r >>= λ x. small left x.0 >> Ok (x.0, x.1)) (size_read n rest ends)
+    ∙ small_passed left n (Ok (n, tokens_of rest)) few
 
 -- ---- one part behind another
 
@@ -229,4 +231,10 @@ module _ (i : Instr) (v : IsValid i) (fits : FitsSigned w32 i.imm) where
   shape_unmarked Alone = tt
   shape_unmarked Source = unmarked_text (register_text i.rs) [] (register_word i.rs v.1) refl
   shape_unmarked Jump = signed_unmarked [] refl nothing_follows i.imm fits
-  shape_unmarked _ = rd_first _
+  shape_unmarked Pair = rd_first (Comma ∷ Rs ∷ [])
+  shape_unmarked Memory = rd_first (Comma ∷ Size ∷ At ∷ Rs ∷ Displacement ∷ [])
+  shape_unmarked PortRead = rd_first (Comma ∷ PortSize ∷ At ∷ Port ∷ Rs ∷ Displacement ∷ [])
+  shape_unmarked PortWrite = rd_first (Comma ∷ PortSize ∷ To ∷ Port ∷ Rs ∷ Displacement ∷ [])
+  shape_unmarked Destination = rd_first []
+  shape_unmarked JumpBelow = rd_first (Comma ∷ Rs ∷ Comma ∷ Imm ∷ [])
+  shape_unmarked _ = rd_first (Comma ∷ Imm ∷ [])
