@@ -1,10 +1,10 @@
 -- What is printed of the bytes of a source says the instructions that the source says.
-use Rattle.std.proofs.Common.{◌≡◌, ℕ, ◌-◌, ◌^◌, ◌<◌, ◌≤◌, Bool, true, false, ℤ, pos, negsuc, refl, w32, arith, zero, suc, ◌+◌, ◌*◌, ◌%◌, List, [], ◌∷◌, length, ap, sym, ◌∙◌, subst, ◌++◌, map, None, append_assoc, length-append}
+use Rattle.std.proofs.Common.{◌≡◌, ℕ, ◌-◌, ◌^◌, ◌<◌, ◌≤◌, Bool, true, false, ℤ, pos, negsuc, refl, w32, arith, ◌+◌, ◌*◌, ◌%◌, List, [], ◌∷◌, length, ap, sym, ◌∙◌, subst, ◌++◌, map, None, append_assoc, length-append}
 use Rattle.std.specs.Prelude.{if◌then◌else◌}
 use Rattle.std.specs.Int.{cast_signed}
 use Rattle.std.specs.Int.RustNames.{FitsSigned}
 use Rattle.std.proofs.lemmas.Bool.{and_parts, leb-true, ltb-true, eq-eqb}
-use Rattle.guest_isa.specs.GuestIsa.{IsValid, named_by, shape_of, decode_of, encoding_of}
+use Rattle.guest_isa.specs.GuestIsa.{named_by, shape_of, decode_of, encoding_of}
 use Rattle.guest_isa.specs.declared.instr.Instr.{Instr}
 use Rattle.guest_isa.specs.declared.opcode.Shape.{Shape}
 use Rattle.guest_isa.specs.declared.opcode.Shape.TheVariants.{High, Jump, JumpIf, JumpBelow}

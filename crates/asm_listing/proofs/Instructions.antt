@@ -1,5 +1,5 @@
 -- The line of an instruction says it.
-use Rattle.std.proofs.Common.{◌≡◌, ℕ, ◌-◌, ◌^◌, true, false, ℤ, pos, negsuc, List, [], ◌∷◌, ◌++◌, length, Option, Some, None, Result, Ok, refl, ap, sym, subst, ◌∙◌, append_assoc, w32, to_z-of_z, add-one, arith}
+use Rattle.std.proofs.Common.{◌≡◌, ℕ, ◌-◌, ◌^◌, true, false, ℤ, pos, negsuc, List, ◌++◌, length, Option, Some, None, Result, Ok, refl, ap, subst, ◌∙◌, w32, to_z-of_z, add-one, arith}
 use Rattle.std.specs.Prelude.{◌&&◌, if◌then◌else◌, codes, nat_le, nat_lt}
 use Rattle.std.specs.Int.{cast_signed, cast_unsigned}
 use Rattle.std.specs.Int.RustNames.{FitsSigned}

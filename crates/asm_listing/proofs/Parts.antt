@@ -1,7 +1,6 @@
 -- What stands behind an instruction's word reads as it was printed, part by part.
 use Rattle.std.proofs.Common.{◌≡◌, ℕ, zero, suc, ◌<◌, true, false, ℤ, pos, negsuc, List, [], ◌∷◌, ◌++◌, length, Result, Ok, refl, ap, sym, subst, ◌∙◌, w32}
 use Rattle.std.specs.Prelude.{codes, nat_le}
-use Rattle.std.specs.Fmt.{signed_decimal}
 use Rattle.std.specs.Int.RustNames.{FitsSigned}
 use Rattle.std.specs.List.{flat_map}
 use Rattle.std.proofs.lemmas.Bool.{false≢true}
@@ -18,9 +17,8 @@ use Rattle.asm_text.specs.Layout.{SymbolTable}
 use Rattle.asm_text.specs.Meaning.{sum_of}
 use Rattle.asm_text.specs.Parts.{parts_of}
 use Rattle.asm_text.specs.Reading.{keyword, line_bytes_left, no_operands, passed, port_size, read_part, read_parts, register_token, signed_terms, size, small}
-use Rattle.asm_text.specs.Tokens.{Tokens, end_with, token, word_goes_on, tokens_of}
+use Rattle.asm_text.specs.Tokens.{Tokens, end_with, word_goes_on, tokens_of}
 use Rattle.asm_text.specs.declared.fault.LineError.{LineError}
-use Rattle.asm_text.specs.declared.fault.Want.{Want}
 use Rattle.asm_text.specs.declared.fault.Want.TheVariants.{Comma as CommaWant, At as AtWant, To as ToWant, Port as PortWant, Size as SizeWant}
 use Rattle.asm_text.specs.declared.part.Part.{Part}
 use Rattle.asm_text.specs.declared.part.Part.TheVariants.{Rd, Rs, Imm, Displacement, Size, PortSize, Comma, At, To, Port}
