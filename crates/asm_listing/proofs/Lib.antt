@@ -1,8 +1,7 @@
 pub mod Words
 pub mod Values
 pub mod Parts
-pub mod Instructions
-pub mod DataLines
+pub mod Lines
 pub mod Chunks
 pub mod Seen
 pub mod Sources

@@ -28,8 +28,7 @@ use Rattle.asm_text.specs.declared.statement.Statement.TheVariants.{Data, Instru
 use Rattle.asm_listing.specs.Laws.{AreBytes, SourcesAssemble}
 use Rattle.asm_listing.specs.Source.{chunk_text, chunks_of, instruction_in, source_of, text_by}
 use Rattle.asm_listing.proofs.Chunks.{IsDecoded, chunks_by, decoded, first_chunk, no_chunk, one_chunk}
-use Rattle.asm_listing.proofs.DataLines.{data_read}
-use Rattle.asm_listing.proofs.Instructions.{as_line, instruction_read}
+use Rattle.asm_listing.proofs.Lines.{as_line, data_read, instruction_read}
 use Rattle.asm_listing.proofs.Seen.{Seen, data_seen, instruction_seen}
 use Rattle.asm_listing.proofs.Words.{is_seen}
 use Rattle.guest_isa.specs.Words.{IsByte}
