@@ -28,7 +28,7 @@ reach_both R a b kind size addr refused led = by (addr % size == 0) (nat_le GUES
   where
     by : (fine high : Bool) → (addr % size == 0) ≡ fine → nat_le GUEST_END addr ≡ high
         → R (if fine then (if high then Refused EXIT_EPT_VIOLATION (kind_bit kind) addr else a kind addr) else Refused EXIT_EXCEPTION 0 0)
-            (if fine then (if high then Refused EXIT_EPT_VIOLATION (kind_bit kind) addr else b kind addr) else Refused EXIT_EXCEPTION 0 0)
+        (if fine then (if high then Refused EXIT_EPT_VIOLATION (kind_bit kind) addr else b kind addr) else Refused EXIT_EXCEPTION 0 0)
     by true true e l = refused EXIT_EPT_VIOLATION (kind_bit kind) addr
     by true false e l = led (eqb-true (addr % size) 0 e) (leb-false GUEST_END addr l)
     by false high e l = refused EXIT_EXCEPTION 0 0
