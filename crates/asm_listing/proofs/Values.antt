@@ -144,7 +144,8 @@ module _ (rest : List ℕ) (ends : word_goes_on rest ≡ false) (last : IsLast (
       }
 
   -- behind this sign
-  one_displacement : (sign : ℕ) (minus : Bool) (n : ℕ) (z : ℤ) → (begins_comment sign ≡ false) × (is_blank sign ≡ false) × (is_mark sign ≡ true) → sign_of (sign ∷ []) ≡ Some minus → n < 2 ^ 64
+  one_displacement : (sign : ℕ) (minus : Bool) (n : ℕ) (z : ℤ) → (begins_comment sign ≡ false) × (is_blank sign ≡ false) × (is_mark sign ≡ true)
+      → sign_of (sign ∷ []) ≡ Some minus → n < 2 ^ 64
       → ((left : ℕ) → sum_is (number_term left minus n ∷ []) z) → SumRead displacement (tokens_of (32 ∷ sign ∷ 32 ∷ decimal n ++ rest)) (tokens_of rest) z
   unfolding displacement signed_terms tokens_of
   one_displacement sign minus n z mark is low sum =

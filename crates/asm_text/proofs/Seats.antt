@@ -91,7 +91,9 @@ stated_passes (Data left size values) s fit room =
 stated_passes (Instruction o) s fit room = by (s.here % 8 == 0) refl
   where
     by : (t : Bool) → (s.here % 8 == 0) ≡ t → Holds (IsAfter s.here (Instruction o)) (if t then continued_at o.left (s.here + 8) s else wanted o.left Aligned)
-    by true e = weaker (IsNext (s.here + 8)) (IsAfter s.here (Instruction o)) (continued_at o.left (s.here + 8) s) (λ x h. ((eqb-true (s.here % 8) 0 e, fit_operation o fit), h)) (moved_to o.left (s.here + 8) s)
+    by true e =
+        weaker (IsNext (s.here + 8)) (IsAfter s.here (Instruction o)) (continued_at o.left (s.here + 8) s)
+        (λ x h. ((eqb-true (s.here % 8) 0 e, fit_operation o fit), h)) (moved_to o.left (s.here + 8) s)
     by false e = tt
 
 line_passes : (line : SourceLine) (s : LayoutState) → IsFitLine line → s.here ≤ COMPONENT_FILE_MOST → Holds (IsAfter s.here line.statement) (after_line line s)

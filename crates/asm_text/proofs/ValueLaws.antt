@@ -124,7 +124,8 @@ enough zero zero ts h k = refl
 enough zero (suc m) ts h k = sym (value_fails ts (values m) h)
 enough (suc n) zero ts h k = value_fails ts (values n) k
 enough (suc n) (suc m) ts h k =
-    same_values (min n m) (values n) (values m) (value ts) (weaker (token_count ts) (suc (min n m)) (value ts) (omega (arith, h, k)) (value_within ts)) (λ more l. enough n m more (omega (arith, l)) (omega (arith, l)))
+    same_values (min n m) (values n) (values m) (value ts) (weaker (token_count ts) (suc (min n m)) (value ts) (omega (arith, h, k)) (value_within ts))
+    (λ more l. enough n m more (omega (arith, l)) (omega (arith, l)))
 
 abbrev pub all_values : Tokens → Result (List Value) LineError
 all_values ts = values (token_count ts) ts
@@ -137,7 +138,8 @@ pub values_one_by_one : (ts : Tokens) → all_values ts ≡ and_others all_value
 values_one_by_one ts =
     enough (token_count ts) (suc (token_count ts)) ts (omega arith) (omega arith)
     ∙ step_of (token_count ts) ts
-    ∙ same_values (token_count ts) (values (token_count ts)) all_values (value ts) (weaker (token_count ts) (suc (token_count ts)) (value ts) (omega arith) (value_within ts)) (λ more l. enough (token_count ts) (token_count more) more l (omega arith))
+    ∙ same_values (token_count ts) (values (token_count ts)) all_values (value ts) (weaker (token_count ts) (suc (token_count ts)) (value ts) (omega arith) (value_within ts))
+    (λ more l. enough (token_count ts) (token_count more) more l (omega arith))
 
 -- ---- as a loop reads them: with the values before
 

@@ -32,7 +32,7 @@ bytes =
     -- a call names no register but the one that has its number
     ∷ (22 ∷ 18 ∷ 0 ∷ 0 ∷ 0 ∷ 0 ∷ 0 ∷ 0 ∷ [], None)
     -- past the table
-    ∷ (28 ∷ 0 ∷ 0 ∷ 0 ∷ 0 ∷ 0 ∷ 0 ∷ 0 ∷ [], None)
+    ∷ (255 ∷ 0 ∷ 0 ∷ 0 ∷ 0 ∷ 0 ∷ 0 ∷ 0 ∷ [], None)
     ∷ []
 
 bytes_decode : map (λ (e : List ℕ × Option Instr). decode_of e.0) bytes ≡ map (λ (e : List ℕ × Option Instr). e.1) bytes
@@ -131,7 +131,7 @@ on_events_are = refl
 -- bytes at register 2, bytes outside the table, and a store of eight bytes of register 1 at register 2
 
 code : List ℕ
-code = 11 ∷ 18 ∷ 3 ∷ 0 ∷ 0 ∷ 0 ∷ 0 ∷ 0 ∷ 28 ∷ 1 ∷ 0 ∷ 0 ∷ 0 ∷ 0 ∷ 0 ∷ 0 ∷ 12 ∷ 18 ∷ 3 ∷ 0 ∷ 0 ∷ 0 ∷ 0 ∷ 0 ∷ []
+code = 11 ∷ 18 ∷ 3 ∷ 0 ∷ 0 ∷ 0 ∷ 0 ∷ 0 ∷ 255 ∷ 1 ∷ 0 ∷ 0 ∷ 0 ∷ 0 ∷ 0 ∷ 0 ∷ 12 ∷ 18 ∷ 3 ∷ 0 ∷ 0 ∷ 0 ∷ 0 ∷ 0 ∷ []
 
 world : World ℕ
 world = record {
@@ -162,8 +162,8 @@ steps =
     ∷ (with_two 8 33, refused (with_two 8 33) 0 0 0)
     -- bytes outside the table
     ∷ (with_two 8 8, refused (with_two 8 8) 0 0 0)
-    -- 28 + 256, and on
-    ∷ (with_two 8 0, record { state = state (0 ∷ 284 ∷ 8 ∷ []) 8; end = Ran (Changed 1 284); stored = None; msr = None })
+    -- 255 + 256, and on
+    ∷ (with_two 8 0, record { state = state (0 ∷ 511 ∷ 8 ∷ []) 8; end = Ran (Changed 1 511); stored = None; msr = None })
     -- `pc` and the register stay; a load's bit is 1
     ∷ (with_two 32 0, refused (with_two 32 0) 48 1 32)
     ∷ (with_two 33 0, refused (with_two 33 0) 0 0 0)

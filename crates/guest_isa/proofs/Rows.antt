@@ -23,7 +23,8 @@ word_among : (word : List ℕ) (rows : List CodeRow) → option_map (λ (r : Cod
     ≡ option_map (λ (r : Row). r.opcode) (find (λ r. bytes_eq r.word word) (map row_shown rows))
 word_among word [] = refl
 word_among word (r ∷ rs) =
-    elim (bytes_eq r.word.now word) as (λ b. option_map (λ (r : CodeRow). r.opcode) (cond b (Some r) (find (λ r. bytes_eq r.word.now word) rs)) ≡ option_map (λ (r : Row). r.opcode) (cond b (Some (row_shown r)) (find (λ r. bytes_eq r.word word) (map row_shown rs)))) [
+    elim (bytes_eq r.word.now word) as (λ b. option_map (λ (r : CodeRow). r.opcode) (cond b (Some r) (find (λ r. bytes_eq r.word.now word) rs))
+    ≡ option_map (λ (r : Row). r.opcode) (cond b (Some (row_shown r)) (find (λ r. bytes_eq r.word word) (map row_shown rs)))) [
       | true ↦ refl
       | false ↦ word_among word rs
     ]

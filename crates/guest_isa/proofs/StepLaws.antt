@@ -1,19 +1,16 @@
 -- A step keeps words, it stores where it looked, and it writes MSRs that may be written.
-use Rattle.std.proofs.Common.{◌≡◌, ◌∙◌, ℕ, suc, ◌+◌, ◌-◌, ◌*◌, ◌/◌, ◌%◌, ◌^◌, ◌<◌, ◌==◌, Bool, true, false, List, Option, Some, None, refl, subst, arith, length-set, w32, w64}
-use Rattle.std.specs.Prelude.{ℤ, IfSome, not, nat_le, nat_lt, if◌then◌else◌, option_and_then}
+use Rattle.std.proofs.Common.{◌≡◌, ◌∙◌, ℕ, ◌+◌, ◌*◌, ◌/◌, ◌%◌, ◌^◌, ◌<◌, ◌==◌, Bool, true, false, List, Option, Some, None, refl, subst, arith, length-set, w32, w64}
+use Rattle.std.specs.Prelude.{ℤ, IfSome, not, nat_lt}
 use Rattle.std.specs.Int.{cast_unsigned, to_le_bytes}
 use Rattle.std.specs.Int.RustNames.{FitsSigned}
 use Rattle.std.specs.Int.Bits.{and_lt}
-use Rattle.std.proofs.lemmas.Bool.Decides.{nat_tests}
 use Rattle.std.proofs.lemmas.List.Elements.{All-set}
 use Rattle.std.proofs.lemmas.Nat.{or_lt, xor_lt}
-use Rattle.std.proofs.lemmas.Bool.{eqb-true, leb-false}
 use Rattle.std.proofs.Math.Nat.{div-le_self}
-use Rattle.muen_num.specs.Access.{kind_bit}
 use Rattle.muen_num.specs.AccessSize.{bytes_of as count}
 use Rattle.muen_num.specs.declared.access.AccessKind.TheVariants.{Read, Write, Fetch}
 use Rattle.muen_num.specs.declared.access.AccessSize.{AccessSize}
-use Rattle.muen_num.specs.declared.limits.TheConstants.{EXIT_EPT_VIOLATION, EXIT_EXCEPTION, GUEST_END}
+use Rattle.muen_num.specs.declared.limits.TheConstants.{GUEST_END}
 use Rattle.state_page.specs.Memory.{le_bytes}
 use Rattle.state_page.specs.declared.state.SubjectState.{SubjectState}
 use Rattle.guest_isa.specs.GuestIsa.{fields_of, decode_of, register, advanced, with_register, extended, passed, set_register, jumped, jumped_if, effect_by, effect_of}

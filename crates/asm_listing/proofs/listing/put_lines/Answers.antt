@@ -16,7 +16,8 @@ returns-in_err-put_line g c =
     let cut : IsCut rest c.split_at.result.0.now c.split_at.result.1.now c.min.result =
     record { some = some_bytes rest (sym c.is_empty.ensures ∙ c.loop-rest-test.true); at = omega arith; front = c.split_at.ensures.front; back = c.split_at.ensures.back } in
     let next = listing_cut c.loop-rest.address rest c.split_at.result.0.now c.split_at.result.1.now c.min.result (omega arith) cut in
-    (search rules, gives_exit (listing_of c.args.base c.args.bytes.now) s u _ c.from_residual.ensures.0 (printing_lost _ (listing_of c.loop-rest.address rest) _ _ s t u next c.loop-rest.invariant.1 c.in_err-put_line.ensures.1))
+    let lost = printing_lost _ (listing_of c.loop-rest.address rest) _ _ s t u next c.loop-rest.invariant.1 c.in_err-put_line.ensures.1 in
+    (search rules, gives_exit (listing_of c.args.base c.args.bytes.now) s u _ c.from_residual.ensures.0 lost)
 
 pub loop-rest-preserved : goal.loop-rest-preserved
 loop-rest-preserved g c =

@@ -6,7 +6,9 @@ pub returns-in_default-clause-sum : goal.returns-in_default-clause-sum
 returns-in_default-clause-sum c =
     let there : c.loop-term.term-index < length c.args.terms.now = search rules in
     let is : c.term-item.result ≡ get_or c.args.terms.now c.loop-term.term-index c.term-item.result = search rules in
-    ap Err c.wanted.ensures ∙ sym (no_such_name c.args.names.now.entries c.loop-term.sum c.args.terms.now c.term-item.result c.loop-term.term-index there is (sym c.in_default.ensures.value)) ∙ c.loop-term.invariant.same
+    ap Err c.wanted.ensures
+    ∙ sym (no_such_name c.args.names.now.entries c.loop-term.sum c.args.terms.now c.term-item.result c.loop-term.term-index there is (sym c.in_default.ensures.value))
+    ∙ c.loop-term.invariant.same
 
 pub overflow_add-sum : goal.overflow_add-sum
 overflow_add-sum c =
