@@ -4,7 +4,7 @@ use Rattle.std.specs.Prelude.{◌==◌, ◌↔◌, codes, IsOk, OnOk}
 use Rattle.std.specs.List.{enumerate_from, flat_map}
 use Rattle.std.proofs.lemmas.Bool.{cases_lt, false≢true, true≢false}
 use Rattle.muen_outside.specs.Buffered.{Given, Lost, OutState}
-use Rattle.muen_outside.proofs.Buffered.{given_none, given_then, lost_after, lost_first}
+use Rattle.muen_outside.proofs.Buffered.{given_then, lost_after, lost_first}
 use Rattle.asm_listing.specs.Listing.{listing_line_at, listing_line, listing_of}
 use Rattle.asm_listing.specs.Source.{chunk_text, chunks_of, source_of}
 use Rattle.asm_listing.proofs.Chunks.{first_chunk, no_chunk, one_chunk}
@@ -35,9 +35,6 @@ pub record IsPrinting (whole rest : List ℕ) (s t : OutState) : Type 0 where
   pub front : List ℕ
   pub given : Given front s t
   pub left : whole ≡ front ++ rest
-
-pub printing_none : (whole : List ℕ) (s : OutState) → IsPrinting whole whole s s
-printing_none whole s = record { front = []; given = given_none s; left = refl }
 
 pub printing_more : (whole rest line more : List ℕ) (s t u : OutState) → rest ≡ line ++ more → IsPrinting whole rest s t → Given line t u → IsPrinting whole more s u
 printing_more whole rest line more s t u e p q = record {
