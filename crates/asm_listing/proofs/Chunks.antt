@@ -1,15 +1,13 @@
 -- Bytes in pieces of eight, and what such a piece spells.
-use Rattle.std.proofs.Common.{◌≡◌, ℕ, suc, ◌+◌, ◌-◌, ◌*◌, ◌/◌, ◌%◌, ◌^◌, ◌<◌, Bool, true, false, ltb, ℤ, pos, negsuc, List, [], ◌∷◌, ◌++◌, length, get_or, Option, Some, None, refl, ap, ◌∙◌, w32, to_z-of_z, arith}
-use Rattle.std.specs.Prelude.{◌==◌, if◌then◌else◌, option_and_then}
-use Rattle.std.specs.Int.{cast_signed, cast_unsigned, from_le_bytes, to_le_bytes}
+use Rattle.std.proofs.Common.{◌≡◌, ℕ, ◌^◌, ◌<◌, List, [], ◌∷◌, ◌++◌, length, get_or, Option, Some, None, refl, w32, arith}
+use Rattle.std.specs.Prelude.{◌==◌, IfSome}
+use Rattle.std.specs.Int.{from_le_bytes, to_le_bytes}
 use Rattle.std.specs.Int.RustNames.{FitsSigned}
 use Rattle.std.specs.List.{All}
-use Rattle.std.proofs.lemmas.Bool.{and_parts, ltb-true, ltb-false}
-use lib.Signed.{mag}
-use mir.Val.{sel}
+use Rattle.std.proofs.lemmas.Bool.{and_parts}
 use Rattle.guest_isa.specs.declared.instr.Instr.{Instr}
 use Rattle.guest_isa.specs.GuestIsa.{AreSpelled, IsValid, decode_of, encoding_of, fields_of, instruction_of}
-use Rattle.guest_isa.proofs.Spelled.{OfSome, by_fields, eight, spelled_by, word_bytes}
+use Rattle.guest_isa.proofs.Spelled.{by_fields, eight, signed_fits, spelled_by, word_bytes}
 use Rattle.asm_listing.specs.Source.{chunks_of}
 
 -- ---- pieces
@@ -44,25 +42,13 @@ pub record IsDecoded (b : List ℕ) (i : Instr) : Type 0 where
   pub fits : FitsSigned w32 i.imm
   pub spelled : encoding_of i ≡ b
 
-abbrev pub AreDecoded : List ℕ → Option Instr → Type 0
-AreDecoded b None = Unit {0}
-AreDecoded b (Some i) = IsDecoded b i
-
--- a number of 32 bits, read as a signed one
-pub signed_fits : (n : ℕ) → n < 2 ^ 32 → FitsSigned w32 (cast_signed w32 n)
-signed_fits n h = record { sfits = by (ltb n (2 ^ 31)) refl }
-  where
-    by : (t : Bool) → ltb n (2 ^ 31) ≡ t → mag (sel t (pos n) (negsuc (2 ^ 32 - suc n))) < 2 ^ 31
-    by true e = ltb-true n (2 ^ 31) e
-    by false e = omega (arith, ltb-false n (2 ^ 31) e)
-
 word_low : (a b c d : ℕ) → a < 256 → b < 256 → c < 256 → d < 256 → from_le_bytes w32 (a ∷ b ∷ c ∷ d ∷ []) < 2 ^ 32
 word_low a b c d p q r s = omega arith
 
--- an instruction of the table, with a number of 32 bits
-record IsRead (i : Instr) : Type 0 where
-  valid : IsValid i
-  fits : FitsSigned w32 i.imm
+-- an instruction of the table
+pub record IsSound (i : Instr) : Type 0 where
+  pub valid : IsValid i
+  pub fits : FitsSigned w32 i.imm
 
 module _ (b : List ℕ) (l : length b ≡ 8) (all : All (λ x. x < 256) b) where
   byte_low : (k : ℕ) → k < 8 → get_or b k 0 < 256
@@ -80,19 +66,16 @@ module _ (b : List ℕ) (l : length b ≡ 8) (all : All (λ x. x < 256) b) where
   rs_low : (fields_of b).rs < 16
   rs_low = omega arith
 
-  imm_fits : FitsSigned w32 (cast_signed w32 (fields_of b).imm)
-  imm_fits = signed_fits (fields_of b).imm imm_low
-
-  of_instruction : OfSome IsRead (instruction_of (fields_of b))
+  of_instruction : IfSome (instruction_of (fields_of b)) IsSound
   of_instruction =
-      by_fields IsRead (fields_of b) λ o size at sized test.
-      record { valid = (rd_low, rs_low, (and_parts ((fields_of b).zero == 0) _ test).1); fits = imm_fits }
+      by_fields IsSound (fields_of b) λ o size at sized test.
+      record { valid = (rd_low, rs_low, (and_parts ((fields_of b).zero == 0) _ test).1); fits = signed_fits (fields_of b).imm }
 
   -- what eight bytes decode to is an instruction of the table, and they are its spelling
-  pub decoded : AreDecoded b (decode_of b)
+  pub decoded : IfSome (decode_of b) (IsDecoded b)
   unfolding decode_of
   decoded = both (instruction_of (fields_of b)) of_instruction (spelled_by b (fields_of b) imm_low (eight b (fields_of b).imm l imm_bytes))
     where
-      both : (o : Option Instr) → OfSome IsRead o → AreSpelled o b → AreDecoded b o
+      both : (o : Option Instr) → IfSome o IsSound → AreSpelled o b → IfSome o (IsDecoded b)
       both None read is = tt
       both (Some i) read is = record { valid = read.valid; fits = read.fits; spelled = is }

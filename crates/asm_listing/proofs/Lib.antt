@@ -1,12 +1,9 @@
 pub mod Words
 pub mod Values
-pub mod Shapes
-pub mod Instructions
-pub mod DataLines
+pub mod Parts
+pub mod Lines
 pub mod Chunks
 pub mod Seen
 pub mod Sources
-pub mod Accepted
-pub mod Placed
 pub mod Again
 pub mod Printing

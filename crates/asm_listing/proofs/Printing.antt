@@ -4,7 +4,7 @@ use Rattle.std.specs.Prelude.{◌==◌, ◌↔◌, codes, IsOk, OnOk}
 use Rattle.std.specs.List.{enumerate_from, flat_map}
 use Rattle.std.proofs.lemmas.Bool.{cases_lt, false≢true, true≢false}
 use Rattle.muen_outside.specs.Buffered.{Given, Lost, OutState}
-use Rattle.muen_outside.proofs.Buffered.{given_none, given_then, lost_after, lost_first}
+use Rattle.muen_outside.proofs.Buffered.{given_then, lost_after, lost_first}
 use Rattle.asm_listing.specs.Listing.{listing_line_at, listing_line, listing_of}
 use Rattle.asm_listing.specs.Source.{chunk_text, chunks_of, source_of}
 use Rattle.asm_listing.proofs.Chunks.{first_chunk, no_chunk, one_chunk}
@@ -15,7 +15,7 @@ pub some_bytes : (rest : List ℕ) → (length rest == 0) ≡ false → 0 < leng
 some_bytes [] h = absurd (true≢false h)
 some_bytes (b ∷ rest) h = omega arith
 
-pub next_chunk : (rest : List ℕ) (n : ℕ) → 0 < length rest → n ≡ min (length rest) 8 → chunks_of rest ≡ take n rest ∷ chunks_of (drop n rest)
+next_chunk : (rest : List ℕ) (n : ℕ) → 0 < length rest → n ≡ min (length rest) 8 → chunks_of rest ≡ take n rest ∷ chunks_of (drop n rest)
 next_chunk rest n some e = by (cases_lt (length rest) 8)
   where
     by : (length rest < 8) ⊎ (8 ≤ length rest) → chunks_of rest ≡ take n rest ∷ chunks_of (drop n rest)
@@ -36,9 +36,6 @@ pub record IsPrinting (whole rest : List ℕ) (s t : OutState) : Type 0 where
   pub given : Given front s t
   pub left : whole ≡ front ++ rest
 
-pub printing_none : (whole : List ℕ) (s : OutState) → IsPrinting whole whole s s
-printing_none whole s = record { front = []; given = given_none s; left = refl }
-
 pub printing_more : (whole rest line more : List ℕ) (s t u : OutState) → rest ≡ line ++ more → IsPrinting whole rest s t → Given line t u → IsPrinting whole more s u
 printing_more whole rest line more s t u e p q = record {
   front = p.front ++ line;
@@ -58,10 +55,6 @@ printing_lost whole rest line more s t u e p q =
 
 -- ---- a source
 
-pub source_next : (rest : List ℕ) (n : ℕ) → 0 < length rest → n ≡ min (length rest) 8 → source_of rest ≡ (chunk_text (take n rest) ++ codes "\n") ++ source_of (drop n rest)
-unfolding source_of
-source_next rest n some e = ap (flat_map (λ chunk. chunk_text chunk ++ codes "\n")) (next_chunk rest n some e)
-
 -- a piece and what remains
 pub record IsCut (rest chunk more : List ℕ) (n : ℕ) : Type 0 where
   pub some : 0 < length rest
@@ -69,19 +62,11 @@ pub record IsCut (rest chunk more : List ℕ) (n : ℕ) : Type 0 where
   pub front : chunk ≡ take n rest
   pub back : more ≡ drop n rest
 
-source_cut : (rest chunk more : List ℕ) (n : ℕ) → IsCut rest chunk more n → source_of rest ≡ (chunk_text chunk ++ codes "\n") ++ source_of more
+pub source_cut : (rest chunk more : List ℕ) (n : ℕ) → IsCut rest chunk more n → source_of rest ≡ (chunk_text chunk ++ codes "\n") ++ source_of more
+unfolding source_of
 source_cut rest chunk more n cut =
-    source_next rest n cut.some cut.at ∙ (λ i. (chunk_text (sym cut.front i) ++ codes "\n") ++ source_of (sym cut.back i))
-
-pub source_step : (bytes rest chunk more : List ℕ) (n : ℕ) (s t u : OutState) → IsCut rest chunk more n → IsPrinting (source_of bytes) (source_of rest) s t
-    → Given (chunk_text chunk ++ codes "\n") t u → IsPrinting (source_of bytes) (source_of more) s u
-source_step bytes rest chunk more n s t u cut p q =
-    printing_more (source_of bytes) (source_of rest) (chunk_text chunk ++ codes "\n") (source_of more) s t u (source_cut rest chunk more n cut) p q
-
-pub source_lost : (bytes rest chunk more : List ℕ) (n : ℕ) (s t u : OutState) → IsCut rest chunk more n → IsPrinting (source_of bytes) (source_of rest) s t
-    → Lost (chunk_text chunk ++ codes "\n") t u → Lost (source_of bytes) s u
-source_lost bytes rest chunk more n s t u cut p q =
-    printing_lost (source_of bytes) (source_of rest) (chunk_text chunk ++ codes "\n") (source_of more) s t u (source_cut rest chunk more n cut) p q
+    ap (flat_map (λ chunk. chunk_text chunk ++ codes "\n")) (next_chunk rest n cut.some cut.at)
+    ∙ (λ i. (chunk_text (sym cut.front i) ++ codes "\n") ++ source_of (sym cut.back i))
 
 pub source_end : (rest : List ℕ) → length rest ≡ 0 → source_of rest ≡ []
 unfolding source_of
@@ -90,60 +75,26 @@ source_end (b ∷ rest) h = absurd (omega arith)
 
 -- ---- a listing
 
--- from the chunk of this number on
-pub listing_from : ℕ → ℕ → List ℕ → List ℕ
-listing_from base number rest = flat_map (listing_line_at base) (enumerate_from number (chunks_of rest))
+-- addresses one chunk further on
+further : (base number : ℕ) (chunks : List (List ℕ))
+    → flat_map (listing_line_at base) (enumerate_from (number + 1) chunks) ≡ flat_map (listing_line_at ((base + 8) % 2 ^ 64)) (enumerate_from number chunks)
+further base number [] = refl
+further base number (chunk ∷ chunks) =
+    let same : (base + 8 * (number + 1)) % 2 ^ 64 ≡ ((base + 8) % 2 ^ 64 + 8 * number) % 2 ^ 64 = omega arith in
+    λ i. listing_line (same i) chunk ++ further base (number + 1) chunks i
 
--- the line at this address is the next
-pub record IsListing (base address : ℕ) (bytes rest : List ℕ) (s t : OutState) : Type 0 where
-  pub number : ℕ
-  pub at : address ≡ (base + 8 * number) % 2 ^ 64
-  pub printing : IsPrinting (listing_of base bytes) (listing_from base number rest) s t
+pub listing_cut : (address : ℕ) (rest chunk more : List ℕ) (n : ℕ) → address < 2 ^ 64 → IsCut rest chunk more n
+    → listing_of address rest ≡ listing_line address chunk ++ listing_of ((address + 8) % 2 ^ 64) more
+unfolding listing_of
+listing_cut address rest chunk more n low cut =
+    let first : (address + 8 * 0) % 2 ^ 64 ≡ address = omega (arith, low) in
+    ap (λ cs. flat_map (listing_line_at address) (enumerate_from 0 cs)) (next_chunk rest n cut.some cut.at)
+    ∙ (λ i. listing_line (first i) (sym cut.front i) ++ further address 0 (chunks_of (sym cut.back i)) i)
 
-pub listing_none : (base : ℕ) (bytes : List ℕ) (s : OutState) → base < 2 ^ 64 → IsListing base base bytes bytes s s
-unfolding listing_of listing_from
-listing_none base bytes s h = record { number = 0; at = omega arith; printing = printing_none (listing_of base bytes) s }
-
-listing_next : (base number : ℕ) (rest : List ℕ) (n : ℕ) → 0 < length rest → n ≡ min (length rest) 8
-    → listing_from base number rest ≡ listing_line ((base + 8 * number) % 2 ^ 64) (take n rest) ++ listing_from base (number + 1) (drop n rest)
-unfolding listing_from
-listing_next base number rest n some e = ap (λ cs. flat_map (listing_line_at base) (enumerate_from number cs)) (next_chunk rest n some e)
-
-pub listing_more : (base address : ℕ) (bytes rest : List ℕ) (n next : ℕ) (s t u : OutState) → 0 < length rest → n ≡ min (length rest) 8 → next ≡ (address + 8) % 2 ^ 64
-    → IsListing base address bytes rest s t → Given (listing_line address (take n rest)) t u → IsListing base next bytes (drop n rest) s u
-listing_more base address bytes rest n next s t u some e following p q =
-    let at = p.at in
-    let line = subst (λ a. Given (listing_line a (take n rest)) t u) at q in
-    record {
-      number = p.number + 1;
-      at = omega arith;
-      printing =
-          printing_more (listing_of base bytes) (listing_from base p.number rest) (listing_line ((base + 8 * p.number) % 2 ^ 64) (take n rest)) (listing_from base (p.number + 1) (drop n rest)) s t u
-          (listing_next base p.number rest n some e) p.printing line;
-    }
-
-pub listing_all : (base address : ℕ) (bytes rest : List ℕ) (s t : OutState) → length rest ≡ 0 → IsListing base address bytes rest s t → Given (listing_of base bytes) s t
-unfolding listing_from
-listing_all base address bytes [] s t h p =
-    printing_all (listing_of base bytes) (listing_from base p.number []) s t (ap (λ cs. flat_map (listing_line_at base) (enumerate_from p.number cs)) no_chunk) p.printing
-listing_all base address bytes (b ∷ rest) s t h p = absurd (omega arith)
-
-pub listing_lost : (base address : ℕ) (bytes rest : List ℕ) (n : ℕ) (s t u : OutState) → 0 < length rest → n ≡ min (length rest) 8
-    → IsListing base address bytes rest s t → Lost (listing_line address (take n rest)) t u → Lost (listing_of base bytes) s u
-listing_lost base address bytes rest n s t u some e p q =
-    printing_lost (listing_of base bytes) (listing_from base p.number rest) (listing_line ((base + 8 * p.number) % 2 ^ 64) (take n rest)) (listing_from base (p.number + 1) (drop n rest)) s t u
-    (listing_next base p.number rest n some e) p.printing (subst (λ a. Lost (listing_line a (take n rest)) t u) p.at q)
-
-pub listing_step : (base address : ℕ) (bytes rest chunk more : List ℕ) (n next : ℕ) (s t u : OutState) → IsCut rest chunk more n → next ≡ (address + 8) % 2 ^ 64
-    → IsListing base address bytes rest s t → Given (listing_line address chunk) t u → IsListing base next bytes more s u
-listing_step base address bytes rest chunk more n next s t u cut following p q =
-    subst (λ more. IsListing base next bytes more s u) (sym cut.back)
-    (listing_more base address bytes rest n next s t u cut.some cut.at following p (subst (λ x. Given (listing_line address x) t u) cut.front q))
-
-pub listing_stopped : (base address : ℕ) (bytes rest chunk more : List ℕ) (n : ℕ) (s t u : OutState) → IsCut rest chunk more n
-    → IsListing base address bytes rest s t → Lost (listing_line address chunk) t u → Lost (listing_of base bytes) s u
-listing_stopped base address bytes rest chunk more n s t u cut p q =
-    listing_lost base address bytes rest n s t u cut.some cut.at p (subst (λ x. Lost (listing_line address x) t u) cut.front q)
+pub listing_end : (address : ℕ) (rest : List ℕ) → length rest ≡ 0 → listing_of address rest ≡ []
+unfolding listing_of
+listing_end address [] h = ap (λ cs. flat_map (listing_line_at address) (enumerate_from 0 cs)) no_chunk
+listing_end address (b ∷ rest) h = absurd (omega arith)
 
 -- what a call has done where it succeeds
 pub if_done : {E : Type 0} (r : Result (Unit {0}) E) (P Q : Type 0) → IsOk r ↔ P → P → OnOk r Q → Q

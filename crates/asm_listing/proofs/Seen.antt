@@ -16,9 +16,10 @@ use Rattle.guest_isa.specs.GuestIsa.{IsValid, row_of, shape_of, word_of}
 use Rattle.guest_isa.specs.declared.instr.Instr.{Instr}
 use Rattle.guest_isa.specs.declared.opcode.Opcode.{Opcode}
 use Rattle.guest_isa.specs.declared.opcode.Opcode.TheVariants.{Nop}
-use Rattle.guest_isa.specs.declared.opcode.Shape.{Shape}
-use Rattle.guest_isa.specs.declared.opcode.Shape.TheVariants.{Alone, Immediate, High, Pair, Memory, PortRead, PortWrite, Destination, Source, Jump, JumpIf, JumpBelow}
-use Rattle.asm_listing.specs.Source.{byte_text, data_text, displacement_text, instruction_text, operands_text, register_text, size_text}
+use Rattle.asm_text.specs.Parts.{parts_of}
+use Rattle.asm_text.specs.declared.part.Part.{Part}
+use Rattle.asm_text.specs.declared.part.Part.TheVariants.{Rd, Rs, Imm, Displacement, Size, PortSize, Comma, At, To, Port}
+use Rattle.asm_listing.specs.Source.{byte_text, data_text, displacement_text, instruction_text, part_text, register_text, size_text}
 use Rattle.text_words.proofs.Numerals.{digits_alone}
 use Rattle.asm_listing.proofs.Values.{below_zero, small}
 use Rattle.asm_listing.proofs.Words.{byte_seen, is_seen}
@@ -56,30 +57,21 @@ displacement_seen (negsuc n) h = decimal_seen (suc n) (below_zero (negsuc n) h n
 -- ---- instructions
 
 module _ (p : Instr) (rd : p.rd < 16) (rs : p.rs < 16) (imm : FitsSigned w32 p.imm) where
-  operands_seen : (shape : Shape) → Seen (operands_text shape p)
-  operands_seen Alone = refl
-  operands_seen Immediate =
-      joined (codes " " ++ register_text p.rd ++ codes ", ") (signed_decimal p.imm) (joined (codes " " ++ register_text p.rd) (codes ", ") (joined (codes " ") (register_text p.rd) refl (register_seen p.rd rd)) refl) (signed_seen p.imm imm)
-  operands_seen High =
-      joined (codes " " ++ register_text p.rd ++ codes ", ") (signed_decimal p.imm) (joined (codes " " ++ register_text p.rd) (codes ", ") (joined (codes " ") (register_text p.rd) refl (register_seen p.rd rd)) refl) (signed_seen p.imm imm)
-  operands_seen Pair =
-      joined (codes " " ++ register_text p.rd ++ codes ", ") (register_text p.rs) (joined (codes " " ++ register_text p.rd) (codes ", ") (joined (codes " ") (register_text p.rd) refl (register_seen p.rd rd)) refl) (register_seen p.rs rs)
-  operands_seen Memory =
-      joined (codes " " ++ register_text p.rd ++ codes ", " ++ size_text p.size ++ codes " at " ++ register_text p.rs) (displacement_text p.imm) (joined (codes " " ++ register_text p.rd ++ codes ", " ++ size_text p.size ++ codes " at ") (register_text p.rs) (joined (codes " " ++ register_text p.rd ++ codes ", " ++ size_text p.size) (codes " at ") (joined (codes " " ++ register_text p.rd ++ codes ", ") (size_text p.size) (joined (codes " " ++ register_text p.rd) (codes ", ") (joined (codes " ") (register_text p.rd) refl (register_seen p.rd rd)) refl) (size_seen p.size)) refl) (register_seen p.rs rs)) (displacement_seen p.imm imm)
-  operands_seen PortRead =
-      joined (codes " " ++ register_text p.rd ++ codes ", " ++ size_text p.size ++ codes " at port " ++ register_text p.rs) (displacement_text p.imm) (joined (codes " " ++ register_text p.rd ++ codes ", " ++ size_text p.size ++ codes " at port ") (register_text p.rs) (joined (codes " " ++ register_text p.rd ++ codes ", " ++ size_text p.size) (codes " at port ") (joined (codes " " ++ register_text p.rd ++ codes ", ") (size_text p.size) (joined (codes " " ++ register_text p.rd) (codes ", ") (joined (codes " ") (register_text p.rd) refl (register_seen p.rd rd)) refl) (size_seen p.size)) refl) (register_seen p.rs rs)) (displacement_seen p.imm imm)
-  operands_seen PortWrite =
-      joined (codes " " ++ register_text p.rd ++ codes ", " ++ size_text p.size ++ codes " to port " ++ register_text p.rs) (displacement_text p.imm) (joined (codes " " ++ register_text p.rd ++ codes ", " ++ size_text p.size ++ codes " to port ") (register_text p.rs) (joined (codes " " ++ register_text p.rd ++ codes ", " ++ size_text p.size) (codes " to port ") (joined (codes " " ++ register_text p.rd ++ codes ", ") (size_text p.size) (joined (codes " " ++ register_text p.rd) (codes ", ") (joined (codes " ") (register_text p.rd) refl (register_seen p.rd rd)) refl) (size_seen p.size)) refl) (register_seen p.rs rs)) (displacement_seen p.imm imm)
-  operands_seen Destination =
-      joined (codes " ") (register_text p.rd) refl (register_seen p.rd rd)
-  operands_seen Source =
-      joined (codes " ") (register_text p.rs) refl (register_seen p.rs rs)
-  operands_seen Jump =
-      joined (codes " ") (signed_decimal p.imm) refl (signed_seen p.imm imm)
-  operands_seen JumpIf =
-      joined (codes " " ++ register_text p.rd ++ codes ", ") (signed_decimal p.imm) (joined (codes " " ++ register_text p.rd) (codes ", ") (joined (codes " ") (register_text p.rd) refl (register_seen p.rd rd)) refl) (signed_seen p.imm imm)
-  operands_seen JumpBelow =
-      joined (codes " " ++ register_text p.rd ++ codes ", " ++ register_text p.rs ++ codes ", ") (signed_decimal p.imm) (joined (codes " " ++ register_text p.rd ++ codes ", " ++ register_text p.rs) (codes ", ") (joined (codes " " ++ register_text p.rd ++ codes ", ") (register_text p.rs) (joined (codes " " ++ register_text p.rd) (codes ", ") (joined (codes " ") (register_text p.rd) refl (register_seen p.rd rd)) refl) (register_seen p.rs rs)) refl) (signed_seen p.imm imm)
+  part_seen : (part : Part) → Seen (part_text p part)
+  part_seen Rd = register_seen p.rd rd
+  part_seen Rs = register_seen p.rs rs
+  part_seen Imm = signed_seen p.imm imm
+  part_seen Displacement = displacement_seen p.imm imm
+  part_seen Size = size_seen p.size
+  part_seen PortSize = size_seen p.size
+  part_seen Comma = refl
+  part_seen At = refl
+  part_seen To = refl
+  part_seen Port = refl
+
+  parts_seen : (parts : List Part) → Seen (flat_map (part_text p) parts)
+  parts_seen [] = refl
+  parts_seen (part ∷ parts) = joined (part_text p part) (flat_map (part_text p) parts) (part_seen part) (parts_seen parts)
 
 word_seen : (o : Opcode) → Seen (word_of o)
 unfolding row_of
@@ -89,7 +81,8 @@ word_seen _ = refl
 pub instruction_seen : (i : Instr) → IsValid i → FitsSigned w32 i.imm → Seen (instruction_text i)
 unfolding instruction_text
 instruction_seen i valid fits =
-    joined (word_of i.opcode) (operands_text (shape_of i.opcode) i) (word_seen i.opcode) (operands_seen i valid.0 valid.1 fits (shape_of i.opcode))
+    let parts = parts_of (shape_of i.opcode) in
+    joined (word_of i.opcode) (flat_map (part_text i) parts) (word_seen i.opcode) (parts_seen i valid.0 valid.1 fits parts)
 
 -- ---- data
 

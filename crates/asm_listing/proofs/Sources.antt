@@ -1,6 +1,6 @@
 -- What is printed of bytes says them.
 use Rattle.std.proofs.Common.{◌≡◌, ℕ, ◌+◌, ◌*◌, ◌%◌, ◌<◌, ◌≤◌, Bool, true, false, List, [], ◌∷◌, ◌++◌, length, map, Option, Some, None, Result, Ok, refl, ap, ap₂, sym, subst, ◌∙◌, append_assoc, append-nil, length-append, arith}
-use Rattle.std.specs.Prelude.{◌==◌, if◌then◌else◌, codes}
+use Rattle.std.specs.Prelude.{IfSome, ◌==◌, if◌then◌else◌, codes}
 use Rattle.std.specs.List.{All, flat_map, slice_split}
 use Rattle.std.proofs.lemmas.Bool.{and_parts, eq-eqb, eqb-true, le-ltb}
 use Rattle.std.proofs.lemmas.Bool.Decides.{nat_tests}
@@ -8,6 +8,7 @@ use Rattle.std.proofs.lemmas.List.Elements.{All-cons, All-head, All-nil, All-tai
 use Rattle.std.proofs.lemmas.List.Splits.{length-slice_split, slice_split_at}
 use Rattle.muen_num.specs.declared.access.AccessSize.TheVariants.{One}
 use Rattle.muen_num.specs.declared.limits.TheConstants.{COMPONENT_FILE_MOST}
+use Rattle.muen_num.proofs.Lists.{all_front}
 use Rattle.guest_isa.specs.GuestIsa.{decode_of}
 use Rattle.guest_isa.specs.declared.instr.Instr.{Instr}
 use Rattle.text_words.specs.Parts.{lines_of, parts_of, without_empty_end}
@@ -26,9 +27,8 @@ use Rattle.asm_text.specs.declared.statement.Statement.{Statement}
 use Rattle.asm_text.specs.declared.statement.Statement.TheVariants.{Data, Instruction}
 use Rattle.asm_listing.specs.Laws.{AreBytes, SourcesAssemble}
 use Rattle.asm_listing.specs.Source.{chunk_text, chunks_of, instruction_in, source_of, text_by}
-use Rattle.asm_listing.proofs.Chunks.{AreDecoded, chunks_by, decoded, first_chunk, no_chunk, one_chunk}
-use Rattle.asm_listing.proofs.DataLines.{data_read}
-use Rattle.asm_listing.proofs.Instructions.{as_line, instruction_read}
+use Rattle.asm_listing.proofs.Chunks.{IsDecoded, chunks_by, decoded, first_chunk, no_chunk, one_chunk}
+use Rattle.asm_listing.proofs.Lines.{as_line, data_read, instruction_read}
 use Rattle.asm_listing.proofs.Seen.{Seen, data_seen, instruction_seen}
 use Rattle.asm_listing.proofs.Words.{is_seen}
 use Rattle.guest_isa.specs.Words.{IsByte}
@@ -79,7 +79,7 @@ module _ (chunk : List ℕ) (some : 0 < length chunk) (all : All IsByte chunk) w
         bytes = data_bytes chunk all;
       }
 
-  decoded_is : (o : Option Instr) → length chunk ≡ 8 → AreDecoded chunk o → IsRead chunk o
+  decoded_is : (o : Option Instr) → length chunk ≡ 8 → IfSome o (IsDecoded chunk) → IsRead chunk o
   decoded_is None l h = data_is
   decoded_is (Some i) l h =
       let r = instruction_read i h.valid h.fits in
@@ -129,10 +129,6 @@ no_lines = refl
 abbrev line_text : List ℕ → List ℕ
 line_text chunk = chunk_text chunk ++ codes "\n"
 
-pub front_low : (a b : List ℕ) → All IsByte (a ++ b) → All IsByte a
-front_low [] b all = All-nil IsByte
-front_low (x ∷ a) b all = All-cons IsByte x a (All-head IsByte x (a ++ b) all) (front_low a b (All-tail IsByte x (a ++ b) all))
-
 back_low : (a b : List ℕ) → All IsByte (a ++ b) → All IsByte b
 back_low [] b all = all
 back_low (x ∷ a) b all = back_low a b (All-tail IsByte x (a ++ b) all)
@@ -152,7 +148,7 @@ lines_printed = chunks_by (λ bytes. All IsByte bytes → lines_of (flat_map lin
         → All IsByte (chunk ++ more) → lines_of (flat_map line_text (chunks_of (chunk ++ more))) ≡ map chunk_text (chunks_of (chunk ++ more))
     full chunk more l h all =
         subst (λ (cs : List (List ℕ)). lines_of (flat_map line_text cs) ≡ map chunk_text cs) (sym (first_chunk chunk more l))
-        (first_line (chunk_text chunk) (flat_map line_text (chunks_of more)) (chunk_is chunk (omega arith) (front_low chunk more all)).seen
+        (first_line (chunk_text chunk) (flat_map line_text (chunks_of more)) (chunk_is chunk (omega arith) (all_front IsByte chunk more all)).seen
         ∙ ap (λ (ls : List (List ℕ)). chunk_text chunk ∷ ls) (h (back_low chunk more all)))
 
 -- ---- the layout
@@ -214,7 +210,7 @@ all_laid = chunks_by WillBeLaid none fewer full
         let first : here + length chunk ≤ COMPONENT_FILE_MOST = omega arith in
         let next : (here + length chunk) % 8 ≡ 0 = omega arith in
         subst (AreLaid here n) (sym (first_chunk chunk more l))
-        (more_laid here n chunk (chunks_of more) (chunk_is chunk (omega arith) (front_low chunk more all)) aligned first (h (here + length chunk) (n + 1) next low (back_low chunk more all)))
+        (more_laid here n chunk (chunks_of more) (chunk_is chunk (omega arith) (all_front IsByte chunk more all)) aligned first (h (here + length chunk) (n + 1) next low (back_low chunk more all)))
 
 -- ---- the source
 
@@ -242,7 +238,7 @@ bytes_back = chunks_by (λ bytes. All IsByte bytes → bytes_of_items (map chunk
         → All IsByte (chunk ++ more) → bytes_of_items (map chunk_item (chunks_of (chunk ++ more))) ≡ chunk ++ more
     full chunk more l h all =
         ap (λ cs. bytes_of_items (map chunk_item cs)) (first_chunk chunk more l)
-        ∙ ap₂ (λ (a b : List ℕ). a ++ b) (chunk_is chunk (omega arith) (front_low chunk more all)).bytes (h (back_low chunk more all))
+        ∙ ap₂ (λ (a b : List ℕ). a ++ b) (chunk_is chunk (omega arith) (all_front IsByte chunk more all)).bytes (h (back_low chunk more all))
 
 pub sources_assemble : SourcesAssemble
 sources_assemble bytes h =

@@ -1,30 +1,27 @@
 -- The words of a printed line: how they part, and what each spells.
-use Rattle.std.proofs.Common.{◌≡◌, ℕ, zero, suc, ◌^◌, ◌<◌, Bool, true, false, not, List, [], ◌∷◌, ◌++◌, length, take, drop, Option, Some, None, Result, refl, ap, sym, ◌∙◌, append-nil, arith}
-use Rattle.std.specs.Prelude.{◌==◌, ◌&&◌, ◌||◌, if◌then◌else◌, nat_le, codes, decimal, option_map, option_and_then}
+use Rattle.std.proofs.Common.{◌≡◌, ℕ, zero, suc, ◌^◌, ◌<◌, Bool, true, false, List, [], ◌∷◌, ◌++◌, length, take, drop, Option, Some, None, Result, refl, ap, sym, ◌∙◌, arith}
+use Rattle.std.specs.Prelude.{◌==◌, ◌&&◌, if◌then◌else◌, nat_le, nat_lt, codes, decimal, option_map, option_and_then}
 use Rattle.std.specs.Char.{is_ascii_digit}
 use Rattle.std.specs.Cmp.Lexicographic.{bytes_decides}
 use Rattle.std.specs.List.{list_all}
 use Rattle.std.specs.Option.{option_or}
 use Rattle.std.specs.Result.{result_ok}
 use Rattle.std.specs.Str.{bytes_eq}
-use Rattle.std.proofs.lemmas.Bool.{agree_below_at, and_from, and_parts, both_ways, eqb-true, false_from_ne_true, false≢true, lt-ltb}
+use Rattle.std.proofs.lemmas.Bool.{agree_below_at, and_from, and_parts, both_ways, eqb-true, false_from_ne_true, false≢true, lt-ltb, ltb-true}
 use Rattle.std.proofs.lemmas.Bool.Decides.{nat_tests}
 use Rattle.std.proofs.lemmas.Fmt.{decimal_nonempty}
+use Rattle.std.proofs.lemmas.List.{drop_at, take_at}
 use Rattle.muen_num.proofs.Lists.{each_from}
 use Rattle.hex.specs.Hex.{encode_lower, encode_with}
 use Rattle.text_words.specs.Groups.{before_mark, behind_mark, groups_of, number_of_groups}
 use Rattle.text_words.specs.declared.number.NumberError.{NumberError}
 use Rattle.asm_text.specs.Reading.{atom_of, sign_of}
-use Rattle.asm_text.specs.Tokens.{end_with, token, begins_comment, word_goes_on, is_blank, is_mark, is_word_byte, tokens_of, with_token_byte}
+use Rattle.asm_text.specs.Tokens.{token, word_goes_on, is_word_byte, tokens_of, word_size}
 use Rattle.asm_text.specs.Words.{behind, if_below, by_mark, number_in, register_of, symbol_of}
 use Rattle.asm_text.specs.declared.statement.Atom.TheVariants.{Number as NumberAtom, Name as NameAtom}
+use Rattle.asm_text.proofs.TokenLaws.{word_first}
 use Rattle.asm_listing.specs.Source.{byte_text, register_text}
 use Rattle.text_words.proofs.Numerals.{decimal_read, digits_alone, first_digit}
-
-infixr 66 ◌⧺◌
--- one text before others
-abbrev pub ◌⧺◌ : List ℕ → List ℕ → List ℕ
-a ⧺ b = a ++ b
 
 -- ---- all bytes of a text
 
@@ -42,55 +39,32 @@ unlike p xs ys all other =
 
 -- ---- words part
 
-parted : (blank mark comment : Bool) → not (blank || mark || comment) ≡ true → (blank ≡ false) × (mark ≡ false) × (comment ≡ false)
-parted true mark comment h = absurd (false≢true h)
-parted false true comment h = absurd (false≢true h)
-parted false false true h = absurd (false≢true h)
-parted false false false h = (refl, refl, refl)
-
-last_byte : (c : ℕ) (rest : List ℕ) → is_word_byte c ≡ true → word_goes_on rest ≡ false → tokens_of (c ∷ rest) ≡ token (length (c ∷ rest)) (c ∷ []) (tokens_of rest)
-unfolding tokens_of
-last_byte c rest word ends =
-    let p = parted (is_blank c) (is_mark c) (begins_comment c) word in
-    λ i.
-    if p.2 i then end_with (length (c ∷ rest))
-    else if p.0 i then tokens_of rest
-    else if ends i && not (p.1 i) then with_token_byte (length (c ∷ rest)) c (tokens_of rest)
-    else token (length (c ∷ rest)) (c ∷ []) (tokens_of rest)
-
-next_byte : (c d : ℕ) (rest : List ℕ) → is_word_byte c ≡ true → is_word_byte d ≡ true
-    → tokens_of (c ∷ d ∷ rest) ≡ with_token_byte (length (c ∷ d ∷ rest)) c (tokens_of (d ∷ rest))
-unfolding tokens_of
-next_byte c d rest word goes =
-    let p = parted (is_blank c) (is_mark c) (begins_comment c) word in
-    λ i.
-    if p.2 i then end_with (length (c ∷ d ∷ rest))
-    else if p.0 i then tokens_of (d ∷ rest)
-    else if goes i && not (p.1 i) then with_token_byte (length (c ∷ d ∷ rest)) c (tokens_of (d ∷ rest))
-    else token (length (c ∷ d ∷ rest)) (c ∷ []) (tokens_of (d ∷ rest))
-
 -- a word has a byte, and all its bytes are those of words
 pub record IsWord (word : List ℕ) : Type 0 where
   pub some : 0 < length word
   pub bytes : list_all is_word_byte word ≡ true
 
-bytes_parted : (c : ℕ) (cs rest : List ℕ) → list_all is_word_byte (c ∷ cs) ≡ true → word_goes_on rest ≡ false
-    → tokens_of (c ∷ cs ++ rest) ≡ token (length (c ∷ cs ++ rest)) (c ∷ cs) (tokens_of rest)
-bytes_parted c [] rest h ends = last_byte c rest (and_parts (is_word_byte c) true h).0 ends
-bytes_parted c (d ∷ cs) rest h ends =
-    let a = and_parts (is_word_byte c) (list_all is_word_byte (d ∷ cs)) h in
-    let b = and_parts (is_word_byte d) (list_all is_word_byte cs) a.1 in
-    next_byte c d (cs ++ rest) a.0 b.0 ∙ ap (with_token_byte (length (c ∷ d ∷ cs ++ rest)) c) (bytes_parted d cs rest a.1 ends)
+pub word_by : (word : List ℕ) → (nat_lt 0 (length word) && list_all is_word_byte word) ≡ true → IsWord word
+word_by word h =
+    let a = and_parts (nat_lt 0 (length word)) (list_all is_word_byte word) h in
+    record { some = ltb-true 0 (length word) a.0; bytes = a.1 }
+
+size_before : (cs rest : List ℕ) → list_all is_word_byte cs ≡ true → word_goes_on rest ≡ false → length cs ≡ word_size (cs ++ rest)
+size_before [] [] h ends = refl
+size_before [] (d ∷ rest) h ends = sym (ap (λ b. if b then suc (word_size rest) else 0) ends)
+size_before (c ∷ cs) rest h ends =
+    let a = and_parts (is_word_byte c) (list_all is_word_byte cs) h in
+    ap suc (size_before cs rest a.1 ends) ∙ sym (ap (λ b. if b then suc (word_size (cs ++ rest)) else 0) a.0)
 
 -- a word at the head is the first token, where what follows is none of its bytes
 pub word_parted : (word rest : List ℕ) → IsWord word → word_goes_on rest ≡ false → tokens_of (word ++ rest) ≡ token (length (word ++ rest)) word (tokens_of rest)
 word_parted [] rest h ends = absurd (omega (arith, h.some))
-word_parted (c ∷ cs) rest h ends = bytes_parted c cs rest h.bytes ends
-
-pub last_word : (word : List ℕ) → IsWord word → tokens_of word ≡ token (length word) word (end_with 0)
-unfolding tokens_of
-last_word word h =
-    ap tokens_of (sym (append-nil word)) ∙ word_parted word [] h refl ∙ ap (λ (text : List ℕ). token (length text) word (end_with 0)) (append-nil word)
+word_parted (c ∷ cs) rest h ends =
+    let a = and_parts (is_word_byte c) (list_all is_word_byte cs) h.bytes in
+    let n = word_size (cs ++ rest) in
+    let long = size_before cs rest a.1 ends in
+    word_first c (cs ++ rest) a.0
+    ∙ (λ i. token (length (c ∷ cs ++ rest)) (c ∷ take_at cs rest n long i) (tokens_of (drop_at cs rest n long i)))
 
 -- a word is no mark, and so no sign
 pub no_mark : (word : List ℕ) (mark : ℕ) → IsWord word → is_word_byte mark ≡ false → bytes_eq word (mark ∷ []) ≡ false

@@ -7,8 +7,9 @@ use Rattle.muen_num.specs.declared.access.AccessSize.{AccessSize}
 use Rattle.muen_num.specs.declared.access.AccessSize.TheVariants.{One, Two, Four, Eight}
 use Rattle.guest_isa.specs.GuestIsa.{decode_of, shape_of, word_of}
 use Rattle.guest_isa.specs.declared.instr.Instr.{Instr}
-use Rattle.guest_isa.specs.declared.opcode.Shape.{Shape}
-use Rattle.guest_isa.specs.declared.opcode.Shape.TheVariants.{Alone, Immediate, High, Pair, Memory, PortRead, PortWrite, Destination, Source, Jump, JumpIf, JumpBelow}
+use Rattle.asm_text.specs.Parts.{parts_of}
+use Rattle.asm_text.specs.declared.part.Part.{Part}
+use Rattle.asm_text.specs.declared.part.Part.TheVariants.{Rd, Rs, Imm, Displacement, Size, PortSize, Comma, At, To, Port}
 
 -- ---- instructions
 
@@ -27,28 +28,22 @@ displacement_text (pos zero) = []
 displacement_text (pos (suc n)) = codes " + " ++ decimal (suc n)
 displacement_text (negsuc n) = codes " - " ++ decimal (suc n)
 
--- what stands behind a word of this shape
-abbrev pub operands_text : Shape → Instr → List ℕ
-operands_text Alone i = []
-operands_text Immediate i = codes " " ++ register_text i.rd ++ codes ", " ++ signed_decimal i.imm
-operands_text High i = codes " " ++ register_text i.rd ++ codes ", " ++ signed_decimal i.imm
-operands_text Pair i = codes " " ++ register_text i.rd ++ codes ", " ++ register_text i.rs
-operands_text Memory i =
-    codes " " ++ register_text i.rd ++ codes ", " ++ size_text i.size ++ codes " at " ++ register_text i.rs ++ displacement_text i.imm
-operands_text PortRead i =
-    codes " " ++ register_text i.rd ++ codes ", " ++ size_text i.size ++ codes " at port " ++ register_text i.rs ++ displacement_text i.imm
-operands_text PortWrite i =
-    codes " " ++ register_text i.rd ++ codes ", " ++ size_text i.size ++ codes " to port " ++ register_text i.rs ++ displacement_text i.imm
-operands_text Destination i = codes " " ++ register_text i.rd
-operands_text Source i = codes " " ++ register_text i.rs
-operands_text Jump i = codes " " ++ signed_decimal i.imm
-operands_text JumpIf i = codes " " ++ register_text i.rd ++ codes ", " ++ signed_decimal i.imm
-operands_text JumpBelow i =
-    codes " " ++ register_text i.rd ++ codes ", " ++ register_text i.rs ++ codes ", " ++ signed_decimal i.imm
+-- a part of what stands behind a word
+abbrev pub part_text : Instr → Part → List ℕ
+part_text i Rd = codes " " ++ register_text i.rd
+part_text i Rs = codes " " ++ register_text i.rs
+part_text i Imm = codes " " ++ signed_decimal i.imm
+part_text i Displacement = displacement_text i.imm
+part_text i Size = codes " " ++ size_text i.size
+part_text i PortSize = codes " " ++ size_text i.size
+part_text i Comma = codes ","
+part_text i At = codes " at"
+part_text i To = codes " to"
+part_text i Port = codes " port"
 
 -- an instruction, as the table of guests prints it
 unfoldable pub instruction_text : Instr → List ℕ
-instruction_text i = word_of i.opcode ++ operands_text (shape_of i.opcode) i
+instruction_text i = word_of i.opcode ++ flat_map (part_text i) (parts_of (shape_of i.opcode))
 
 -- ---- data
 

@@ -21,8 +21,8 @@ fn digits_of(chunk: &[u8]) -> [u8; 16]
 #[tactic(auto, unfolding(crate::specs::Listing::listing_line))]
 fn append_line(out: &mut [u8], at: usize, address: u64, chunk: &[u8]) -> usize
     requires short { length chunk.now ≤ 8 }
-    requires room { at + 91 ≤ length out.old }
-    ensures end { result ≤ at + 91 }
+    requires room { at + 134 ≤ length out.old }
+    ensures end { result ≤ at + 134 }
     ensures text { take result out.new ≡ take at out.old ++ listing_line address chunk.now }
 {
     let at = append_hex16(out, at, address);
@@ -35,7 +35,7 @@ fn append_line(out: &mut [u8], at: usize, address: u64, chunk: &[u8]) -> usize
 
 // The line of a chunk at this address, spelled in this space.
 fn put_line<S: Sink>(
-    space: &mut [u8; 96],
+    space: &mut [u8; 136],
     address: u64,
     chunk: &[u8],
     out: &mut BufferedSink<'_, S>,
@@ -55,7 +55,7 @@ fn put_lines<S: Sink>(
 ) -> Result<(), SinkFault>
     ensures { Prints S.state (listing_of base bytes.now) out.old out.new result }
 {
-    let mut space = [0u8; 96];
+    let mut space = [0u8; 136];
     let mut address = base;
     let mut rest = bytes;
     while !rest.is_empty() {

@@ -10,7 +10,7 @@ use muen_outside::{Buffer, BufferedSink, Sink, SinkFault};
 
 // The line of a chunk, spelled in this space.
 fn put_line<S: Sink>(
-    space: &mut [u8; 64],
+    space: &mut [u8; 104],
     chunk: &[u8],
     out: &mut BufferedSink<'_, S>,
 ) -> Result<(), SinkFault>
@@ -26,7 +26,7 @@ fn put_line<S: Sink>(
 fn put_lines<S: Sink>(bytes: &[u8], out: &mut BufferedSink<'_, S>) -> Result<(), SinkFault>
     ensures { Prints S.state (source_of bytes.now) out.old out.new result }
 {
-    let mut space = [0u8; 64];
+    let mut space = [0u8; 104];
     let mut rest = bytes;
     while !rest.is_empty() {
         let (chunk, more) = rest.split_at(rest.len().min(8));

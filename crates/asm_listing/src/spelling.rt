@@ -4,9 +4,10 @@ ghost use Rattle.std.specs.Prelude.{◌≡◌, ◌+◌, ◌*◌, ◌≤◌, ◌�
 ghost use Rattle.std.specs.Fmt.{signed_decimal};
 ghost use Rattle.std.specs.List.{flat_map};
 ghost use Rattle.hex.specs.Hex.{encode_lower};
-ghost use Rattle.asm_listing.specs.Source.{byte_text, chunk_text, data_text, displacement_text, instruction_in, instruction_text, operands_text, register_text, size_text};
+ghost use Rattle.asm_listing.specs.Source.{byte_text, chunk_text, data_text, displacement_text, instruction_in, instruction_text, part_text, register_text, size_text};
 
-use guest_isa::{Instr, Shape, decode};
+use asm_text::{Part, parts_of};
+use guest_isa::{Instr, decode};
 use itoa::Buffer;
 use muen_num::AccessSize;
 use muen_num::text::{append, append_decimal8, append_decimal32};
@@ -14,32 +15,33 @@ use muen_num::text::{append, append_decimal8, append_decimal32};
 // ---- instructions
 
 fn append_register(out: &mut [u8], at: usize, r: u8) -> usize
-    requires { at + 4 ≤ length out.old }
-    ensures end { result ≤ at + 4 }
-    ensures text { take result out.new ≡ take at out.old ++ register_text r }
+    requires { at + 5 ≤ length out.old }
+    ensures end { result ≤ at + 5 }
+    ensures text { take result out.new ≡ take at out.old ++ (codes " " ++ register_text r) }
 {
-    let at = append(out, at, b"r");
+    let at = append(out, at, b" r");
     append_decimal8(out, at, r)
 }
 
 fn append_size(out: &mut [u8], at: usize, size: AccessSize) -> usize
-    requires { at + 7 ≤ length out.old }
-    ensures end { result ≤ at + 7 }
-    ensures text { take result out.new ≡ take at out.old ++ size_text size }
+    requires { at + 8 ≤ length out.old }
+    ensures end { result ≤ at + 8 }
+    ensures text { take result out.new ≡ take at out.old ++ (codes " " ++ size_text size) }
 {
     match size {
-        AccessSize::One => append(out, at, b"1 byte"),
-        AccessSize::Two => append(out, at, b"2 bytes"),
-        AccessSize::Four => append(out, at, b"4 bytes"),
-        AccessSize::Eight => append(out, at, b"8 bytes"),
+        AccessSize::One => append(out, at, b" 1 byte"),
+        AccessSize::Two => append(out, at, b" 2 bytes"),
+        AccessSize::Four => append(out, at, b" 4 bytes"),
+        AccessSize::Eight => append(out, at, b" 8 bytes"),
     }
 }
 
 fn append_signed(out: &mut [u8], at: usize, n: i32) -> usize
-    requires { at + 11 ≤ length out.old }
-    ensures end { result ≤ at + 11 }
-    ensures text { take result out.new ≡ take at out.old ++ signed_decimal n }
+    requires { at + 12 ≤ length out.old }
+    ensures end { result ≤ at + 12 }
+    ensures text { take result out.new ≡ take at out.old ++ (codes " " ++ signed_decimal n) }
 {
+    let at = append(out, at, b" ");
     let mut buffer = Buffer::new();
     append(out, at, buffer.format(n).as_bytes())
 }
@@ -57,107 +59,59 @@ fn append_displacement(out: &mut [u8], at: usize, n: i32) -> usize
     append_decimal32(out, at, n.unsigned_abs())
 }
 
-// `rd, rs`, and what stands before and between them.
-fn append_pair(out: &mut [u8], at: usize, rd: u8, rs: u8) -> usize
-    requires { at + 11 ≤ length out.old }
-    ensures end { result ≤ at + 11 }
-    ensures text { take result out.new ≡ take at out.old ++ (codes " " ++ register_text rd ++ codes ", " ++ register_text rs) }
+// A part of what stands behind a word.
+fn append_part(out: &mut [u8], at: usize, part: Part, i: &Instr) -> usize
+    requires { at + 13 ≤ length out.old }
+    ensures end { result ≤ at + 13 }
+    ensures text { take result out.new ≡ take at out.old ++ part_text i.now part }
 {
-    let at = append(out, at, b" ");
-    let at = append_register(out, at, rd);
-    let at = append(out, at, b", ");
-    append_register(out, at, rs)
-}
-
-fn append_immediate(out: &mut [u8], at: usize, rd: u8, imm: i32) -> usize
-    requires { at + 18 ≤ length out.old }
-    ensures end { result ≤ at + 18 }
-    ensures text { take result out.new ≡ take at out.old ++ (codes " " ++ register_text rd ++ codes ", " ++ signed_decimal imm) }
-{
-    let at = append(out, at, b" ");
-    let at = append_register(out, at, rd);
-    let at = append(out, at, b", ");
-    append_signed(out, at, imm)
-}
-
-// `rd, SIZE`, the words behind, and `rs + imm`.
-fn append_access(out: &mut [u8], at: usize, i: &Instr, words: &[u8]) -> usize
-    requires room { at + 40 ≤ length out.old }
-    requires short { length words.now ≤ 9 }
-    ensures end { result ≤ at + 40 }
-    ensures text { take result out.new ≡ take at out.old ++ (codes " " ++ register_text i.now.rd ++ codes ", " ++ size_text i.now.size ++ words.now ++ register_text i.now.rs ++ displacement_text i.now.imm) }
-{
-    let at = append(out, at, b" ");
-    let at = append_register(out, at, i.rd);
-    let at = append(out, at, b", ");
-    let at = append_size(out, at, i.size);
-    let at = append(out, at, words);
-    let at = append_register(out, at, i.rs);
-    append_displacement(out, at, i.imm)
-}
-
-fn append_operands(out: &mut [u8], at: usize, shape: Shape, i: &Instr) -> usize
-    requires { at + 40 ≤ length out.old }
-    ensures end { result ≤ at + 40 }
-    ensures text { take result out.new ≡ take at out.old ++ operands_text shape i.now }
-{
-    match shape {
-        Shape::Alone => at,
-        Shape::Immediate | Shape::High | Shape::JumpIf => append_immediate(out, at, i.rd, i.imm),
-        Shape::Pair => append_pair(out, at, i.rd, i.rs),
-        Shape::Memory => append_access(out, at, i, b" at "),
-        Shape::PortRead => append_access(out, at, i, b" at port "),
-        Shape::PortWrite => append_access(out, at, i, b" to port "),
-        Shape::Destination => {
-            let at = append(out, at, b" ");
-            append_register(out, at, i.rd)
-        }
-        Shape::Source => {
-            let at = append(out, at, b" ");
-            append_register(out, at, i.rs)
-        }
-        Shape::Jump => {
-            let at = append(out, at, b" ");
-            append_signed(out, at, i.imm)
-        }
-        Shape::JumpBelow => {
-            let at = append_pair(out, at, i.rd, i.rs);
-            let at = append(out, at, b", ");
-            append_signed(out, at, i.imm)
-        }
+    match part {
+        Part::Rd => append_register(out, at, i.rd),
+        Part::Rs => append_register(out, at, i.rs),
+        Part::Imm => append_signed(out, at, i.imm),
+        Part::Displacement => append_displacement(out, at, i.imm),
+        Part::Size | Part::PortSize => append_size(out, at, i.size),
+        Part::Comma => append(out, at, b","),
+        Part::At => append(out, at, b" at"),
+        Part::To => append(out, at, b" to"),
+        Part::Port => append(out, at, b" port"),
     }
+}
+
+fn append_parts(out: &mut [u8], at: usize, parts: &[Part], i: &Instr) -> usize
+    requires { at + 13 * length parts.now ≤ length out.old }
+    ensures end { result ≤ at + 13 * length parts.now }
+    ensures text { take result out.new ≡ take at out.old ++ flat_map (part_text i.now) parts.now }
+{
+    let mut end = at;
+    for part in parts {
+        end = append_part(out, end, *part, i);
+    }
+    end
 }
 
 #[tactic(auto, unfolding(crate::specs::Source::instruction_text))]
 fn append_instruction(out: &mut [u8], at: usize, i: &Instr) -> usize
-    requires { at + 46 ≤ length out.old }
-    ensures end { result ≤ at + 46 }
+    requires { at + 97 ≤ length out.old }
+    ensures end { result ≤ at + 97 }
     ensures text { take result out.new ≡ take at out.old ++ instruction_text i.now }
 {
     let at = append(out, at, i.opcode.word().as_bytes());
-    append_operands(out, at, i.opcode.shape(), i)
+    append_parts(out, at, parts_of(i.opcode.shape()), i)
 }
 
 // ---- data
 
 // A byte in two digits.
-fn append_digits(out: &mut [u8], at: usize, byte: u8) -> usize
-    requires { at + 2 ≤ length out.old }
-    ensures end { result ≡ at + 2 }
-    ensures text { take result out.new ≡ take at out.old ++ encode_lower (byte ∷ []) }
-{
-    let mut digits = [0u8; 2];
-    let _ = hex::encode_to_slice([byte], &mut digits);
-    append(out, at, &digits)
-}
-
 fn append_byte(out: &mut [u8], at: usize, byte: u8) -> usize
     requires { at + 4 ≤ length out.old }
     ensures end { result ≡ at + 4 }
     ensures text { take result out.new ≡ take at out.old ++ byte_text byte }
 {
+    let mut digits = [0u8; 2];
+    let _ = hex::encode_to_slice([byte], &mut digits);
     let at = append(out, at, b"0x");
-    append_digits(out, at, byte)
+    append(out, at, &digits)
 }
 
 fn append_next_byte(out: &mut [u8], at: usize, byte: u8) -> usize
@@ -210,8 +164,8 @@ fn instruction_in(chunk: &[u8]) -> Option<Instr>
 /// Writes what the source has for a chunk.
 pub(crate) fn append_chunk(out: &mut [u8], at: usize, chunk: &[u8]) -> usize
     requires short { length chunk.now ≤ 8 }
-    requires room { at + 54 ≤ length out.old }
-    ensures end { result ≤ at + 54 }
+    requires room { at + 97 ≤ length out.old }
+    ensures end { result ≤ at + 97 }
     ensures text { take result out.new ≡ take at out.old ++ chunk_text chunk.now }
 {
     match instruction_in(chunk) {

@@ -1,28 +1,26 @@
 -- What holds of a line that is read: registers are below 16.
-use Rattle.std.proofs.Common.{◌≡◌, ℕ, ◌<◌, Bool, true, false, List, Option, Some, None, Result, Ok, Err, refl, arith}
+use Rattle.std.proofs.Common.{◌≡◌, ℕ, ◌<◌, Bool, true, false, List, [], ◌∷◌, Option, Some, None, Result, Ok, Err, refl, arith}
 use Rattle.std.specs.Prelude.{if◌then◌else◌, codes, nat_lt, option_and_then}
 use Rattle.std.specs.Result.{result_ok}
 use Rattle.std.specs.Str.{bytes_eq}
 use Rattle.std.proofs.lemmas.Bool.{ltb-true}
 use Rattle.muen_num.specs.declared.access.AccessSize.{AccessSize}
-use Rattle.muen_num.specs.declared.access.AccessSize.TheVariants.{One, Two, Four, Eight}
 use Rattle.guest_isa.specs.GuestIsa.{opcode_with, shape_of}
 use Rattle.text_words.specs.Numbers.{decimal}
 use Rattle.text_words.specs.Steps.{◌>>=◌, ◌>>◌}
-use Rattle.asm_text.specs.Reading.{at_end, below_jump, comma, data_line, definition, directive, displacement, found, immediate as immediate_operands, instruction, integer, keyword, label, source_line_of, memory, name_or_wanted, number, offset_line, operands_of, pair, place, port, register_token, size, small, statement, value, values, worded}
+use Rattle.asm_text.specs.Parts.{parts_of}
+use Rattle.asm_text.specs.Reading.{at_end, data_line, definition, directive, displacement, found, instruction, integer, keyword, label, source_line_of, name_or_wanted, no_operands, number, offset_line, operands_of, port_size, read_part, read_parts, register_token, size, statement, value, values, worded}
 use Rattle.asm_text.specs.Tokens.{Tokens, end_with, token}
 use Rattle.asm_text.specs.Words.{behind, if_below, data_size_of}
-use Rattle.asm_text.specs.declared.fault.LineError.{LineError}
-use Rattle.asm_text.specs.declared.fault.Want.{Want}
-use Rattle.asm_text.specs.declared.fault.Want.TheVariants.{Register, At, To}
+use Rattle.asm_text.specs.declared.fault.Want.TheVariants.{Register}
 use Rattle.guest_isa.specs.declared.opcode.Opcode.{Opcode}
 use Rattle.guest_isa.specs.declared.opcode.Shape.{Shape}
-use Rattle.guest_isa.specs.declared.opcode.Shape.TheVariants.{Alone, Immediate, High, Pair, Memory, PortRead, PortWrite, Destination, Source, Jump, JumpIf, JumpBelow}
+use Rattle.asm_text.specs.declared.part.Part.{Part}
+use Rattle.asm_text.specs.declared.part.Part.TheVariants.{Rd, Rs, Imm, Displacement, Size, PortSize, Comma, At, To, Port}
 use Rattle.asm_text.specs.declared.statement.Operands.{Operands}
 use Rattle.asm_text.specs.declared.statement.SourceLine.{SourceLine}
 use Rattle.asm_text.specs.declared.statement.Statement.{Statement}
 use Rattle.asm_text.specs.declared.statement.Statement.TheVariants.{Instruction}
-use Rattle.asm_text.specs.declared.statement.Value.{Value}
 
 -- ---- where there is no fault
 
@@ -84,85 +82,33 @@ unfolding register_token
 register_low (end_with left) = tt
 register_low (token left word more) = found_low left more (option_and_then (λ digits. result_ok (decimal digits)) (behind (codes "r") word))
 
-abbrev LowPair : ℕ × ℕ × Tokens → Type 0
-LowPair x = (x.0 < 16) × (x.1 < 16)
-
-pair_low : (ts : Tokens) → Holds LowPair (pair ts)
-unfolding pair
-pair_low ts =
-    holds_then LowFirst LowPair (register_token ts) _ (register_low ts) λ x h.
-    after LowPair (comma x.1) _ λ ts.
-    holds_then LowFirst LowPair (register_token ts) _ (register_low ts) λ y k.
-    (h, k)
-
-abbrev LowPlace : ℕ × Value × Tokens → Type 0
-LowPlace x = x.0 < 16
-
-place_low : (ts : Tokens) → Holds LowPlace (place ts)
-unfolding place
-place_low ts =
-    holds_then LowFirst LowPlace (register_token ts) _ (register_low ts) λ x h.
-    after LowPlace (displacement x.1) _ λ y.
-    h
-
 abbrev FitFirst : Operands × Tokens → Type 0
 FitFirst x = AreFit x.0
 
 fit : {o : Operands} → o.rd < 16 → o.rs < 16 → AreFit o
 fit h k = record { rd = h; rs = k }
 
-immediate_fit : (ts : Tokens) → Holds FitFirst (immediate_operands ts)
-unfolding immediate_operands
-immediate_fit ts =
-    holds_then LowFirst FitFirst (register_token ts) _ (register_low ts) λ x h.
-    after FitFirst (comma x.1) _ λ ts.
-    after FitFirst (value ts) _ λ y.
-    fit h zero_low
+part_fit : (p : Part) (o : Operands) (ts : Tokens) → AreFit o → Holds FitFirst (read_part p o ts)
+unfolding read_part
+part_fit Rd o ts f = holds_then LowFirst FitFirst (register_token ts) _ (register_low ts) λ x h. fit h f.rs
+part_fit Rs o ts f = holds_then LowFirst FitFirst (register_token ts) _ (register_low ts) λ x h. fit f.rd h
+part_fit Imm o ts f = after FitFirst (value ts) _ λ x. fit f.rd f.rs
+part_fit Displacement o ts f = after FitFirst (displacement ts) _ λ x. fit f.rd f.rs
+part_fit Size o ts f = after FitFirst (size ts) _ λ x. fit f.rd f.rs
+part_fit PortSize o ts f = after FitFirst (port_size ts) _ λ x. fit f.rd f.rs
+part_fit Comma o ts f = after FitFirst (keyword (codes ",") _ ts) _ λ x. f
+part_fit At o ts f = after FitFirst (keyword (codes "at") _ ts) _ λ x. f
+part_fit To o ts f = after FitFirst (keyword (codes "to") _ ts) _ λ x. f
+part_fit Port o ts f = after FitFirst (keyword (codes "port") _ ts) _ λ x. f
 
-below_fit : (ts : Tokens) → Holds FitFirst (below_jump ts)
-unfolding below_jump
-below_fit ts =
-    holds_then LowPair FitFirst (pair ts) _ (pair_low ts) λ x h.
-    after FitFirst (comma x.2) _ λ ts.
-    after FitFirst (value ts) _ λ y.
-    fit h.0 h.1
-
-memory_fit : (ts : Tokens) → Holds FitFirst (memory ts)
-unfolding memory
-memory_fit ts =
-    holds_then LowFirst FitFirst (register_token ts) _ (register_low ts) λ x h.
-    after FitFirst (comma x.1) _ λ ts.
-    after FitFirst (size ts) _ λ n.
-    after FitFirst (keyword (codes "at") At n.1) _ λ ts.
-    holds_then LowPlace FitFirst (place ts) _ (place_low ts) λ y k.
-    fit h k
-
-port_fit : (text : List ℕ) (want : Want) (ts : Tokens) → Holds FitFirst (port text want ts)
-unfolding port
-port_fit text want ts =
-    holds_then LowFirst FitFirst (register_token ts) _ (register_low ts) λ x h.
-    after FitFirst (comma x.1) _ λ at.
-    after FitFirst (size at) _ λ n.
-    after_test FitFirst (small _ n.0) _
-    (after FitFirst (keyword text want n.1) _ λ ts.
-    after FitFirst (keyword (codes "port") _ ts) _ λ ts.
-    holds_then LowPlace FitFirst (place ts) _ (place_low ts) λ y k.
-    fit h k)
+parts_fit : (ps : List Part) (o : Operands) (ts : Tokens) → AreFit o → Holds FitFirst (read_parts ps o ts)
+unfolding read_parts
+parts_fit [] o ts f = f
+parts_fit (p ∷ ps) o ts f =
+    holds_then FitFirst FitFirst (read_part p o ts) _ (part_fit p o ts f) λ x g. parts_fit ps x.0 x.1 g
 
 operands_fit : (shape : Shape) (ts : Tokens) → Holds FitFirst (operands_of shape ts)
-unfolding operands_of
-operands_fit Alone ts = fit zero_low zero_low
-operands_fit Immediate ts = immediate_fit ts
-operands_fit High ts = immediate_fit ts
-operands_fit Pair ts = holds_then LowPair FitFirst (pair ts) _ (pair_low ts) λ x h. fit h.0 h.1
-operands_fit Memory ts = memory_fit ts
-operands_fit PortRead ts = port_fit (codes "at") At ts
-operands_fit PortWrite ts = port_fit (codes "to") To ts
-operands_fit Destination ts = holds_then LowFirst FitFirst (register_token ts) _ (register_low ts) λ x h. fit h zero_low
-operands_fit Source ts = holds_then LowFirst FitFirst (register_token ts) _ (register_low ts) λ x h. fit zero_low h
-operands_fit Jump ts = after FitFirst (value ts) _ λ y. fit zero_low zero_low
-operands_fit JumpIf ts = immediate_fit ts
-operands_fit JumpBelow ts = below_fit ts
+operands_fit shape ts = parts_fit (parts_of shape) no_operands ts (fit zero_low zero_low)
 
 -- ---- lines
 

@@ -2,7 +2,6 @@ pub mod Accepted
 mod LayoutLaws
 mod RangeLaws
 pub mod Seats
-mod SignLaws
 mod TermLaws
-mod TokenLaws
+pub mod TokenLaws
 mod ValueLaws

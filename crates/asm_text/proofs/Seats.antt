@@ -1,5 +1,5 @@
 -- Where the lines of a source that is read begin, and how many bytes each comes to.
-use Rattle.std.proofs.Common.{◌≡◌, ℕ, ℤ, suc, ◌+◌, ◌-◌, ◌*◌, ◌%◌, ◌<◌, ◌≤◌, Bool, true, false, List, [], ◌∷◌, ◌++◌, length, replicate, drop, get_or, Option, Some, None, Result, Ok, Err, refl, ap, ap₂, sym, ◌∙◌, subst, inl, inr, length-append, append_assoc, append-nil, suc-mul, arith}
+use Rattle.std.proofs.Common.{◌≡◌, ℕ, suc, ◌+◌, ◌-◌, ◌*◌, ◌%◌, ◌<◌, ◌≤◌, Bool, true, false, List, [], ◌∷◌, ◌++◌, length, replicate, drop, get_or, Option, Some, None, Result, Ok, Err, refl, ap, ap₂, sym, ◌∙◌, subst, inl, inr, length-append, append_assoc, append-nil, suc-mul, arith}
 use Rattle.std.specs.Prelude.{◌⊎◌, ◌==◌, if◌then◌else◌, nat_lt, is_some}
 use Rattle.std.specs.List.{flat_map}
 use Rattle.std.proofs.lemmas.Bool.{eqb-true, ltb-false}
@@ -37,17 +37,6 @@ use Rattle.asm_text.proofs.Accepted.{AreFit, Holds, IsFit, IsFitLine, after, hol
 
 -- ---- lines
 
--- what a statement that begins here has passed
-abbrev pub IsPassed : ℕ → Statement → Type 0
-IsPassed here (Offset left offset) = here ≤ offset
-IsPassed here (Instruction o) = (here % 8 ≡ 0) × IsFit (Instruction o)
-IsPassed here _ = Unit {0}
-
--- lines one behind another, the first of which begins here
-abbrev pub AreSeated : ℕ → List Placed → Type 0
-AreSeated here [] = here ≤ COMPONENT_FILE_MOST
-AreSeated here (line ∷ lines) = (line.here ≡ here) × IsPassed here line.statement × AreSeated (behind here line.statement) lines
-
 pub in_line_holds : {X : Type 0} (P : X → Type 0) (n end : ℕ) (r : Result X LineError) → Holds P r → Holds P (in_source_line n end r)
 in_line_holds P n end (Ok x) h = h
 in_line_holds P n end (Err (Wanted left want)) h = tt
@@ -75,8 +64,11 @@ labelled_stays : (l : Option Label) (s : LayoutState) → s.here ≤ COMPONENT_F
 labelled_stays None s room = (refl, room)
 labelled_stays (Some l) s room = with_name_stays l.left l.name _ s room
 
+fit_operation : (o : Operation) → AreFit o.operands → IsFitOperation o
+fit_operation o h z = valid_with o.opcode o.operands.rd o.operands.rs o.operands.size z h.rd h.rs
+
 abbrev IsAfter : ℕ → Statement → LayoutState → Type 0
-IsAfter here statement s = IsPassed here statement × IsNext (behind here statement) s
+IsAfter here statement s = IsFitAt here statement × IsNext (behind here statement) s
 
 weaker : {A E : Type 0} (P Q : A → Type 0) (r : Result A E) → ((x : A) → P x → Q x) → Holds P r → Holds Q r
 weaker P Q (Ok x) f h = f x h
@@ -90,14 +82,18 @@ stated_passes (Offset left offset) s fit room = by (nat_lt offset s.here) refl
   where
     by : (t : Bool) → nat_lt offset s.here ≡ t → Holds (IsAfter s.here (Offset left offset)) (if t then wanted left Ahead else continued_at left offset s)
     by true e = tt
-    by false e = weaker (IsNext offset) (IsAfter s.here (Offset left offset)) (continued_at left offset s) (λ x h. (ltb-false offset s.here e, h)) (moved_to left offset s)
+    by false e =
+        weaker (IsNext offset) (IsAfter s.here (Offset left offset)) (continued_at left offset s)
+        (λ x h. ((ltb-false offset s.here e, subst (λ to. to ≤ COMPONENT_FILE_MOST) h.0 h.1), h)) (moved_to left offset s)
 stated_passes (Data left size values) s fit room =
     let to = s.here + length values * bytes_of size in
     weaker (IsNext to) (IsAfter s.here (Data left size values)) (continued_at left to s) (λ x h. (tt, h)) (moved_to left to s)
 stated_passes (Instruction o) s fit room = by (s.here % 8 == 0) refl
   where
     by : (t : Bool) → (s.here % 8 == 0) ≡ t → Holds (IsAfter s.here (Instruction o)) (if t then continued_at o.left (s.here + 8) s else wanted o.left Aligned)
-    by true e = weaker (IsNext (s.here + 8)) (IsAfter s.here (Instruction o)) (continued_at o.left (s.here + 8) s) (λ x h. ((eqb-true (s.here % 8) 0 e, fit), h)) (moved_to o.left (s.here + 8) s)
+    by true e =
+        weaker (IsNext (s.here + 8)) (IsAfter s.here (Instruction o)) (continued_at o.left (s.here + 8) s)
+        (λ x h. ((eqb-true (s.here % 8) 0 e, fit_operation o fit), h)) (moved_to o.left (s.here + 8) s)
     by false e = tt
 
 line_passes : (line : SourceLine) (s : LayoutState) → IsFitLine line → s.here ≤ COMPONENT_FILE_MOST → Holds (IsAfter s.here line.statement) (after_line line s)
@@ -105,33 +101,44 @@ line_passes line s fit room =
     holds_then (IsNext s.here) (IsAfter s.here line.statement) (labelled line.label s) (λ s. stated line.statement s) (labelled_stays line.label s room) λ next h.
     subst (λ here. Holds (IsAfter here line.statement) (stated line.statement next)) h.0 (stated_passes line.statement next fit h.1)
 
-abbrev pub AreSeatedIn : ℕ → Layout → Type 0
-AreSeatedIn here layout = AreSeated here layout.lines
+-- where what follows these lines begins
+abbrev pub end_of : ℕ → List Placed → ℕ
+end_of here [] = here
+end_of here (line ∷ lines) = end_of (behind here line.statement) lines
+
+abbrev pub AreLaid : ℕ → List Placed → Type 0
+AreLaid here lines = FollowFrom here lines × (end_of here lines ≤ COMPONENT_FILE_MOST)
+
+abbrev pub IsLaid : ℕ → Layout → Type 0
+IsLaid here layout = AreLaid here layout.lines
 
 -- a line that begins here, and what it leaves
 abbrev IsLineAt : ℕ → Placed × LayoutState → Type 0
 IsLineAt here p = (p.0.here ≡ here) × IsAfter here p.0.statement p.1
 
-line_seated : (s : LayoutState) (n : ℕ) (text : List ℕ) → s.here ≤ COMPONENT_FILE_MOST → Holds (IsLineAt s.here) (source_line_at s n text)
+line_laid : (s : LayoutState) (n : ℕ) (text : List ℕ) → s.here ≤ COMPONENT_FILE_MOST → Holds (IsLineAt s.here) (source_line_at s n text)
 unfolding source_line_at
-line_seated s n text room =
+line_laid s n text room =
     let end = length text + 1 in
     holds_then IsFitLine (IsLineAt s.here) (in_source_line n end (source_line_of (tokens_of text))) _ (in_line_holds IsFitLine n end (source_line_of (tokens_of text)) (line_fit (tokens_of text))) λ line fit.
     holds_then (IsAfter s.here line.statement) (IsLineAt s.here) (in_source_line n end (after_line line s)) _ (in_line_holds (IsAfter s.here line.statement) n end (after_line line s) (line_passes line s fit room)) λ next h.
     (refl, h)
 
-pub layout_seated : (texts : List (List ℕ)) (s : LayoutState) (n : ℕ) → s.here ≤ COMPONENT_FILE_MOST → Holds (AreSeatedIn s.here) (layout_from s n texts)
+layout_laid : (texts : List (List ℕ)) (s : LayoutState) (n : ℕ) → s.here ≤ COMPONENT_FILE_MOST → Holds (IsLaid s.here) (layout_from s n texts)
 unfolding layout_from
-layout_seated [] s n room = room
-layout_seated (text ∷ texts) s n room =
-    holds_then (IsLineAt s.here) (AreSeatedIn s.here) (source_line_at s n text) _ (line_seated s n text room) λ p h.
-    holds_then (AreSeatedIn p.1.here) (AreSeatedIn s.here) (layout_from p.1 (n + 1) texts) _ (layout_seated texts p.1 (n + 1) h.1.1.1) λ more rest.
-    (h.0, h.1.0, subst (λ here. AreSeated here more.lines) h.1.1.0 rest)
+layout_laid [] s n room = (tt, room)
+layout_laid (text ∷ texts) s n room =
+    holds_then (IsLineAt s.here) (IsLaid s.here) (source_line_at s n text) _ (line_laid s n text room) λ p h.
+    holds_then (IsLaid p.1.here) (IsLaid s.here) (layout_from p.1 (n + 1) texts) _ (layout_laid texts p.1 (n + 1) h.1.1.1) λ more rest.
+    let next = subst (λ here. AreLaid here more.lines) h.1.1.0 rest in
+    ((h.0, h.1.0, next.0), next.1)
 
--- ---- an instruction of the table
+-- the lines of a text that is read follow one another, within the room that there is
+pub text_laid : (text : List ℕ) → Holds (IsLaid 0) (layout_from at_start 1 (lines_of text))
+text_laid text = let room : 0 ≤ COMPONENT_FILE_MOST = omega arith in layout_laid (lines_of text) at_start 1 room
 
-fit_operation : (o : Operation) → AreFit o.operands → IsFitOperation o
-fit_operation o h z = valid_with o.opcode o.operands.rd o.operands.rs o.operands.size z h.rd h.rs
+pub lines_follow : (text : List ℕ) (layout : Layout) → layout_from at_start 1 (lines_of text) ≡ Ok layout → FollowFrom 0 layout.lines
+lines_follow text layout h = (holds_at (IsLaid 0) (layout_from at_start 1 (lines_of text)) layout (text_laid text) h).0
 
 -- ---- how many bytes
 
@@ -185,37 +192,6 @@ item_reaches names here (Data left size values) h =
 item_reaches names here (Instruction o) h =
     after (Reaches here (here + 8)) (immediate_of names here o) _ λ z.
     ap (λ n. here + n) (encoding_long (instruction_of o z))
-
--- ---- lines that can be made to bytes
-
-in_room : (lines : List Placed) (here : ℕ) → AreSeated here lines → here ≤ COMPONENT_FILE_MOST
-in_room [] here h = h
-in_room (line ∷ lines) here h = passed line.statement (h.1) (in_room lines (behind here line.statement) (h.2))
-  where
-    passed : (statement : Statement) → IsPassed here statement → behind here statement ≤ COMPONENT_FILE_MOST → here ≤ COMPONENT_FILE_MOST
-    passed Nothing p room = room
-    passed (Definition left name number) p room = room
-    passed (Offset left offset) p room = omega (arith, p, room)
-    passed (Data left size values) p room = omega (arith, room)
-    passed (Instruction o) p room = omega (arith, room)
-
-fit_at : (here : ℕ) (statement : Statement) → IsPassed here statement → behind here statement ≤ COMPONENT_FILE_MOST → IsFitAt here statement
-fit_at here Nothing p room = tt
-fit_at here (Definition left name number) p room = tt
-fit_at here (Offset left offset) p room = (p, room)
-fit_at here (Data left size values) p room = tt
-fit_at here (Instruction o) p room = (p.0, fit_operation o p.1)
-
-pub follow : (lines : List Placed) (here : ℕ) → AreSeated here lines → FollowFrom here lines
-follow [] here h = tt
-follow (line ∷ lines) here h =
-    (h.0, fit_at here line.statement h.1 (in_room lines (behind here line.statement) h.2), follow lines (behind here line.statement) h.2)
-
--- the lines of a text that is read follow one another
-pub lines_follow : (text : List ℕ) (layout : Layout) → layout_from at_start 1 (lines_of text) ≡ Ok layout → FollowFrom 0 layout.lines
-lines_follow text layout h =
-    let room : 0 ≤ COMPONENT_FILE_MOST = omega arith in
-    follow layout.lines 0 (holds_at (AreSeatedIn 0) (layout_from at_start 1 (lines_of text)) layout (layout_seated (lines_of text) at_start 1 room) h)
 
 -- ---- as the bytes are made, line by line
 

@@ -1,8 +1,7 @@
 -- Terms one after another.
 use Rattle.std.proofs.Common.{◌≡◌, ℕ, Bool, List, [], ◌∷◌, ◌++◌, Option, Some, None, Result, Ok, Err, option_map, refl, ap, ◌∙◌, sym, append_assoc, append-nil}
 use Rattle.text_words.specs.Steps.{◌>>=◌, mapped}
-use Rattle.asm_text.specs.Reading.{atom_of, sign_of, signed_terms, terms_of, with_signed_term, with_term, without_term}
-use Rattle.asm_text.specs.Shown.{as_term, sign_at, term_of}
+use Rattle.asm_text.specs.Reading.{as_term, atom_of, sign_at, sign_of, signed_terms, term_of, terms_of, with_signed_term, with_term, without_term}
 use Rattle.asm_text.specs.Tokens.{Tokens, end_with, token}
 use Rattle.asm_text.specs.declared.fault.LineError.{LineError}
 use Rattle.asm_text.specs.declared.statement.Atom.{Atom}
@@ -70,13 +69,9 @@ term_more front ts more rest minus t h e =
 
 -- ---- a sum
 
-first_term : (minus : Bool) (ts : Tokens) → terms_of minus ts ≡ (term_of minus ts >>= and_others)
-first_term minus (end_with left) = refl
-first_term minus (token left word more) = with_term_is left minus (atom_of word) more
-
 -- a term, and then others behind it
 pub term_then : (minus : Bool) (ts rest : Tokens) (t : Term) → term_of minus ts ≡ Ok (t, rest) → before (t ∷ []) (signed_terms rest) ≡ terms_of minus ts
-term_then minus ts rest t h = sym (first_term minus ts ∙ ap (λ r. r >>= and_others) h)
+term_then minus ts rest t h = sym (ap (λ r. r >>= and_others) h)
 
 pub term_fails : (minus : Bool) (ts : Tokens) (e : LineError) → term_of minus ts ≡ Err e → terms_of minus ts ≡ Err e
-term_fails minus ts e h = first_term minus ts ∙ ap (λ r. r >>= and_others) h
+term_fails minus ts e h = ap (λ r. r >>= and_others) h

@@ -1,9 +1,9 @@
 -- Values one after another.
-use Rattle.std.proofs.Common.{◌≡◌, ℕ, zero, suc, ◌+◌, ◌≤◌, Bool, true, false, List, [], ◌∷◌, ◌++◌, Option, Some, None, Result, Ok, Err, IfOk, refl, ap, ◌∙◌, sym, append_assoc, inl, inr, min, arith}
+use Rattle.std.proofs.Common.{◌≡◌, ℕ, zero, suc, ◌+◌, ◌≤◌, Bool, true, false, List, [], ◌∷◌, ◌++◌, Option, Some, None, option_map, Result, Ok, Err, IfOk, refl, ap, ◌∙◌, sym, append_assoc, inl, inr, min, arith}
 use Rattle.std.specs.Prelude.{◌⊎◌, codes, if◌then◌else◌}
 use Rattle.std.specs.Str.{bytes_eq}
 use Rattle.text_words.specs.Steps.{◌>>=◌, mapped}
-use Rattle.asm_text.specs.Reading.{atom_of, comma, token_count, found, keyword, line_bytes_left, sign_of, signed_terms, terms, terms_behind, terms_of, value, values, wanted, with_others, with_signed_term, with_term, without_term}
+use Rattle.asm_text.specs.Reading.{as_term, atom_of, comma, token_count, found, keyword, line_bytes_left, sign_of, signed_terms, terms, terms_behind, terms_of, value, values, wanted, with_others, with_signed_term, with_term, without_term}
 use Rattle.asm_text.specs.Shown.{is_over}
 use Rattle.asm_text.specs.Tokens.{Tokens, end_with, token}
 use Rattle.asm_text.specs.declared.fault.LineError.{LineError}
@@ -22,7 +22,7 @@ with_term_within n left minus None r h = tt
 with_term_within n left minus (Some atom) (Ok s) h = h
 with_term_within n left minus (Some atom) (Err e) h = tt
 
-weaker : (n m : ℕ) (r : Result (List Term × Tokens) LineError) → n ≤ m → Within n r → Within m r
+weaker : {X : Type 0} (n m : ℕ) (r : Result (X × Tokens) LineError) → n ≤ m → Within n r → Within m r
 weaker n m (Ok s) h w = omega (arith, h, w)
 weaker n m (Err e) h w = tt
 
@@ -43,18 +43,28 @@ signed_within (token left word (token at atom more)) =
     middle_within (sign_of word) (token left word (token at atom more)) at (atom_of atom) (signed_terms more)
     (weaker (token_count more) (1 + (1 + token_count more)) (signed_terms more) (omega arith) (signed_within more))
 
+then_within : (n : ℕ) (t : Term) (r : Result (List Term × Tokens) LineError) → Within n r → Within n (mapped {B = List Term × Tokens} (λ s. (t ∷ s.0, s.1)) r)
+then_within n t (Ok s) h = h
+then_within n t (Err e) h = tt
+
 terms_of_within : (n : ℕ) (minus : Bool) (ts : Tokens) → token_count ts ≤ n → Within n (terms_of minus ts)
 terms_of_within n minus (end_with left) h = tt
-terms_of_within n minus (token left word more) h =
-    with_term_within n left minus (atom_of word) (signed_terms more) (weaker (token_count more) n (signed_terms more) (omega (arith, h)) (signed_within more))
+terms_of_within n minus (token left word more) h = by (atom_of word)
+  where
+    others : Within n (signed_terms more)
+    others = weaker (token_count more) n (signed_terms more) (omega (arith, h)) (signed_within more)
 
-behind_within : (sign : Option Bool) (here more : Tokens) → token_count more ≤ token_count here → Within (token_count here) (terms_behind sign here more)
-behind_within None here more h = terms_of_within (token_count here) false here (omega arith)
-behind_within (Some minus) here more h = terms_of_within (token_count here) minus more h
+    by : (o : Option Atom) → Within n (◌>>=◌ {B = List Term × Tokens} (as_term left minus more o) (λ t. mapped (λ s. (t.0 ∷ s.0, s.1)) (signed_terms t.1)))
+    by None = tt
+    by (Some atom) = then_within n (record { left = left; minus = minus; atom = atom }) (signed_terms more) others
 
 terms_within : (ts : Tokens) → Within (token_count ts) (terms ts)
 terms_within (end_with left) = tt
-terms_within (token left word more) = behind_within (sign_of word) (token left word more) more (omega arith)
+terms_within (token left word more) = by (sign_of word)
+  where
+    by : (sign : Option Bool) → Within (1 + token_count more) (terms_behind (option_map (λ minus. (minus, more)) sign) (token left word more))
+    by None = terms_of_within (1 + token_count more) false (token left word more) (omega arith)
+    by (Some minus) = terms_of_within (1 + token_count more) minus more (omega arith)
 
 as_value : (n left : ℕ) (r : Result (List Term × Tokens) LineError) → Within n r
     → Within n (◌>>=◌ {B = Value × Tokens} r (λ s. Ok (record { left = left; terms = s.0 }, s.1)))
@@ -107,10 +117,6 @@ no_value_there (token left word more) h = absurd (omega (arith, h))
 value_fails : (ts : Tokens) (f : Tokens → Result (List Value) LineError) → token_count ts ≤ 0 → and_others f (value ts) ≡ wanted (line_bytes_left ts) TermWant
 value_fails ts f h = ap (and_others f) (no_value_there ts h)
 
-weaker_value : (n m : ℕ) (r : Result (Value × Tokens) LineError) → n ≤ m → Within n r → Within m r
-weaker_value n m (Ok s) h w = omega (arith, h, w)
-weaker_value n m (Err e) h w = tt
-
 -- as many values as there are tokens are enough
 enough : (n m : ℕ) (ts : Tokens) → token_count ts ≤ n → token_count ts ≤ m → values n ts ≡ values m ts
 unfolding values
@@ -118,7 +124,8 @@ enough zero zero ts h k = refl
 enough zero (suc m) ts h k = sym (value_fails ts (values m) h)
 enough (suc n) zero ts h k = value_fails ts (values n) k
 enough (suc n) (suc m) ts h k =
-    same_values (min n m) (values n) (values m) (value ts) (weaker_value (token_count ts) (suc (min n m)) (value ts) (omega (arith, h, k)) (value_within ts)) (λ more l. enough n m more (omega (arith, l)) (omega (arith, l)))
+    same_values (min n m) (values n) (values m) (value ts) (weaker (token_count ts) (suc (min n m)) (value ts) (omega (arith, h, k)) (value_within ts))
+    (λ more l. enough n m more (omega (arith, l)) (omega (arith, l)))
 
 abbrev pub all_values : Tokens → Result (List Value) LineError
 all_values ts = values (token_count ts) ts
@@ -131,7 +138,8 @@ pub values_one_by_one : (ts : Tokens) → all_values ts ≡ and_others all_value
 values_one_by_one ts =
     enough (token_count ts) (suc (token_count ts)) ts (omega arith) (omega arith)
     ∙ step_of (token_count ts) ts
-    ∙ same_values (token_count ts) (values (token_count ts)) all_values (value ts) (weaker_value (token_count ts) (suc (token_count ts)) (value ts) (omega arith) (value_within ts)) (λ more l. enough (token_count ts) (token_count more) more l (omega arith))
+    ∙ same_values (token_count ts) (values (token_count ts)) all_values (value ts) (weaker (token_count ts) (suc (token_count ts)) (value ts) (omega arith) (value_within ts))
+    (λ more l. enough (token_count ts) (token_count more) more l (omega arith))
 
 -- ---- as a loop reads them: with the values before
 

@@ -2,6 +2,7 @@ pub mod Appended
 pub mod FaultTexts
 pub mod Layout
 pub mod Meaning
+pub mod Parts
 pub mod Placing
 pub mod Ranges
 pub mod Reading

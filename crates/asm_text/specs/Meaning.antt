@@ -1,5 +1,5 @@
 -- What a line's statement comes to, where each name is known.
-use Rattle.std.specs.Prelude.{ℕ, ℤ, pos, negsuc, neg_ℤ, zero, suc, ◌+ℤ◌, ◌-ℤ◌, ◌+◌, ◌-◌, ◌*◌, ◌^◌, ◌&&◌, Bool, true, false, List, [], ◌∷◌, replicate, Option, Some, option_map, Result, Ok, int_le, int_lt, if◌then◌else◌}
+use Rattle.std.specs.Prelude.{ℕ, ℤ, pos, negsuc, neg_ℤ, zero, suc, ◌+ℤ◌, ◌-ℤ◌, ◌+◌, ◌-◌, ◌*◌, ◌^◌, ◌&&◌, Bool, true, false, List, [], ◌∷◌, replicate, Option, Some, option_map, Result, Ok, int_le, int_lt}
 use Rattle.std.specs.Int.{w8, w16, w32, w64, cast_signed, to_le_bytes}
 use Rattle.std.specs.List.{flat_map}
 use Rattle.muen_num.specs.AccessSize.{bytes_of}

@@ -7,14 +7,16 @@ use Rattle.muen_num.specs.declared.access.AccessSize.TheVariants.{One, Two, Four
 use Rattle.guest_isa.specs.GuestIsa.{opcode_with, shape_of}
 use Rattle.guest_isa.specs.declared.opcode.Opcode.{Opcode}
 use Rattle.guest_isa.specs.declared.opcode.Shape.{Shape}
-use Rattle.guest_isa.specs.declared.opcode.Shape.TheVariants.{Alone, Immediate, High, Pair, Memory, PortRead, PortWrite, Destination, Source, Jump, JumpIf, JumpBelow}
-use Rattle.text_words.specs.Steps.{◌>>=◌, ◌>>◌}
+use Rattle.text_words.specs.Steps.{◌>>=◌, ◌>>◌, mapped}
+use Rattle.asm_text.specs.Parts.{parts_of}
 use Rattle.asm_text.specs.Tokens.{Tokens, end_with, token}
 use Rattle.asm_text.specs.Words.{register_of, number_in, symbol_of, data_size_of, size_of, size_unit}
 use Rattle.asm_text.specs.declared.fault.LineError.{LineError}
 use Rattle.asm_text.specs.declared.fault.LineError.TheVariants.{Wanted}
 use Rattle.asm_text.specs.declared.fault.Want.{Want}
 use Rattle.asm_text.specs.declared.fault.Want.TheVariants.{Mnemonic as MnemonicWant, Register, Size, Comma, At, To, Port, Number, Term as TermWant, Name as NameWant, End}
+use Rattle.asm_text.specs.declared.part.Part.{Part}
+use Rattle.asm_text.specs.declared.part.Part.TheVariants.{Rd, Rs, Imm, Displacement, Size as SizePart, PortSize, Comma as CommaPart, At as AtPart, To as ToPart, Port as PortPart}
 use Rattle.asm_text.specs.declared.statement.Atom.{Atom}
 use Rattle.asm_text.specs.declared.statement.Atom.TheVariants.{Number as NumberAtom, Name as NameAtom}
 use Rattle.asm_text.specs.declared.statement.Term.{Term}
@@ -73,6 +75,19 @@ size ts = do
   ts ← keyword (size_unit n) Size ts
   Ok (n, ts)
 
+-- at most four bytes
+abbrev pub small : ℕ → AccessSize → Result (Unit {0}) LineError
+small left One = Ok tt
+small left Two = Ok tt
+small left Four = Ok tt
+small left Eight = wanted left Size
+
+unfoldable pub port_size : Tokens → Result (AccessSize × Tokens) LineError
+port_size ts = do
+  (n, more) ← size ts
+  small (line_bytes_left ts) n
+  Ok (n, more)
+
 -- ---- values
 
 -- whether a word is a sign, and then whether it is `-`
@@ -110,19 +125,33 @@ signed_terms (token left word (end_with last)) = without_term (sign_of word) (to
 signed_terms (token left word (token at atom more)) =
     with_signed_term (sign_of word) (token left word (token at atom more)) at (atom_of atom) (signed_terms more)
 
+abbrev pub as_term : ℕ → Bool → Tokens → Option Atom → Result (Term × Tokens) LineError
+as_term left minus more None = wanted left TermWant
+as_term left minus more (Some atom) = Ok (record { left = left; minus = minus; atom = atom }, more)
+
+-- a number or a name behind its sign
+abbrev pub term_of : Bool → Tokens → Result (Term × Tokens) LineError
+term_of minus (end_with left) = wanted left TermWant
+term_of minus (token left word more) = as_term left minus more (atom_of word)
+
 -- a term that begins here, and those behind it
 abbrev pub terms_of : Bool → Tokens → Result (List Term × Tokens) LineError
-terms_of minus (end_with left) = wanted left TermWant
-terms_of minus (token left word more) = with_term left minus (atom_of word) (signed_terms more)
+terms_of minus ts = do
+  (first, ts) ← term_of minus ts
+  mapped (λ r. (first ∷ r.0, r.1)) (signed_terms ts)
+
+-- a sign, and what is behind it
+abbrev pub sign_at : Tokens → Option (Bool × Tokens)
+sign_at (end_with left) = None
+sign_at (token left word more) = option_map (λ minus. (minus, more)) (sign_of word)
 
 -- the first may have a sign
-abbrev pub terms_behind : Option Bool → Tokens → Tokens → Result (List Term × Tokens) LineError
-terms_behind None here more = terms_of false here
-terms_behind (Some minus) here more = terms_of minus more
+abbrev pub terms_behind : Option (Bool × Tokens) → Tokens → Result (List Term × Tokens) LineError
+terms_behind None here = terms_of false here
+terms_behind (Some s) here = terms_of s.0 s.1
 
 abbrev pub terms : Tokens → Result (List Term × Tokens) LineError
-terms (end_with left) = wanted left TermWant
-terms (token left word more) = terms_behind (sign_of word) (token left word more) more
+terms ts = terms_behind (sign_at ts) ts
 
 -- a sum
 unfoldable pub value : Tokens → Result (Value × Tokens) LineError
@@ -166,88 +195,49 @@ no_value = record { left = 0; terms = [] }
 abbrev pub operands : ℕ → ℕ → AccessSize → Value → Operands
 operands rd rs size value = record { rd = rd; rs = rs; size = size; value = value }
 
--- rd, rs
-unfoldable pub pair : Tokens → Result (ℕ × ℕ × Tokens) LineError
-pair ts = do
-  (rd, ts) ← register_token ts
-  ts ← comma ts
-  (rs, ts) ← register_token ts
-  Ok (rd, rs, ts)
+abbrev pub no_operands : Operands
+no_operands = operands 0 0 One no_value
 
--- rs + imm
-unfoldable pub place : Tokens → Result (ℕ × Value × Tokens) LineError
-place ts = do
-  (rs, ts) ← register_token ts
-  (offset, ts) ← displacement ts
-  Ok (rs, offset, ts)
-
--- at most four bytes
-abbrev pub small : ℕ → AccessSize → Result (Unit {0}) LineError
-small left One = Ok tt
-small left Two = Ok tt
-small left Four = Ok tt
-small left Eight = wanted left Size
-
--- rd, SIZE at rs + imm
-unfoldable pub memory : Tokens → Result (Operands × Tokens) LineError
-memory ts = do
-  (rd, ts) ← register_token ts
-  ts ← comma ts
-  (n, ts) ← size ts
-  ts ← keyword (codes "at") At ts
-  (rs, offset, ts) ← place ts
-  Ok (operands rd rs n offset, ts)
-
--- rd, SIZE at port rs + imm; or with another word for `at`
-unfoldable pub port : List ℕ → Want → Tokens → Result (Operands × Tokens) LineError
-port text want ts = do
-  (rd, ts) ← register_token ts
-  at ← comma ts
-  (n, ts) ← size at
-  small (line_bytes_left at) n
+-- a word or mark, which says no operand
+abbrev pub passed : List ℕ → Want → Operands → Tokens → Result (Operands × Tokens) LineError
+passed text want o ts = do
   ts ← keyword text want ts
-  ts ← keyword (codes "port") Port ts
-  (rs, offset, ts) ← place ts
-  Ok (operands rd rs n offset, ts)
+  Ok (o, ts)
 
--- rd, imm
-unfoldable pub immediate : Tokens → Result (Operands × Tokens) LineError
-immediate ts = do
+-- one more part, behind which these operands are said
+unfoldable pub read_part : Part → Operands → Tokens → Result (Operands × Tokens) LineError
+read_part Rd o ts = do
   (rd, ts) ← register_token ts
-  ts ← comma ts
+  Ok (record o { rd = rd }, ts)
+read_part Rs o ts = do
+  (rs, ts) ← register_token ts
+  Ok (record o { rs = rs }, ts)
+read_part Imm o ts = do
   (imm, ts) ← value ts
-  Ok (operands rd 0 One imm, ts)
+  Ok (record o { value = imm }, ts)
+read_part Displacement o ts = do
+  (offset, ts) ← displacement ts
+  Ok (record o { value = offset }, ts)
+read_part SizePart o ts = do
+  (n, ts) ← size ts
+  Ok (record o { size = n }, ts)
+read_part PortSize o ts = do
+  (n, ts) ← port_size ts
+  Ok (record o { size = n }, ts)
+read_part CommaPart o ts = passed (codes ",") Comma o ts
+read_part AtPart o ts = passed (codes "at") At o ts
+read_part ToPart o ts = passed (codes "to") To o ts
+read_part PortPart o ts = passed (codes "port") Port o ts
 
--- rd, rs, imm
-unfoldable pub below_jump : Tokens → Result (Operands × Tokens) LineError
-below_jump ts = do
-  (rd, rs, ts) ← pair ts
-  ts ← comma ts
-  (imm, ts) ← value ts
-  Ok (operands rd rs One imm, ts)
+unfoldable pub read_parts : List Part → Operands → Tokens → Result (Operands × Tokens) LineError
+read_parts [] o ts = Ok (o, ts)
+read_parts (p ∷ ps) o ts = do
+  (o, ts) ← read_part p o ts
+  read_parts ps o ts
 
 -- what stands behind a word of this shape
-unfoldable pub operands_of : Shape → Tokens → Result (Operands × Tokens) LineError
-operands_of Alone ts = Ok (operands 0 0 One no_value, ts)
-operands_of Immediate ts = immediate ts
-operands_of High ts = immediate ts
-operands_of Pair ts = do
-  (rd, rs, ts) ← pair ts
-  Ok (operands rd rs One no_value, ts)
-operands_of Memory ts = memory ts
-operands_of PortRead ts = port (codes "at") At ts
-operands_of PortWrite ts = port (codes "to") To ts
-operands_of Destination ts = do
-  (rd, ts) ← register_token ts
-  Ok (operands rd 0 One no_value, ts)
-operands_of Source ts = do
-  (rs, ts) ← register_token ts
-  Ok (operands 0 rs One no_value, ts)
-operands_of Jump ts = do
-  (imm, ts) ← value ts
-  Ok (operands 0 0 One imm, ts)
-operands_of JumpIf ts = immediate ts
-operands_of JumpBelow ts = below_jump ts
+abbrev pub operands_of : Shape → Tokens → Result (Operands × Tokens) LineError
+operands_of shape ts = read_parts (parts_of shape) no_operands ts
 
 -- ---- statements
 
@@ -280,14 +270,13 @@ integer_with minus ts = do
   Ok (record { minus = minus; magnitude = n }, ts)
 
 -- a number, maybe with `-`
-abbrev pub signed_number : Option Bool → Tokens → Tokens → Result (Integer × Tokens) LineError
-signed_number None here more = integer_with false here
-signed_number (Some false) here more = integer_with false here
-signed_number (Some true) here more = integer_with true more
+abbrev pub signed_number : Option (Bool × Tokens) → Tokens → Result (Integer × Tokens) LineError
+signed_number None here = integer_with false here
+signed_number (Some (false, more)) here = integer_with false here
+signed_number (Some (true, more)) here = integer_with true more
 
 abbrev pub integer : Tokens → Result (Integer × Tokens) LineError
-integer (end_with left) = wanted left Number
-integer (token left word more) = signed_number (sign_of word) (token left word more) more
+integer ts = signed_number (sign_at ts) ts
 
 abbrev pub name_or_wanted : ℕ → List ℕ → Result (List ℕ) LineError
 name_or_wanted left word = ok_or_wanted left NameWant (symbol_of word)

@@ -1,13 +1,9 @@
 -- What a call answers, in the words of the definition: what is left of a line is its tokens.
-use Rattle.std.specs.Prelude.{ℕ, Bool, true, false, List, Option, Some, None, option_map, Result, Ok, Err, if◌then◌else◌}
+use Rattle.std.specs.Prelude.{ℕ, Bool, true, false, List, Option, Some, None, Result, Ok, Err, if◌then◌else◌}
 use Rattle.std.specs.Borrow.{Bor}
 use Rattle.std.specs.Str.{bytes_eq}
-use Rattle.asm_text.specs.Reading.{atom_of, sign_of, wanted}
 use Rattle.asm_text.specs.Tokens.{Tokens, end_with, token, tokens_of}
 use Rattle.asm_text.specs.declared.fault.LineError.{LineError}
-use Rattle.asm_text.specs.declared.fault.Want.TheVariants.{Term as TermWant}
-use Rattle.asm_text.specs.declared.statement.Atom.{Atom}
-use Rattle.asm_text.specs.declared.statement.Term.{Term}
 use Rattle.asm_text.specs.declared.tokens.Next.{Next}
 use Rattle.asm_text.specs.declared.tokens.Token.{Token}
 
@@ -28,26 +24,12 @@ abbrev pub told_rest : Result (Bor (List ℕ)) LineError → Result Tokens LineE
 told_rest (Ok r) = Ok (tokens_of r.now)
 told_rest (Err e) = Err e
 
--- two things that were read, and what is left
-abbrev pub told_two : {X Y : Type 0} → Result (X × Y × Bor (List ℕ)) LineError → Result (X × Y × Tokens) LineError
-told_two (Ok r) = Ok (r.0, r.1, tokens_of r.2.now)
-told_two (Err e) = Err e
+-- what the call keeps, and what is left
+abbrev pub told_with : {X : Type 0} → Result (Bor (List ℕ)) LineError → X → Result (X × Tokens) LineError
+told_with (Ok r) x = Ok (x, tokens_of r.now)
+told_with (Err e) x = Err e
 
 -- ---- what comes next
-
--- a sign, and what is behind it
-abbrev pub sign_at : Tokens → Option (Bool × Tokens)
-sign_at (end_with left) = None
-sign_at (token left word more) = option_map (λ minus. (minus, more)) (sign_of word)
-
-abbrev pub as_term : ℕ → Bool → Tokens → Option Atom → Result (Term × Tokens) LineError
-as_term left minus more None = wanted left TermWant
-as_term left minus more (Some atom) = Ok (record { left = left; minus = minus; atom = atom }, more)
-
--- a number or a name behind its sign
-abbrev pub term_of : Bool → Tokens → Result (Term × Tokens) LineError
-term_of minus (end_with left) = wanted left TermWant
-term_of minus (token left word more) = as_term left minus more (atom_of word)
 
 -- what is behind this mark
 abbrev pub mark_at : List ℕ → Tokens → Option Tokens

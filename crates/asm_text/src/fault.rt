@@ -90,6 +90,13 @@ pub enum LineError {
     NoMemory,
 }
 
+/// What is wanted isn't there.
+pub(crate) fn wanted(left: usize, want: Want) -> LineError
+    ensures { result ≡ LineError.Wanted left want }
+{
+    LineError::Wanted { left, want }
+}
+
 impl From<NoMemory> for LineError {
     ghost use Rattle.std.specs.Prelude.{◌≡◌};
     ghost use Rattle.asm_text.specs.declared.fault.LineError.TheVariants.{NoMemory as RanOut};

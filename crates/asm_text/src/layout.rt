@@ -5,7 +5,7 @@ ghost use Rattle.asm_text.specs.Layout.{after_line, at_start, fault_in, labelled
 ghost use Rattle.asm_text.specs.Placing.{laid_out, placed_told, shown_layout, layout_standing_of};
 ghost use Rattle.text_words.specs.Parts.{lines_of};
 
-use crate::fault::{LineError, SourceFault, Want};
+use crate::fault::{LineError, SourceFault, Want, wanted};
 use crate::reading::line_of;
 use crate::statement::{Label, Meaning, Placed, SourceLine, Statement};
 use muen_num::limits::COMPONENT_FILE_MOST;
@@ -27,10 +27,7 @@ impl Standing {
         ensures { Answers LineError.NoMemory (with_name left name meaning (layout_standing_of self.old)) (laid_out result self.new) }
     {
         if self.names.contains_key(&name) {
-            return Err(LineError::Wanted {
-                left,
-                want: Want::NewName,
-            });
+            return Err(wanted(left, Want::NewName));
         }
         match self.names.insert(name, meaning) {
             Ok(_) => Ok(()),
@@ -43,10 +40,7 @@ impl Standing {
         ensures { laid_out result self.new ≡ continued_at left to (layout_standing_of self.old) }
     {
         if to > COMPONENT_FILE_MOST as u64 {
-            return Err(LineError::Wanted {
-                left,
-                want: Want::Room,
-            });
+            return Err(wanted(left, Want::Room));
         }
         self.here = to;
         Ok(())
@@ -72,10 +66,7 @@ impl Standing {
             }
             Statement::Offset { left, offset } => {
                 if *offset < here {
-                    return Err(LineError::Wanted {
-                        left: *left,
-                        want: Want::Ahead,
-                    });
+                    return Err(wanted(*left, Want::Ahead));
                 }
                 self.move_to(*left, *offset)
             }
@@ -85,10 +76,7 @@ impl Standing {
             }
             Statement::Instruction(operation) => {
                 if here % 8 != 0 {
-                    return Err(LineError::Wanted {
-                        left: operation.left,
-                        want: Want::Aligned,
-                    });
+                    return Err(wanted(operation.left, Want::Aligned));
                 }
                 self.move_to(operation.left, here.saturating_add(8))
             }

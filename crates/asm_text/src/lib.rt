@@ -5,6 +5,7 @@ mod assembling;
 mod fault;
 mod layout;
 mod meaning;
+mod part;
 mod reading;
 mod statement;
 mod tokens;
@@ -12,4 +13,5 @@ mod words;
 
 pub use assembling::assemble;
 pub use fault::{LineError, SourceFault, Want};
+pub use part::{Part, parts_of};
 pub use words::number_in;

@@ -5,7 +5,7 @@ ghost use Rattle.muen_num.specs.AccessSize.{bytes_of};
 ghost use Rattle.asm_text.specs.Meaning.{size_bits, distance_by, fits_in_bits, fits_signed, immediate_by, if_fits, immediate_of, integer_of, number_of, residue, signed, sum_of, sum_of_atom, sum_of_meaning};
 ghost use Rattle.asm_text.specs.Ranges.{IsMagnitude, IsSmallSum, IsSum};
 
-use crate::fault::{LineError, Want};
+use crate::fault::{LineError, Want, wanted};
 use crate::statement::{Atom, Integer, Meaning, Operation, Term, Value};
 use guest_isa::Shape;
 use muen_num::{AccessSize, Name};
@@ -58,10 +58,7 @@ fn sum_of_atom(names: &BTreeMap<Name, Meaning>, atom: Atom) -> Option<Sum>
             number: i128::from(n),
             labels: 0,
         }),
-        Atom::Name(name) => match names.get(&name) {
-            Some(meaning) => Some(sum_of_meaning(*meaning)),
-            None => None,
-        },
+        Atom::Name(name) => Some(sum_of_meaning(*names.get(&name)?)),
     }
 }
 
@@ -76,10 +73,7 @@ fn sum_of(names: &BTreeMap<Name, Meaning>, terms: &[Term]) -> Result<Sum, LineEr
     };
     for term in terms {
         let Some(atom) = sum_of_atom(names, term.atom) else {
-            return Err(LineError::Wanted {
-                left: term.left,
-                want: Want::KnownName,
-            });
+            return Err(wanted(term.left, Want::KnownName));
         };
         sum.number += signed(term.minus, atom.number);
         sum.labels += signed(term.minus, atom.labels);
@@ -138,10 +132,7 @@ fn distance(sum: Sum, here: u64, left: usize) -> Result<i128, LineError>
     match sum.labels {
         0 => Ok(sum.number),
         1 => Ok(sum.number - i128::from(here)),
-        _ => Err(LineError::Wanted {
-            left,
-            want: Want::Target,
-        }),
+        _ => Err(wanted(left, Want::Target)),
     }
 }
 
@@ -152,7 +143,7 @@ fn in_32_bits(n: i128, left: usize, want: Want) -> Result<i32, LineError>
     if fits_signed(32, n) {
         Ok(n as i32)
     } else {
-        Err(LineError::Wanted { left, want })
+        Err(wanted(left, want))
     }
 }
 
@@ -163,10 +154,7 @@ fn in_either(n: i128, left: usize) -> Result<i32, LineError>
     if fits(32, n) {
         Ok((residue(32, n) as u32).cast_signed())
     } else {
-        Err(LineError::Wanted {
-            left,
-            want: Want::Range,
-        })
+        Err(wanted(left, Want::Range))
     }
 }
 
@@ -221,10 +209,7 @@ pub(crate) fn number_of(
     let sum = sum_of(names, value.terms.items())?;
     let bits = bits_of(size);
     if !fits(bits, sum.number) {
-        return Err(LineError::Wanted {
-            left: value.left,
-            want: Want::Range,
-        });
+        return Err(wanted(value.left, Want::Range));
     }
     Ok(residue(bits, sum.number))
 }

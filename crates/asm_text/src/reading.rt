@@ -1,12 +1,13 @@
 //! What a line says.
 ghost use Rattle.std.specs.Prelude.{◌≡◌, ◌++◌, ◌<◌, ◌≤◌, IfOk, IfSome, length, option_map};
 ghost use Rattle.muen_num.specs.Answers.{Answers};
-ghost use Rattle.asm_text.specs.Reading.{at_end, comma, token_count, definition, data_line, displacement, immediate, instruction, integer, integer_with, keyword, label, source_line_of, memory, below_jump, number, offset_line, operands_of, pair, place, port, register_token, signed_terms, size, statement, terms, terms_of, value, values, worded};
-ghost use Rattle.asm_text.specs.Shown.{is_over, mark_at, sign_at, term_of, told, told_rest, told_two};
+ghost use Rattle.asm_text.specs.Reading.{at_end, comma, token_count, definition, data_line, displacement, instruction, integer, integer_with, keyword, label, source_line_of, number, offset_line, operands_of, port_size, read_part, read_parts, register_token, sign_at, signed_terms, size, statement, term_of, terms, terms_of, value, values, worded};
+ghost use Rattle.asm_text.specs.Shown.{is_over, mark_at, told, told_rest, told_with};
 ghost use Rattle.text_words.specs.Steps.{mapped};
 ghost use Rattle.asm_text.specs.Tokens.{tokens_of};
 
-use crate::fault::{LineError, Want};
+use crate::fault::{LineError, Want, wanted};
+use crate::part::{Part, parts_of};
 use crate::statement::{Integer, Label, Operands, Operation, SourceLine, Statement, Term, Value};
 use crate::tokens::{Token, first_token};
 use crate::words::{
@@ -27,10 +28,7 @@ fn keyword<'a>(text: &str, want: Want, line: &'a [u8]) -> Result<&'a [u8], LineE
     let next = first_token(line);
     match next.token {
         Some(Token { word, rest }) if word == text.as_bytes() => Ok(rest),
-        _ => Err(LineError::Wanted {
-            left: next.left,
-            want,
-        }),
+        _ => Err(wanted(next.left, want)),
     }
 }
 
@@ -44,10 +42,7 @@ fn register(line: &[u8]) -> Result<(u8, &[u8]), LineError>
             return Ok((register, rest));
         }
     }
-    Err(LineError::Wanted {
-        left: next.left,
-        want: Want::Register,
-    })
+    Err(wanted(next.left, Want::Register))
 }
 
 #[tactic(auto, unfolding(crate::specs::Reading::number))]
@@ -60,10 +55,7 @@ fn number(line: &[u8]) -> Result<(u64, &[u8]), LineError>
             return Ok((number, rest));
         }
     }
-    Err(LineError::Wanted {
-        left: next.left,
-        want: Want::Number,
-    })
+    Err(wanted(next.left, Want::Number))
 }
 
 // The line ends.
@@ -74,10 +66,7 @@ fn at_end(line: &[u8]) -> Result<(), LineError>
     let next = first_token(line);
     match next.token {
         None => Ok(()),
-        Some(_) => Err(LineError::Wanted {
-            left: next.left,
-            want: Want::End,
-        }),
+        Some(_) => Err(wanted(next.left, Want::End)),
     }
 }
 
@@ -100,10 +89,19 @@ fn size(line: &[u8]) -> Result<(AccessSize, &[u8]), LineError>
             return Ok((size, rest));
         }
     }
-    Err(LineError::Wanted {
-        left: next.left,
-        want: Want::Size,
-    })
+    Err(wanted(next.left, Want::Size))
+}
+
+// .. of at most four.
+#[tactic(auto, unfolding(crate::specs::Reading::port_size))]
+fn port_size(line: &[u8]) -> Result<(AccessSize, &[u8]), LineError>
+    ensures { told result ≡ port_size (tokens_of line.now) }
+{
+    let (size, rest) = size(line)?;
+    match size {
+        AccessSize::Eight => Err(wanted(first_token(line).left, Want::Size)),
+        _ => Ok((size, rest)),
+    }
 }
 
 // ---- values
@@ -120,10 +118,7 @@ fn term(minus: bool, line: &[u8]) -> Result<(Term, &[u8]), LineError>
             return Ok((Term { left, minus, atom }, rest));
         }
     }
-    Err(LineError::Wanted {
-        left: next.left,
-        want: Want::Term,
-    })
+    Err(wanted(next.left, Want::Term))
 }
 
 // The sign at the head, if there is one.
@@ -170,7 +165,6 @@ fn terms_of(alloc: Global, minus: bool, line: &[u8]) -> Result<(Seq<Term>, &[u8]
 }
 
 // The terms of a sum, of which the first may have a sign.
-#[tactic(auto, using(crate::proofs::SignLaws::first_signs))]
 fn terms(alloc: Global, line: &[u8]) -> Result<(Seq<Term>, &[u8]), LineError>
     ensures terms { Answers LineError.NoMemory (terms (tokens_of line.now)) (told result) }
     ensures within { IfOk result (λ r. length r.1.now ≤ length line.now) }
@@ -234,177 +228,95 @@ fn values(alloc: Global, line: &[u8]) -> Result<Seq<Value>, LineError>
 
 // ---- operands
 
-fn no_value(alloc: Global) -> Value
-    ensures { result ≡ Rattle.asm_text.specs.Reading.no_value }
-{
-    Value {
-        left: 0,
-        terms: Seq::new(alloc),
-    }
-}
-
-// rd, rs
-#[tactic(auto, unfolding(crate::specs::Reading::pair))]
-fn pair(line: &[u8]) -> Result<(u8, u8, &[u8]), LineError>
-    ensures { told_two result ≡ pair (tokens_of line.now) }
-{
-    let (rd, rest) = register(line)?;
-    let rest = comma(rest)?;
-    let (rs, rest) = register(rest)?;
-    Ok((rd, rs, rest))
-}
-
-// rs + imm
-#[tactic(auto, unfolding(crate::specs::Reading::place))]
-fn place(alloc: Global, line: &[u8]) -> Result<(u8, Value, &[u8]), LineError>
-    ensures { Answers LineError.NoMemory (place (tokens_of line.now)) (told_two result) }
-{
-    let (rs, rest) = register(line)?;
-    let (offset, rest) = displacement(alloc, rest)?;
-    Ok((rs, offset, rest))
-}
-
-// rd, SIZE at rs + imm
-#[tactic(auto, unfolding(crate::specs::Reading::memory))]
-fn memory(alloc: Global, line: &[u8]) -> Result<(Operands, &[u8]), LineError>
-    ensures { Answers LineError.NoMemory (memory (tokens_of line.now)) (told result) }
-{
-    let (rd, rest) = register(line)?;
-    let rest = comma(rest)?;
-    let (size, rest) = size(rest)?;
-    let rest = keyword("at", Want::At, rest)?;
-    let (rs, value, rest) = place(alloc, rest)?;
-    Ok((
-        Operands {
-            rd,
-            rs,
-            size,
-            value,
-        },
-        rest,
-    ))
-}
-
-// rd, SIZE at port rs + imm; or with another word for `at`
-#[tactic(auto, unfolding(crate::specs::Reading::port))]
-fn port<'a>(
+// One more part, which is kept beside those that were read before it.
+#[tactic(auto, unfolding(crate::specs::Reading::read_part))]
+fn read_part<'a>(
     alloc: Global,
-    text: &str,
-    want: Want,
+    part: Part,
+    with: &mut Operands,
     line: &'a [u8],
-) -> Result<(Operands, &'a [u8]), LineError>
-    ensures { Answers LineError.NoMemory (port text.now want (tokens_of line.now)) (told result) }
+) -> Result<&'a [u8], LineError>
+    ensures { Answers LineError.NoMemory (read_part part with.old (tokens_of line.now)) (told_with result with.new) }
 {
-    let (rd, rest) = register(line)?;
-    let at = comma(rest)?;
-    let (size, rest) = size(at)?;
-    if size == AccessSize::Eight {
-        return Err(LineError::Wanted {
-            left: first_token(at).left,
-            want: Want::Size,
-        });
+    match part {
+        Part::Rd => {
+            let (rd, rest) = register(line)?;
+            with.rd = rd;
+            Ok(rest)
+        }
+        Part::Rs => {
+            let (rs, rest) = register(line)?;
+            with.rs = rs;
+            Ok(rest)
+        }
+        Part::Size => {
+            let (size, rest) = size(line)?;
+            with.size = size;
+            Ok(rest)
+        }
+        Part::PortSize => {
+            let (size, rest) = port_size(line)?;
+            with.size = size;
+            Ok(rest)
+        }
+        Part::Imm => {
+            let (value, rest) = value(alloc, line)?;
+            with.value = value;
+            Ok(rest)
+        }
+        Part::Displacement => {
+            let (value, rest) = displacement(alloc, line)?;
+            with.value = value;
+            Ok(rest)
+        }
+        Part::Comma => comma(line),
+        Part::At => keyword("at", Want::At, line),
+        Part::To => keyword("to", Want::To, line),
+        Part::Port => keyword("port", Want::Port, line),
     }
-    let rest = keyword(text, want, rest)?;
-    let rest = keyword("port", Want::Port, rest)?;
-    let (rs, value, rest) = place(alloc, rest)?;
-    Ok((
-        Operands {
-            rd,
-            rs,
-            size,
-            value,
-        },
-        rest,
-    ))
 }
 
-// rd, imm
-#[tactic(auto, unfolding(crate::specs::Reading::immediate))]
-fn immediate(alloc: Global, line: &[u8]) -> Result<(Operands, &[u8]), LineError>
-    ensures { Answers LineError.NoMemory (immediate (tokens_of line.now)) (told result) }
+// Parts one behind another.
+#[tactic(auto, unfolding(crate::specs::Reading::read_parts))]
+fn read_parts<'a>(
+    alloc: Global,
+    parts: &[Part],
+    with: &mut Operands,
+    line: &'a [u8],
+) -> Result<&'a [u8], LineError>
+    ensures { Answers LineError.NoMemory (read_parts parts.now with.old (tokens_of line.now)) (told_with result with.new) }
 {
-    let (rd, rest) = register(line)?;
-    let rest = comma(rest)?;
-    let (value, rest) = value(alloc, rest)?;
-    Ok((
-        Operands {
-            rd,
-            rs: 0,
-            size: AccessSize::One,
-            value,
-        },
-        rest,
-    ))
+    match parts {
+        [] => Ok(line),
+        [part, others @ ..] => {
+            let rest = read_part(alloc, *part, with, line)?;
+            read_parts(alloc, others, with, rest)
+        }
+    }
 }
 
-// rd, rs, imm
-#[tactic(auto, unfolding(crate::specs::Reading::below_jump))]
-fn below_jump(alloc: Global, line: &[u8]) -> Result<(Operands, &[u8]), LineError>
-    ensures { Answers LineError.NoMemory (below_jump (tokens_of line.now)) (told result) }
-{
-    let (rd, rs, rest) = pair(line)?;
-    let rest = comma(rest)?;
-    let (value, rest) = value(alloc, rest)?;
-    Ok((
-        Operands {
-            rd,
-            rs,
-            size: AccessSize::One,
-            value,
-        },
-        rest,
-    ))
-}
-
-// These registers, and nothing else.
-fn registers(alloc: Global, rd: u8, rs: u8) -> Operands
-    ensures { result ≡ Rattle.asm_text.specs.Reading.operands rd rs AccessSize.One Rattle.asm_text.specs.Reading.no_value }
+// Nothing.
+fn no_operands(alloc: Global) -> Operands
+    ensures { result ≡ Rattle.asm_text.specs.Reading.no_operands }
 {
     Operands {
-        rd,
-        rs,
+        rd: 0,
+        rs: 0,
         size: AccessSize::One,
-        value: no_value(alloc),
+        value: Value {
+            left: 0,
+            terms: Seq::new(alloc),
+        },
     }
 }
 
 // What stands behind a word of this shape.
-#[tactic(auto, unfolding(crate::specs::Reading::operands_of))]
 fn operands_of(alloc: Global, shape: Shape, line: &[u8]) -> Result<(Operands, &[u8]), LineError>
     ensures { Answers LineError.NoMemory (operands_of shape (tokens_of line.now)) (told result) }
 {
-    match shape {
-        Shape::Alone => Ok((registers(alloc, 0, 0), line)),
-        Shape::Immediate | Shape::High | Shape::JumpIf => immediate(alloc, line),
-        Shape::Pair => {
-            let (rd, rs, rest) = pair(line)?;
-            Ok((registers(alloc, rd, rs), rest))
-        }
-        Shape::Memory => memory(alloc, line),
-        Shape::PortRead => port(alloc, "at", Want::At, line),
-        Shape::PortWrite => port(alloc, "to", Want::To, line),
-        Shape::Destination => {
-            let (rd, rest) = register(line)?;
-            Ok((registers(alloc, rd, 0), rest))
-        }
-        Shape::Source => {
-            let (rs, rest) = register(line)?;
-            Ok((registers(alloc, 0, rs), rest))
-        }
-        Shape::Jump => {
-            let (value, rest) = value(alloc, line)?;
-            Ok((
-                Operands {
-                    rd: 0,
-                    rs: 0,
-                    size: AccessSize::One,
-                    value,
-                },
-                rest,
-            ))
-        }
-        Shape::JumpBelow => below_jump(alloc, line),
-    }
+    let mut with = no_operands(alloc);
+    let rest = read_parts(alloc, parts_of(shape), &mut with, line)?;
+    Ok((with, rest))
 }
 
 // ---- statements
@@ -461,14 +373,12 @@ fn integer_with(minus: bool, line: &[u8]) -> Result<(Integer, &[u8]), LineError>
 }
 
 // A number, maybe with `-`.
-#[tactic(auto, using(crate::proofs::SignLaws::integers))]
 fn integer(line: &[u8]) -> Result<(Integer, &[u8]), LineError>
     ensures { told result ≡ integer (tokens_of line.now) }
 {
     match sign(line) {
         Some((true, behind)) => integer_with(true, behind),
-        Some((false, _)) => integer_with(false, line),
-        None => integer_with(false, line),
+        _ => integer_with(false, line),
     }
 }
 
@@ -476,13 +386,7 @@ fn integer(line: &[u8]) -> Result<(Integer, &[u8]), LineError>
 fn name_at(left: usize, word: &[u8]) -> Result<Name, LineError>
     ensures { result ≡ Rattle.asm_text.specs.Reading.name_or_wanted left word.now }
 {
-    match symbol_of(word) {
-        Some(name) => Ok(name),
-        None => Err(LineError::Wanted {
-            left,
-            want: Want::Name,
-        }),
-    }
+    symbol_of(word).ok_or(wanted(left, Want::Name))
 }
 
 // NAME = NUMBER, where the name stands before this.
@@ -507,10 +411,7 @@ fn worded(alloc: Global, left: usize, word: &[u8], line: &[u8]) -> Result<Statem
         Some(size) => data_line(alloc, left, size, line),
         None => match Opcode::with(word) {
             Some(opcode) => instruction(alloc, left, opcode, line),
-            None => Err(LineError::Wanted {
-                left,
-                want: Want::Mnemonic,
-            }),
+            None => Err(wanted(left, Want::Mnemonic)),
         },
     }
 }

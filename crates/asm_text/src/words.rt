@@ -24,13 +24,7 @@ pub fn number_in(word: &[u8]) -> Option<u64>
     if let Some(digits) = word.strip_prefix(b"0x") {
         return grouped(digits);
     }
-    if let Some(n) = based(word) {
-        return Some(n);
-    }
-    match decimal(word) {
-        Ok(n) => Some(n),
-        Err(_) => None,
-    }
+    based(word).or(decimal(word).ok())
 }
 
 /// A name: a letter or `_`, and up to 62 letters, digits, `_` and `.`.

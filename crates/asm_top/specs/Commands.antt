@@ -1,5 +1,6 @@
 -- The commands of the assembler (this project's own).
 use Rattle.std.specs.Prelude.{ℕ, List, [], ◌∷◌, Option, Some, None, option_and_then, option_map, codes, nat_lt, if◌then◌else◌}
+use Rattle.std.specs.Borrow.{Bor}
 use Rattle.std.specs.Str.{bytes_eq}
 use Rattle.muen_num.specs.declared.limits.TheConstants.{COMPONENT_FILE_MOST, GUEST_END}
 use Rattle.asm_text.specs.Words.{number_in}
@@ -14,6 +15,10 @@ pub data Command : Type 0 where
   bin : Option (List ℕ) → List ℕ → List ℕ → Command
   -- a file, of whose bytes a source is printed
   text : List ℕ → Command
+
+-- the name of a file of names, if one is given
+abbrev pub name_given : Option (Bor (List ℕ)) → Option (List ℕ)
+name_given names = option_map (λ name. name.now) names
 
 -- an address below the end of guest addresses
 abbrev pub base_of : List ℕ → Option ℕ

@@ -1,12 +1,12 @@
 -- The commands that calls are given, in the words of the definition.
-use Rattle.std.specs.Prelude.{◌≡◌, ℕ, List, Option, Some, None, option_map, Result, Ok, Err, codes}
+use Rattle.std.specs.Prelude.{◌≡◌, ℕ, List, Option, Some, None, Result, Ok, Err, codes}
 use Rattle.muen_outside.specs.States.{SinkState}
 use Rattle.asm_text.specs.FaultTexts.{source_fault_text}
 use Rattle.asm_text.specs.declared.fault.SourceFault.{SourceFault}
 use Rattle.asm_text.specs.declared.fault.SourceFault.TheVariants.{At as AtPlace, NoMemory as SourceMemory}
 use Rattle.asm_top.specs.Answers.{place_text}
 use Rattle.asm_top.specs.Calls.{Told, missing_text, too_long_text, usage_text}
-use Rattle.asm_top.specs.Commands.{Command as Asked, hex, lines, bin, text}
+use Rattle.asm_top.specs.Commands.{Command as Asked, hex, lines, bin, name_given, text}
 use Rattle.asm_top.specs.declared.command.Command.{Command}
 use Rattle.asm_top.specs.declared.command.Command.TheVariants.{Usage, Hex, Lines, Bin, Text}
 use Rattle.asm_top.specs.declared.report.CommandError.{CommandError}
@@ -16,9 +16,9 @@ use Rattle.asm_top.specs.declared.status.Status.TheVariants as statuses
 
 abbrev pub asked : Command → Option Asked
 asked Usage = None
-asked (Hex names source) = Some (hex (option_map (λ name. name.now) names) source.now)
-asked (Lines names source base) = Some (lines (option_map (λ name. name.now) names) source.now base)
-asked (Bin names source file) = Some (bin (option_map (λ name. name.now) names) source.now file.now)
+asked (Hex names source) = Some (hex (name_given names) source.now)
+asked (Lines names source base) = Some (lines (name_given names) source.now base)
+asked (Bin names source file) = Some (bin (name_given names) source.now file.now)
 asked (Text file) = Some (text file.now)
 
 abbrev pub error_text : CommandError → List ℕ

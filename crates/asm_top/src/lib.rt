@@ -22,9 +22,10 @@ use std::alloc::Global;
 /// `hex SOURCE` reads a source and puts its bytes to `out` in hexadecimal digits, with a line feed behind
 /// them. `lines SOURCE BASE` puts them as a listing, with addresses from BASE on, which is a number below
 /// 2^48. `bin SOURCE FILE` writes them under the name FILE, which is another, in one call of `files`.
-/// Before SOURCE may stand NAMES, another file, which is read first: the bytes are those of both texts, one after
-/// the other, with a line feed between them. `text FILE` reads a file of any bytes and puts a source of them. On every status but 0 one line that
-/// begins with `muen_asm: ` is put to `err`; a fault of `err` changes no status.
+/// Before SOURCE may stand NAMES, another file, which is read first: the bytes are those of both texts, one
+/// after the other, with a line feed between them. `text FILE` reads a file of any bytes and puts a source of
+/// them. On every status but 0 one line that begins with `muen_asm: ` is put to `err`; a fault of `err` changes
+/// no status.
 ///
 /// | Status | Comes | Line |
 /// |---|---|---|

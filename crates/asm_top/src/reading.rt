@@ -1,8 +1,9 @@
 //! What the commands read: a file in one look, and the bytes that a source says, behind names if a file of them is named.
-ghost use Rattle.std.specs.Prelude.{◌≡◌, ◌++◌, IfErr, IfOk, Ok, codes, option_map};
+ghost use Rattle.std.specs.Prelude.{◌≡◌, ◌++◌, IfErr, IfOk, Ok, codes};
 ghost use Rattle.muen_outside.specs.Store.{whole};
 ghost use Rattle.asm_text.specs.declared.fault.SourceFault.TheVariants.{At as AtPlace};
 ghost use Rattle.asm_top.specs.Answers.{ended, fault_text, line_feeds};
+ghost use Rattle.asm_top.specs.Commands.{name_given};
 ghost use Rattle.asm_top.specs.Parsed.{error_status, error_text};
 ghost use Rattle.asm_top.specs.Reads.{NotAssembled, SourceNotRead, Saw, SawSource};
 ghost use Rattle.asm_top.specs.declared.status.Status.TheVariants as statuses;
@@ -134,8 +135,8 @@ pub(crate) fn read_source<'a, F: Files>(
     source: &'a str,
     files: &mut F,
 ) -> Result<Vec<u8>, CommandError<'a>>
-    ensures ok { IfOk result (λ v. SawSource (option_map (λ name. name.now) names.entry) source.now (F.held files.old) (F.history files.old) (F.history files.new) (Ok v.items)) }
-    ensures err { IfErr result (NotAssembled (option_map (λ name. name.now) names.entry) source.now (F.held files.old) (F.history files.old) (F.history files.new)) }
+    ensures ok { IfOk result (λ v. SawSource (name_given names.entry) source.now (F.held files.old) (F.history files.old) (F.history files.new) (Ok v.items)) }
+    ensures err { IfErr result (NotAssembled (name_given names.entry) source.now (F.held files.old) (F.history files.old) (F.history files.new)) }
     ensures held { F.held files.new ≡ F.held files.old }
 {
     match names {

@@ -1,12 +1,12 @@
 //! The commands: what follows from the files that were read is put or written.
-ghost use Rattle.std.specs.Prelude.{◌≡◌, IfSome, map, option_map, string_bytes};
+ghost use Rattle.std.specs.Prelude.{◌≡◌, IfSome, map, string_bytes};
 ghost use Rattle.asm_listing.specs.Listing.{listing_of};
 ghost use Rattle.asm_listing.specs.Source.{source_of};
 ghost use Rattle.muen_outside.specs.Looks.{HeldAfter, ShowAll, looks_since, writes_since};
 ghost use Rattle.muen_outside.specs.States.{SinkState};
 ghost use Rattle.asm_top.specs.Answers.{hex_text};
 ghost use Rattle.asm_top.specs.Calls.{IsCall, ends};
-ghost use Rattle.asm_top.specs.Commands.{bin, command_of, hex, lines, text};
+ghost use Rattle.asm_top.specs.Commands.{bin, command_of, hex, lines, name_given, text};
 ghost use Rattle.asm_top.specs.Complete.{IsComplete};
 ghost use Rattle.asm_top.specs.Outcomes.{ComesOf, ComesTo, PutsTo, WritesTo};
 
@@ -87,7 +87,7 @@ fn print_hex<'a, F: Files, S: Sink>(
     files: &mut F,
     out: &mut S,
 ) -> Result<(), CommandError<'a>>
-    ensures { ComesTo (hex (option_map (λ name. name.now) names.entry) source.now) (F.held files.old) (F.held files.new) (F.history files.old) (F.history files.new) (S.state out.old) (S.state out.new) result }
+    ensures { ComesTo (hex (name_given names.entry) source.now) (F.held files.old) (F.held files.new) (F.history files.old) (F.history files.new) (S.state out.old) (S.state out.new) result }
 {
     match read_source(alloc, names, source, files) {
         Ok(bytes) => put_hex(alloc, &bytes, out),
@@ -104,7 +104,7 @@ fn print_lines<'a, F: Files, S: Sink>(
     files: &mut F,
     out: &mut S,
 ) -> Result<(), CommandError<'a>>
-    ensures { ComesTo (lines (option_map (λ name. name.now) names.entry) source.now base) (F.held files.old) (F.held files.new) (F.history files.old) (F.history files.new) (S.state out.old) (S.state out.new) result }
+    ensures { ComesTo (lines (name_given names.entry) source.now base) (F.held files.old) (F.held files.new) (F.history files.old) (F.history files.new) (S.state out.old) (S.state out.new) result }
 {
     match read_source(alloc, names, source, files) {
         Ok(bytes) => put_lines(alloc, base, &bytes, out),
@@ -120,7 +120,7 @@ fn write_bin<'a, F: Files>(
     file: &'a str,
     files: &mut F,
 ) -> Result<(), CommandError<'a>>
-    ensures { (out : SinkState) → ComesTo (bin (option_map (λ name. name.now) names.entry) source.now file.now) (F.held files.old) (F.held files.new) (F.history files.old) (F.history files.new) out out result }
+    ensures { (out : SinkState) → ComesTo (bin (name_given names.entry) source.now file.now) (F.held files.old) (F.held files.new) (F.history files.old) (F.history files.new) out out result }
 {
     match read_source(alloc, names, source, files) {
         Ok(bytes) => write_bytes(alloc, file, &bytes, files),

@@ -14,11 +14,24 @@ use Rattle.state_page.specs.declared.state.SubjectState.{SubjectState}
 use Rattle.guest_isa.specs.GuestIsa.{decode_of, effect_of}
 use Rattle.guest_isa.specs.declared.instr.Instr.{Instr}
 use Rattle.guest_isa.specs.declared.instr.Wish.{Wish}
-use Rattle.guest_isa.specs.declared.instr.Wish.TheVariants.{Nothing, Set as Sets, Load as Loads, Store as Stores, PortIn, PortOut, ReadMsr, WriteMsr, Tick, Call as Calls, Halt as Halts}
+use Rattle.guest_isa.specs.declared.instr.Wish.TheVariants.{Load as Loads, Store as Stores, PortIn, PortOut, ReadMsr, WriteMsr, Tick}
 use Rattle.guest_isa.specs.Named.{AreAlike, renamed_reach, renamed}
 use Rattle.guest_isa.specs.Step.{World, reach_of, word_at, loaded, stored_to, port_read, port_written, msr_read, msr_written, performed, executed, fetched, step}
 use Rattle.guest_isa.specs.declared.reach.Reach.{Reach}
 use Rattle.guest_isa.specs.declared.reach.Reach.TheVariants.{Reached, Refused}
+
+-- where an access leads by two looks: what relates their answers, and faults, relates the two
+pub reach_both : {X Y : Type 0} (R : Reach X → Reach Y → Type 0) (a : AccessKind → ℕ → Reach X) (b : AccessKind → ℕ → Reach Y) (kind : AccessKind) (size addr : ℕ)
+    → ((reason qualification at : ℕ) → R (Refused reason qualification at) (Refused reason qualification at))
+    → (addr % size ≡ 0 → addr < GUEST_END → R (a kind addr) (b kind addr)) → R (reach_of a kind size addr) (reach_of b kind size addr)
+reach_both R a b kind size addr refused led = by (addr % size == 0) (nat_le GUEST_END addr) refl refl
+  where
+    by : (fine high : Bool) → (addr % size == 0) ≡ fine → nat_le GUEST_END addr ≡ high
+        → R (if fine then (if high then Refused EXIT_EPT_VIOLATION (kind_bit kind) addr else a kind addr) else Refused EXIT_EXCEPTION 0 0)
+        (if fine then (if high then Refused EXIT_EPT_VIOLATION (kind_bit kind) addr else b kind addr) else Refused EXIT_EXCEPTION 0 0)
+    by true true e l = refused EXIT_EPT_VIOLATION (kind_bit kind) addr
+    by true false e l = led (eqb-true (addr % size) 0 e) (leb-false GUEST_END addr l)
+    by false high e l = refused EXIT_EXCEPTION 0 0
 
 module _ {X Y : Type 0} (f : X → ℕ → Y × ℕ) (a : World X) (b : World Y) (r : AreAlike f a b) where
   -- what an access reaches reads the same
@@ -26,32 +39,17 @@ module _ {X Y : Type 0} (f : X → ℕ → Y × ℕ) (a : World X) (b : World Y)
   Reads n (Reached target offset) = word_at n (b.bytes (f target offset).0) (f target offset).1 ≡ word_at n (a.bytes target) offset
   Reads n (Refused reason qualification addr) = Unit {0}
 
-  -- by whether the address is a multiple of the size, and whether it is below the end
-  abbrev by : {Z : Type 0} → Bool → Bool → AccessKind → ℕ → Reach Z → Reach Z
-  by fine high kind addr c =
-      if fine then (if high then Refused EXIT_EPT_VIOLATION (kind_bit kind) addr else c) else Refused EXIT_EXCEPTION 0 0
-
-  by_alike : (fine high : Bool) (kind : AccessKind) (addr : ℕ) (c : Reach X) (d : Reach Y) → (fine ≡ true → high ≡ false → d ≡ renamed_reach f c) → by fine high kind addr d ≡ renamed_reach f (by fine high kind addr c)
-  by_alike true true kind addr c d h = refl
-  by_alike true false kind addr c d h = h refl refl
-  by_alike false high kind addr c d h = refl
-
-  by_reads : (n : ℕ) (fine high : Bool) (kind : AccessKind) (addr : ℕ) (c : Reach X) → (fine ≡ true → high ≡ false → Reads n c) → Reads n (by fine high kind addr c)
-  by_reads n true true kind addr c h = tt
-  by_reads n true false kind addr c h = h refl refl
-  by_reads n false high kind addr c h = tt
-
-  reach_alike : (kind : AccessKind) (n addr : ℕ) → reach_of b.look kind n addr ≡ renamed_reach f (reach_of a.look kind n addr)
-  reach_alike kind n addr =
-      by_alike (addr % n == 0) (nat_le GUEST_END addr) kind addr (a.look kind addr) (b.look kind addr) (λ _ h. r.look kind addr (leb-false GUEST_END addr h))
-
   reads_of : (kind : AccessKind) (size : AccessSize) (addr : ℕ) → addr < GUEST_END → addr % count size ≡ 0 → (c : Reach X) → a.look kind addr ≡ c → Reads (count size) c
   reads_of kind size addr l h (Reached target offset) e = r.word kind addr size target offset l h e
   reads_of kind size addr l h (Refused reason qualification guest) e = tt
 
-  reach_reads : (kind : AccessKind) (size : AccessSize) (addr : ℕ) → Reads (count size) (reach_of a.look kind (count size) addr)
-  reach_reads kind size addr =
-      by_reads (count size) (addr % count size == 0) (nat_le GUEST_END addr) kind addr (a.look kind addr) (λ g h. reads_of kind size addr (leb-false GUEST_END addr h) (eqb-true (addr % count size) 0 g) (a.look kind addr) refl)
+  abbrev IsAlike : ℕ → Reach X → Reach Y → Type 0
+  IsAlike n c d = (d ≡ renamed_reach f c) × Reads n c
+
+  reach_alike : (kind : AccessKind) (size : AccessSize) (addr : ℕ) → IsAlike (count size) (reach_of a.look kind (count size) addr) (reach_of b.look kind (count size) addr)
+  reach_alike kind size addr =
+      reach_both (IsAlike (count size)) a.look b.look kind (count size) addr (λ reason qualification at. (refl, tt))
+      (λ aligned below. (r.look kind addr below, reads_of kind size addr below aligned (a.look kind addr) refl))
 
   loaded_alike : (s after : SubjectState) (reg n : ℕ) (c : Reach X) → Reads n c → loaded b.bytes s after reg n (renamed_reach f c) ≡ renamed f (loaded a.bytes s after reg n c)
   loaded_alike s after reg n (Reached target offset) e = rw e refl
@@ -78,12 +76,10 @@ module _ {X Y : Type 0} (f : X → ℕ → Y × ℕ) (a : World X) (b : World Y)
   msr_written_alike false s after index value = refl
 
   performed_alike : (s after : SubjectState) (wish : Wish) → performed b s after wish ≡ renamed f (performed a s after wish)
-  performed_alike s after Nothing = refl
-  performed_alike s after (Sets reg value) = refl
   performed_alike s after (Loads reg addr size) =
-      rw (reach_alike Read (count size) addr) (loaded_alike s after reg (count size) (reach_of a.look Read (count size) addr) (reach_reads Read size addr))
+      rw (reach_alike Read size addr).0 (loaded_alike s after reg (count size) (reach_of a.look Read (count size) addr) (reach_alike Read size addr).1)
   performed_alike s after (Stores addr size value) =
-      rw (reach_alike Write (count size) addr) (stored_alike s after addr size value (reach_of a.look Write (count size) addr))
+      rw (reach_alike Write size addr).0 (stored_alike s after addr size value (reach_of a.look Write (count size) addr))
   performed_alike s after (PortIn reg port size) =
       rw (r.input port (count size)) (port_read_alike s after reg port size (a.input port (count size)))
   performed_alike s after (PortOut port size value) =
@@ -92,8 +88,7 @@ module _ {X Y : Type 0} (f : X → ℕ → Y × ℕ) (a : World X) (b : World Y)
   performed_alike s after (WriteMsr index value) =
       rw (r.sets_msr index) (msr_written_alike (a.sets_msr index) s after index value)
   performed_alike s after (Tick reg) = rw r.tick refl
-  performed_alike s after (Calls number) = refl
-  performed_alike s after Halts = refl
+  performed_alike s after _ = refl
 
   executed_alike : (s : SubjectState) (i : Option Instr) → executed b s i ≡ renamed f (executed a s i)
   executed_alike s None = refl
@@ -106,4 +101,4 @@ module _ {X Y : Type 0} (f : X → ℕ → Y × ℕ) (a : World X) (b : World Y)
 
   pub step_alike : (s : SubjectState) → step b s ≡ renamed f (step a s)
   step_alike s =
-      rw (reach_alike Fetch 8 s.pc) (fetched_alike s (reach_of a.look Fetch 8 s.pc) (reach_reads Fetch Eight s.pc))
+      rw (reach_alike Fetch Eight s.pc).0 (fetched_alike s (reach_of a.look Fetch 8 s.pc) (reach_alike Fetch Eight s.pc).1)

@@ -12,48 +12,48 @@ use Rattle.guest_isa.specs.GuestIsa.{AreRows, Row, number_of, opcode_at, opcode_
 
 -- ---- the code's table
 
-pub at_number : (rows : List CodeRow) (n : ℕ) → AreRows rows → option_map (λ (r : CodeRow). r.1) (slice_get rows n) ≡ opcode_at n
+pub at_number : (rows : List CodeRow) (n : ℕ) → AreRows rows → option_map (λ (r : CodeRow). r.opcode) (slice_get rows n) ≡ opcode_at n
 at_number rows n e = among (slice_get rows n) ∙ ap (option_map (λ (r : Row). r.opcode)) (sym (slice_get-map row_shown rows n) ∙ ap (λ (rs : List Row). slice_get rs n) e)
   where
-    among : (o : Option CodeRow) → option_map (λ (r : CodeRow). r.1) o ≡ option_map (λ (r : Row). r.opcode) (option_map row_shown o)
+    among : (o : Option CodeRow) → option_map (λ (r : CodeRow). r.opcode) o ≡ option_map (λ (r : Row). r.opcode) (option_map row_shown o)
     among None = refl
     among (Some r) = refl
 
-word_among : (word : List ℕ) (rows : List CodeRow) → option_map (λ (r : CodeRow). r.1) (find (λ r. bytes_eq r.2.now word) rows)
+word_among : (word : List ℕ) (rows : List CodeRow) → option_map (λ (r : CodeRow). r.opcode) (find (λ r. bytes_eq r.word.now word) rows)
     ≡ option_map (λ (r : Row). r.opcode) (find (λ r. bytes_eq r.word word) (map row_shown rows))
 word_among word [] = refl
 word_among word (r ∷ rs) =
-    elim (bytes_eq r.2.now word) as (λ b. option_map (λ (r : CodeRow). r.1) (cond b (Some r) (find (λ r. bytes_eq r.2.now word) rs)) ≡ option_map (λ (r : Row). r.opcode) (cond b (Some (row_shown r)) (find (λ r. bytes_eq r.word word) (map row_shown rs)))) [
+    elim (bytes_eq r.word.now word) as (λ b. option_map (λ (r : CodeRow). r.opcode) (cond b (Some r) (find (λ r. bytes_eq r.word.now word) rs))
+    ≡ option_map (λ (r : Row). r.opcode) (cond b (Some (row_shown r)) (find (λ r. bytes_eq r.word word) (map row_shown rs)))) [
       | true ↦ refl
       | false ↦ word_among word rs
     ]
 
-pub with_word : (rows : List CodeRow) (word : List ℕ) → AreRows rows → option_map (λ (r : CodeRow). r.1) (find (λ r. bytes_eq r.2.now word) rows) ≡ opcode_with word
+pub with_word : (rows : List CodeRow) (word : List ℕ) → AreRows rows → option_map (λ (r : CodeRow). r.opcode) (find (λ r. bytes_eq r.word.now word) rows) ≡ opcode_with word
 with_word rows word e =
     word_among word rows ∙ ap (λ (rs : List Row). option_map (λ (r : Row). r.opcode) (find (λ r. bytes_eq r.word word) rs)) e
 
 -- ---- opcodes and numbers
 
-pub opcode_back : (o : Opcode) → opcode_at (number_of o) ≡ Some o
-unfolding row_of
-opcode_back Nop = refl
-opcode_back _ = refl
+-- what each row passes
+record IsRow (o : Opcode) : Type 0 where
+  back : opcode_at (number_of o) ≡ Some o
+  low : nat_lt (number_of o) 256 ≡ true
+  short : nat_le (length (word_of o)) 6 ≡ true
 
-below_end : (o : Opcode) → nat_lt (number_of o) 256 ≡ true
+row_is : (o : Opcode) → IsRow o
 unfolding row_of
-below_end Nop = refl
-below_end _ = refl
+row_is Nop = record { back = refl; low = refl; short = refl }
+row_is _ = record { back = refl; low = refl; short = refl }
+
+pub opcode_back : (o : Opcode) → opcode_at (number_of o) ≡ Some o
+opcode_back o = (row_is o).back
 
 pub number_low : (o : Opcode) → number_of o < 256
-number_low o = ltb-true (number_of o) 256 (below_end o)
-
-short : (o : Opcode) → nat_le (length (word_of o)) 6 ≡ true
-unfolding row_of
-short Nop = refl
-short _ = refl
+number_low o = ltb-true (number_of o) 256 (row_is o).low
 
 pub word_short : (o : Opcode) → length (word_of o) ≤ 6
-word_short o = leb-true (length (word_of o)) 6 (short o)
+word_short o = leb-true (length (word_of o)) 6 (row_is o).short
 
 -- from this number on
 are_numbered : ℕ → List Row → Bool

@@ -1,11 +1,13 @@
 -- The instruction of eight bytes is spelled by these bytes and no others, and what spells an instruction decodes to it.
-use Rattle.std.proofs.Common.{◌≡◌, ◌∙◌, ℕ, zero, suc, ◌+◌, ◌*◌, ◌/◌, ◌%◌, ◌^◌, ◌<◌, ◌==◌, Bool, true, false, List, [], ◌∷◌, length, get_or, Option, Some, None, ℤ, pos, negsuc, refl, sym, ap, w32, to_z-of_z, arith}
-use Rattle.std.specs.Prelude.{◌&&◌, ◌||◌, if◌then◌else◌, nat_le, option_and_then}
+use Rattle.std.proofs.Common.{◌≡◌, ◌∙◌, ℕ, zero, suc, ◌+◌, ◌-◌, ◌*◌, ◌/◌, ◌%◌, ◌^◌, ◌<◌, ◌==◌, Bool, true, false, ltb, List, [], ◌∷◌, length, get_or, Option, Some, None, ℤ, pos, negsuc, refl, sym, ap, w32, w64, to_z-of_z, arith}
+use Rattle.std.specs.Prelude.{IfSome, ◌&&◌, ◌||◌, if◌then◌else◌, nat_le, option_and_then}
 use Rattle.std.specs.Int.{bytes_low_first, byte_at, cast_signed, cast_unsigned, from_le_bytes, to_le_bytes}
 use Rattle.std.specs.Int.RustNames.{FitsSigned}
+use lib.Signed.{mag}
+use mir.Val.{sel}
 use Rattle.std.specs.List.{All}
 use Rattle.std.specs.Ordering.{int_eq}
-use Rattle.std.proofs.lemmas.Bool.{and_from, and_parts, eqb-true}
+use Rattle.std.proofs.lemmas.Bool.{and_from, and_parts, eqb-true, ltb-false, ltb-true}
 use Rattle.std.proofs.lemmas.Bool.Decides.{Decides-int_eq}
 use Rattle.std.proofs.lemmas.Int.{of_z-to_z}
 use Rattle.std.proofs.lemmas.List.Elements.{All-cons, All-nil}
@@ -96,11 +98,6 @@ eight _ imm l word = absurd (omega arith)
 
 -- ---- what fields decode to has these fields
 
--- what holds of an instruction, if there is one
-abbrev pub OfSome : (Instr → Type 0) → Option Instr → Type 0
-OfSome P None = Unit {0}
-OfSome P (Some i) = P i
-
 code_back : (code : ℕ) (size : AccessSize) → size_of code ≡ Some size → code_of size ≡ code
 code_back code size e = by (code == 0) (code == 1) (code == 2) (code == 3) refl refl refl refl e
   where
@@ -117,18 +114,18 @@ code_back code size e = by (code == 0) (code == 1) (code == 2) (code == 3) refl 
 
 -- whatever holds of each instruction of these fields that passes
 pub by_fields : (P : Instr → Type 0) (f : Fields) → ((o : Opcode) (size : AccessSize) → opcode_at f.opcode ≡ Some o → size_of f.size ≡ Some size → ((f.zero == 0) && is_in_row (instruction_by f o size)) ≡ true → P (instruction_by f o size))
-    → OfSome P (instruction_of f)
+    → IfSome (instruction_of f) P
 by_fields P f each = of_opcode (opcode_at f.opcode) refl
   where
-    of_test : (o : Opcode) (size : AccessSize) (t : Bool) → (t ≡ true → P (instruction_by f o size)) → OfSome P (if t then Some (instruction_by f o size) else None)
+    of_test : (o : Opcode) (size : AccessSize) (t : Bool) → (t ≡ true → P (instruction_by f o size)) → IfSome (if t then Some (instruction_by f o size) else None) P
     of_test o size true h = h refl
     of_test o size false h = tt
 
-    of_size : (o : Opcode) (s : Option AccessSize) → opcode_at f.opcode ≡ Some o → size_of f.size ≡ s → OfSome P (option_and_then (λ size. in_row f (instruction_by f o size)) s)
+    of_size : (o : Opcode) (s : Option AccessSize) → opcode_at f.opcode ≡ Some o → size_of f.size ≡ s → IfSome (option_and_then (λ size. in_row f (instruction_by f o size)) s) P
     of_size o None at e = tt
     of_size o (Some size) at e = of_test o size ((f.zero == 0) && is_in_row (instruction_by f o size)) (each o size at e)
 
-    of_opcode : (o : Option Opcode) → opcode_at f.opcode ≡ o → OfSome P (option_and_then (λ o. option_and_then (λ size. in_row f (instruction_by f o size)) (size_of f.size)) o)
+    of_opcode : (o : Option Opcode) → opcode_at f.opcode ≡ o → IfSome (option_and_then (λ o. option_and_then (λ size. in_row f (instruction_by f o size)) (size_of f.size)) o) P
     of_opcode None e = tt
     of_opcode (Some o) e = of_size o (size_of f.size) e refl
 
@@ -145,7 +142,7 @@ spelled_by b f low back = as_spelled (instruction_of f) (by_fields (λ i. fields
         let word = of_z-to_z w32 f.imm low in
         λ i. record { opcode = number i; rd = f.rd; rs = f.rs; size = code i; zero = none i; imm = word i }
 
-    as_spelled : (o : Option Instr) → OfSome (λ i. fields_for i ≡ f) o → AreSpelled o b
+    as_spelled : (o : Option Instr) → IfSome o (λ i. fields_for i ≡ f) → AreSpelled o b
     as_spelled None h = tt
     as_spelled (Some i) h = ap spelled h ∙ back
 
@@ -184,6 +181,20 @@ encoding_decodes i v fits = ap instruction_of (fields_back i v.0 v.1 fits) ∙ r
 pub fields_decode : (i : Instr) (f : Fields) (bytes : List ℕ) → f ≡ fields_for i → bytes ≡ spelled f → IsValid i → FitsSigned w32 i.imm → decode_of bytes ≡ Some i
 unfolding encoding_of
 fields_decode i f bytes e h v fits = ap decode_of (h ∙ ap spelled e) ∙ encoding_decodes i v fits
+
+-- ---- immediates
+
+-- a number that is read as 32 signed bits
+pub signed_fits : (n : ℕ) → FitsSigned w32 (cast_signed w32 n)
+signed_fits n = record { sfits = by (ltb n (2 ^ 31)) refl }
+  where
+    by : (t : Bool) → ltb n (2 ^ 31) ≡ t → mag (sel t (pos n) (negsuc (2 ^ 32 - suc n))) < 2 ^ 31
+    by true e = ltb-true n (2 ^ 31) e
+    by false e = omega (arith, ltb-false n (2 ^ 31) e)
+
+pub unsigned_word : (z : ℤ) → FitsSigned w32 z → cast_unsigned w64 z < 2 ^ 64
+unsigned_word (pos n) h = omega (arith, h.sfits)
+unsigned_word (negsuc n) h = omega (arith, h.sfits)
 
 -- ---- an encoding is eight bytes
 

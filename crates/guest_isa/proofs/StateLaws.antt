@@ -11,7 +11,6 @@ use Rattle.state_page.specs.Memory.{over, le_bytes, le_number}
 use Rattle.state_page.specs.PageFields.{number_at, padded}
 use Rattle.state_page.specs.StatePage.{flag, flags_of, page_bytes, registers_in, state_in, interrupts_bit, halted_bit, stopped_bit, exited_bit}
 use Rattle.state_page.proofs.PageLaws.{state_back}
-use Rattle.state_page.specs.States.{started}
 use Rattle.state_page.specs.declared.state.SubjectState.{SubjectState}
 use Rattle.guest_isa.specs.Finish.{injected, finished}
 use Rattle.guest_isa.specs.declared.finish.Finish.{Finish}
@@ -126,14 +125,3 @@ pub finished_fits : (how : Finish) (s : SubjectState) → FitsState s → FitsSt
 finished_fits On s f = record { many = f.many; regs = f.regs; pc = omega arith; epc = f.epc; vbase = f.vbase }
 finished_fits Halt s f = record { many = f.many; regs = f.regs; pc = omega arith; epc = f.epc; vbase = f.vbase }
 finished_fits Stop s f = record { many = f.many; regs = f.regs; pc = f.pc; epc = f.epc; vbase = f.vbase }
-
--- a subject begins with words
-pub started_fits : (entry : ℕ) → IsWord entry → FitsState (started entry)
-unfolding started
-started_fits entry h = record {
-  many = refl;
-  regs = All-replicate IsWord 16 0 (omega arith);
-  pc = h;
-  epc = omega arith;
-  vbase = omega arith;
-}

@@ -1,26 +1,23 @@
 -- A step keeps words, it stores where it looked, and it writes MSRs that may be written.
-use Rattle.std.proofs.Common.{◌≡◌, ◌∙◌, ℕ, suc, ◌+◌, ◌-◌, ◌*◌, ◌/◌, ◌%◌, ◌^◌, ◌<◌, ◌==◌, Bool, true, false, List, Option, Some, None, refl, subst, arith, length-set, w32, w64}
-use Rattle.std.specs.Prelude.{ℤ, pos, negsuc, not, nat_le, nat_lt, if◌then◌else◌, option_and_then}
-use Rattle.std.specs.Int.{cast_signed, cast_unsigned, to_le_bytes}
+use Rattle.std.proofs.Common.{◌≡◌, ◌∙◌, ℕ, ◌+◌, ◌*◌, ◌/◌, ◌%◌, ◌^◌, ◌<◌, ◌==◌, Bool, true, false, List, Option, Some, None, refl, subst, arith, length-set, w32, w64}
+use Rattle.std.specs.Prelude.{ℤ, IfSome, not, nat_lt}
+use Rattle.std.specs.Int.{cast_unsigned, to_le_bytes}
+use Rattle.std.specs.Int.RustNames.{FitsSigned}
 use Rattle.std.specs.Int.Bits.{and_lt}
-use Rattle.std.proofs.lemmas.Bool.Decides.{nat_tests}
 use Rattle.std.proofs.lemmas.List.Elements.{All-set}
 use Rattle.std.proofs.lemmas.Nat.{or_lt, xor_lt}
-use Rattle.std.proofs.lemmas.Bool.{eqb-true, leb-false}
 use Rattle.std.proofs.Math.Nat.{div-le_self}
-use mir.Val.{sel}
-use Rattle.muen_num.specs.Access.{kind_bit}
 use Rattle.muen_num.specs.AccessSize.{bytes_of as count}
 use Rattle.muen_num.specs.declared.access.AccessKind.TheVariants.{Read, Write, Fetch}
 use Rattle.muen_num.specs.declared.access.AccessSize.{AccessSize}
-use Rattle.muen_num.specs.declared.limits.TheConstants.{EXIT_EPT_VIOLATION, EXIT_EXCEPTION, GUEST_END}
+use Rattle.muen_num.specs.declared.limits.TheConstants.{GUEST_END}
 use Rattle.state_page.specs.Memory.{le_bytes}
 use Rattle.state_page.specs.declared.state.SubjectState.{SubjectState}
-use Rattle.guest_isa.specs.GuestIsa.{fields_of, decode_of, register, advanced, with_register, extended, offset_by, low_bytes, port_of, passed, set_register, jumped, jumped_if, effect_by, effect_of}
+use Rattle.guest_isa.specs.GuestIsa.{fields_of, decode_of, register, advanced, with_register, extended, passed, set_register, jumped, jumped_if, effect_by, effect_of}
 use Rattle.guest_isa.specs.declared.instr.Asked.{Asked}
 use Rattle.guest_isa.specs.declared.instr.Instr.{Instr}
 use Rattle.guest_isa.specs.declared.opcode.Opcode.{Opcode}
-use Rattle.guest_isa.specs.declared.opcode.Opcode.TheVariants.{Nop, Li, Lih, Mov, Add, Sub, And, Or, Xor, Shl, Shr, Load, Store, Jmp, Jz, Jnz, Jb, In, Out, Rdmsr, Wrmsr, Rdtsc, Vmcall, Hlt, Sti, Cli, Setv, Reti}
+use Rattle.guest_isa.specs.declared.opcode.Opcode.TheVariants.{Li, Lih, Mov, Add, Sub, And, Or, Xor, Shl, Shr, Jmp, Jz, Jnz, Jb, Wrmsr, Sti, Cli, Setv, Reti}
 use Rattle.guest_isa.specs.declared.instr.Wish.{Wish}
 use Rattle.guest_isa.specs.declared.instr.Wish.TheVariants.{Nothing, Set as Sets, Load as Loads, Store as Stores, PortIn, PortOut, ReadMsr, WriteMsr, Tick, Call as Calls, Halt as Halts}
 use Rattle.guest_isa.specs.Step.{World, Stored, MsrWrite, Answer, went_on, exits, sets, reach_of, word_at, loaded, stored_to, port_read, port_written, msr_read, msr_written, performed, executed, fetched, step}
@@ -28,7 +25,8 @@ use Rattle.guest_isa.specs.declared.end.Change.{Change}
 use Rattle.guest_isa.specs.declared.reach.Reach.{Reach}
 use Rattle.guest_isa.specs.declared.reach.Reach.TheVariants.{Reached, Refused}
 use Rattle.guest_isa.specs.Words.{IsWord, FitsState}
-use Rattle.guest_isa.proofs.Spelled.{OfSome, by_fields}
+use Rattle.guest_isa.proofs.Spelled.{by_fields, signed_fits, unsigned_low, unsigned_word}
+use Rattle.guest_isa.proofs.Alike.{reach_both}
 use Rattle.guest_isa.proofs.StateLaws.{word_below}
 
 -- what the world tells are words
@@ -52,37 +50,10 @@ pub record IsWritten {X : Type 0} (w : World X) (m : MsrWrite) : Type 0 where
   pub allowed : w.sets_msr m.index ≡ true
   pub word : IsWord m.value
 
--- ---- immediates
-
--- by its sign
-word_by : (n : ℕ) (small : Bool) → (small ≡ true → n < 2 ^ 31) → cast_unsigned w64 (sel small (pos n) (negsuc (2 ^ 32 - suc n))) < 2 ^ 64
-word_by n true h = let l = h refl in omega (arith, l)
-word_by n false h = omega arith
-
-half_by : (n : ℕ) (small : Bool) → (small ≡ true → n < 2 ^ 31) → cast_unsigned w32 (sel small (pos n) (negsuc (2 ^ 32 - suc n))) < 2 ^ 32
-half_by n true h = let l = h refl in omega (arith, l)
-half_by n false h = omega arith
-
-small_of : (n : ℕ) → nat_lt n (2 ^ 31) ≡ true → n < 2 ^ 31
-small_of n h = grind (arith, nat_tests, h)
-
--- a number that is read as 32 signed bits, written as 64 bits and as 32
-immediate_word : (n : ℕ) → cast_unsigned w64 (cast_signed w32 n) < 2 ^ 64
-immediate_word n = word_by n (nat_lt n (2 ^ 31)) (small_of n)
-
-immediate_half : (n : ℕ) → cast_unsigned w32 (cast_signed w32 n) < 2 ^ 32
-immediate_half n = half_by n (nat_lt n (2 ^ 31)) (small_of n)
-
--- the immediate of an instruction has the bits that it is read with: as a word, and as the half of one
-record FitsInstr (i : Instr) : Type 0 where
-  pub word : IsWord (extended i.imm)
-  pub half : cast_unsigned w32 i.imm < 2 ^ 32
-
-decoded : (b : List ℕ) → OfSome FitsInstr (decode_of b)
+-- the immediate of what is decoded has 32 bits
+decoded : (b : List ℕ) → IfSome (decode_of b) (λ i. FitsSigned w32 i.imm)
 unfolding decode_of
-decoded b =
-    let f = fields_of b in
-    by_fields FitsInstr f λ o size at sized test. record { word = immediate_word f.imm; half = immediate_half f.imm }
+decoded b = let f = fields_of b in by_fields (λ i. FitsSigned w32 i.imm) f λ o size at sized test. signed_fits f.imm
 
 -- ---- effects
 
@@ -136,10 +107,9 @@ joined_word low high h = omega (arith, h)
 shifted_word : (n m : ℕ) → IsWord n → IsWord (n / m)
 shifted_word n m h = omega (arith, h, div-le_self n m)
 
-effect_fits : (o : Opcode) (s : SubjectState) (i : Instr) → FitsInstr i → FitsState s → FitsAsked (effect_by o s i)
-effect_fits Nop s i h f = passed_fits s Nothing f tt
-effect_fits Li s i h f = set_fits s i.rd (extended i.imm) h.word f
-effect_fits Lih s i h f = set_fits s i.rd _ (joined_word (register s i.rd) (cast_unsigned w32 i.imm) h.half) f
+effect_fits : (o : Opcode) (s : SubjectState) (i : Instr) → FitsSigned w32 i.imm → FitsState s → FitsAsked (effect_by o s i)
+effect_fits Li s i h f = set_fits s i.rd (extended i.imm) (unsigned_word i.imm h) f
+effect_fits Lih s i h f = set_fits s i.rd _ (joined_word (register s i.rd) (cast_unsigned w32 i.imm) (unsigned_low i.imm h)) f
 effect_fits Mov s i h f = set_fits s i.rd (register s i.rs) (register_fits s i.rs f) f
 effect_fits Add s i h f = set_fits s i.rd _ (omega arith) f
 effect_fits Sub s i h f = set_fits s i.rd _ (omega arith) f
@@ -148,45 +118,29 @@ effect_fits Or s i h f = set_fits s i.rd _ (or_lt 64 (register s i.rd) (register
 effect_fits Xor s i h f = set_fits s i.rd _ (xor_lt 64 (register s i.rd) (register s i.rs) (register_fits s i.rd f) (register_fits s i.rs f)) f
 effect_fits Shl s i h f = set_fits s i.rd _ (omega arith) f
 effect_fits Shr s i h f = set_fits s i.rd _ (shifted_word (register s i.rd) (2 ^ (register s i.rs % 64)) (register_fits s i.rd f)) f
-effect_fits Load s i h f = passed_fits s (Loads i.rd (offset_by (register s i.rs) i.imm) i.size) f tt
-effect_fits Store s i h f =
-    passed_fits s (Stores (offset_by (register s i.rs) i.imm) i.size (low_bytes i.size (register s i.rd))) f tt
 effect_fits Jmp s i h f = jumped_fits s i.imm f
 effect_fits Jz s i h f = jumped_if_fits (register s i.rd == 0) s i.imm f
 effect_fits Jnz s i h f = jumped_if_fits (not (register s i.rd == 0)) s i.imm f
 effect_fits Jb s i h f = jumped_if_fits (nat_lt (register s i.rd) (register s i.rs)) s i.imm f
-effect_fits In s i h f = passed_fits s (PortIn i.rd (port_of (register s i.rs) i.imm) i.size) f tt
-effect_fits Out s i h f =
-    passed_fits s (PortOut (port_of (register s i.rs) i.imm) i.size (low_bytes i.size (register s i.rd))) f tt
-effect_fits Rdmsr s i h f = passed_fits s (ReadMsr i.rd (register s i.rs % 2 ^ 32)) f tt
 effect_fits Wrmsr s i h f =
     passed_fits s (WriteMsr (register s i.rs % 2 ^ 32) (register s i.rd)) f (register_fits s i.rd f)
-effect_fits Rdtsc s i h f = passed_fits s (Tick i.rd) f tt
-effect_fits Vmcall s i h f = passed_fits s (Calls (register s i.rs)) f tt
-effect_fits Hlt s i h f = passed_fits s Halts f tt
 effect_fits Sti s i h f = passed_fits (record s { interrupts = true }) Nothing (interrupts_fit s true f) tt
 effect_fits Cli s i h f = passed_fits (record s { interrupts = false }) Nothing (interrupts_fit s false f) tt
 effect_fits Setv s i h f =
     passed_fits (record s { vbase = register s i.rs }) Nothing (record { many = f.many; regs = f.regs; pc = f.pc; epc = f.epc; vbase = register_fits s i.rs f }) tt
 effect_fits Reti s i h f =
     record { after = record { many = f.many; regs = f.regs; pc = f.epc; epc = f.epc; vbase = f.vbase }; wish = tt }
+-- the others write no word in it
+effect_fits _ s i h f = passed_fits s _ f tt
 
 -- ---- answers
 
 module _ {X : Type 0} (w : World X) where
-  abbrev OnStored : Option (Stored X) → Type 0
-  OnStored None = Unit {0}
-  OnStored (Some st) = IsStored w st
-
-  abbrev OnWritten : Option MsrWrite → Type 0
-  OnWritten None = Unit {0}
-  OnWritten (Some m) = IsWritten w m
-
   -- the answer of a step from this state
   record IsAnswer (s : SubjectState) (a : Answer X) : Type 0 where
     pub state : FitsWorld w → FitsState s → FitsState a.state
-    pub stored : OnStored a.stored
-    pub msr : FitsState s → OnWritten a.msr
+    pub stored : IfSome a.stored (IsStored w)
+    pub msr : FitsState s → IfSome a.msr (IsWritten w)
 
   is_plain : (s after : SubjectState) (change : Change) → (FitsWorld w → FitsState s → FitsState after) → IsAnswer s (went_on after change)
   is_plain s after change h = record { state = λ v f. exited_fits after false (h v f); stored = tt; msr = λ f. tt }
@@ -208,23 +162,14 @@ module _ {X : Type 0} (w : World X) where
       (addr < GUEST_END) × (addr % count size ≡ 0) × (w.look Write addr ≡ Reached target offset)
   Looked size addr (Refused reason qualification guest) = Unit {0}
 
-  -- by whether the address is a multiple of the size, and whether it is beyond the end
-  abbrev by : Bool → Bool → ℕ → Reach X → Reach X
-  by fine high addr c =
-      if fine then (if high then Refused EXIT_EPT_VIOLATION (kind_bit Write) addr else c) else Refused EXIT_EXCEPTION 0 0
-
-  by_looked : (size : AccessSize) (fine high : Bool) (addr : ℕ) (c : Reach X) → (fine ≡ true → high ≡ false → Looked size addr c) → Looked size addr (by fine high addr c)
-  by_looked size true true addr c h = tt
-  by_looked size true false addr c h = h refl refl
-  by_looked size false high addr c h = tt
-
   looked_of : (size : AccessSize) (addr : ℕ) (c : Reach X) → addr < GUEST_END → addr % count size ≡ 0 → w.look Write addr ≡ c → Looked size addr c
   looked_of size addr (Reached target offset) l a e = (l, a, e)
   looked_of size addr (Refused reason qualification guest) l a e = tt
 
   looked : (size : AccessSize) (addr : ℕ) → Looked size addr (reach_of w.look Write (count size) addr)
   looked size addr =
-      by_looked size (addr % count size == 0) (nat_le GUEST_END addr) addr (w.look Write addr) (λ a l. looked_of size addr (w.look Write addr) (leb-false GUEST_END addr l) (eqb-true (addr % count size) 0 a) refl)
+      reach_both (λ c d. Looked size addr c) w.look w.look Write (count size) addr (λ reason qualification at. tt)
+      (λ aligned below. looked_of size addr (w.look Write addr) below aligned refl)
 
   is_stored : (s after : SubjectState) (addr : ℕ) (size : AccessSize) (value : ℕ) (c : Reach X) → Looked size addr c → (FitsState s → FitsState after) → IsAnswer s (stored_to s after addr size value c)
   is_stored s after addr size value (Reached target offset) l h = record {
@@ -270,7 +215,7 @@ module _ {X : Type 0} (w : World X) where
   is_performed s after (Calls number) h g = is_exit s _ 0 0 number
   is_performed s after Halts h g = is_exit s _ 0 0 0
 
-  is_executed : (s : SubjectState) (o : Option Instr) → OfSome FitsInstr o → IsAnswer s (executed w s o)
+  is_executed : (s : SubjectState) (o : Option Instr) → IfSome o (λ i. FitsSigned w32 i.imm) → IsAnswer s (executed w s o)
   is_executed s None d = is_exit s _ 0 0 0
   is_executed s (Some i) d =
       is_performed s (effect_of s i).after (effect_of s i).wish (λ f. (effect_fits i.opcode s i d f).after) (λ f. (effect_fits i.opcode s i d f).wish)
@@ -283,20 +228,14 @@ module _ {X : Type 0} (w : World X) where
   is_answer : (s : SubjectState) → IsAnswer s (step w s)
   is_answer s = is_fetched s (reach_of w.look Fetch 8 s.pc)
 
-  is_some_stored : (o : Option (Stored X)) (st : Stored X) → OnStored o → o ≡ Some st → IsStored w st
-  is_some_stored o st h e = subst OnStored e h
-
-  is_some_written : (o : Option MsrWrite) (m : MsrWrite) → OnWritten o → o ≡ Some m → IsWritten w m
-  is_some_written o m h e = subst OnWritten e h
-
   -- a step keeps words
   pub step_fits : (s : SubjectState) → FitsWorld w → FitsState s → FitsState (step w s).state
   step_fits s v f = (is_answer s).state v f
 
   -- what a step stores was looked up
   pub step_stored : (s : SubjectState) (st : Stored X) → (step w s).stored ≡ Some st → IsStored w st
-  step_stored s st e = is_some_stored (step w s).stored st (is_answer s).stored e
+  step_stored s st e = subst (λ o. IfSome o (IsStored w)) e (is_answer s).stored
 
   -- an MSR that a step writes may be written
   pub step_msr : (s : SubjectState) (m : MsrWrite) → FitsState s → (step w s).msr ≡ Some m → IsWritten w m
-  step_msr s m f e = is_some_written (step w s).msr m ((is_answer s).msr f) e
+  step_msr s m f e = subst (λ o. IfSome o (IsWritten w)) e ((is_answer s).msr f)

@@ -68,7 +68,7 @@ table =
 
 -- a row of the code's own table
 abbrev pub row_shown : CodeRow → Row
-row_shown r = row r.0 r.1 r.2.now r.3
+row_shown r = row r.number r.opcode r.word.now r.shape
 
 -- rows of the code that are the table
 abbrev pub AreRows : List CodeRow → Type 0
@@ -138,7 +138,7 @@ abbrev pub AreValid : Option Instr → Type 0
 AreValid None = Unit {0}
 AreValid (Some i) = IsValid i
 
--- the instruction with these fields, as far as they are named, or as its row names them
+-- the instruction with these fields, as far as they are named, or as its row names them; a size of more bytes is of one
 abbrev pub instruction_named : Named → Opcode → ℕ → ℕ → AccessSize → ℤ → Instr
 instruction_named n o rd rs size imm =
     instr o (if n.rd then rd else 0) (if n.rs then rs else 0) (if nat_le (bytes_of size) n.most then size else One) (if n.imm then imm else pos 0)

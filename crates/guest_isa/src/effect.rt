@@ -172,84 +172,47 @@ pub fn carry_out(s: &mut SubjectState, i: Instr) -> Wish
 {
     let Instr {
         opcode,
-        rd,
+        rd: reg,
         rs,
         size,
         imm,
     } = i;
+    let (own, other) = (register(s, reg), register(s, rs));
+    let (addr, port, index) = (offset_by(other, imm), port_of(other, imm), low_half(other));
     match opcode {
         Opcode::Nop => pass(Wish::Nothing, s),
-        Opcode::Li => set(rd, extended(imm), s),
-        Opcode::Lih => set(rd, with_high(register(s, rd), imm), s),
-        Opcode::Mov => set(rd, register(s, rs), s),
-        Opcode::Add => set(rd, register(s, rd).wrapping_add(register(s, rs)), s),
-        Opcode::Sub => set(rd, register(s, rd).wrapping_sub(register(s, rs)), s),
-        Opcode::And => set(rd, register(s, rd) & register(s, rs), s),
-        Opcode::Or => set(rd, register(s, rd) | register(s, rs), s),
-        Opcode::Xor => set(rd, register(s, rd) ^ register(s, rs), s),
-        Opcode::Shl => set(rd, register(s, rd) << (register(s, rs) % 64), s),
-        Opcode::Shr => set(rd, register(s, rd) >> (register(s, rs) % 64), s),
-        Opcode::Load => pass(
-            Wish::Load {
-                reg: rd,
-                addr: offset_by(register(s, rs), imm),
-                size,
-            },
-            s,
-        ),
-        Opcode::Store => pass(
-            Wish::Store {
-                addr: offset_by(register(s, rs), imm),
-                size,
-                value: low_bytes(size, register(s, rd)),
-            },
-            s,
-        ),
+        Opcode::Li => set(reg, extended(imm), s),
+        Opcode::Lih => set(reg, with_high(own, imm), s),
+        Opcode::Mov => set(reg, other, s),
+        Opcode::Add => set(reg, own.wrapping_add(other), s),
+        Opcode::Sub => set(reg, own.wrapping_sub(other), s),
+        Opcode::And => set(reg, own & other, s),
+        Opcode::Or => set(reg, own | other, s),
+        Opcode::Xor => set(reg, own ^ other, s),
+        Opcode::Shl => set(reg, own << (other % 64), s),
+        Opcode::Shr => set(reg, own >> (other % 64), s),
+        Opcode::Load => pass(Wish::Load { reg, addr, size }, s),
+        Opcode::Store => {
+            let value = low_bytes(size, own);
+            pass(Wish::Store { addr, size, value }, s)
+        }
         Opcode::Jmp => jump(imm, s),
-        Opcode::Jz => jump_if(register(s, rd) == 0, imm, s),
-        Opcode::Jnz => jump_if(register(s, rd) != 0, imm, s),
-        Opcode::Jb => jump_if(register(s, rd) < register(s, rs), imm, s),
-        Opcode::In => pass(
-            Wish::PortIn {
-                reg: rd,
-                port: port_of(register(s, rs), imm),
-                size,
-            },
-            s,
-        ),
-        Opcode::Out => pass(
-            Wish::PortOut {
-                port: port_of(register(s, rs), imm),
-                size,
-                value: few_low_bytes(size, register(s, rd)),
-            },
-            s,
-        ),
-        Opcode::Rdmsr => pass(
-            Wish::ReadMsr {
-                reg: rd,
-                index: low_half(register(s, rs)),
-            },
-            s,
-        ),
-        Opcode::Wrmsr => pass(
-            Wish::WriteMsr {
-                index: low_half(register(s, rs)),
-                value: register(s, rd),
-            },
-            s,
-        ),
-        Opcode::Rdtsc => pass(Wish::Tick { reg: rd }, s),
-        Opcode::Vmcall => pass(
-            Wish::Call {
-                number: register(s, rs),
-            },
-            s,
-        ),
+        Opcode::Jz => jump_if(own == 0, imm, s),
+        Opcode::Jnz => jump_if(own != 0, imm, s),
+        Opcode::Jb => jump_if(own < other, imm, s),
+        Opcode::In => pass(Wish::PortIn { reg, port, size }, s),
+        Opcode::Out => {
+            let value = few_low_bytes(size, own);
+            pass(Wish::PortOut { port, size, value }, s)
+        }
+        Opcode::Rdmsr => pass(Wish::ReadMsr { reg, index }, s),
+        Opcode::Wrmsr => pass(Wish::WriteMsr { index, value: own }, s),
+        Opcode::Rdtsc => pass(Wish::Tick { reg }, s),
+        Opcode::Vmcall => pass(Wish::Call { number: other }, s),
         Opcode::Hlt => pass(Wish::Halt, s),
         Opcode::Sti => let_in(true, s),
         Opcode::Cli => let_in(false, s),
-        Opcode::Setv => set_handlers(register(s, rs), s),
+        Opcode::Setv => set_handlers(other, s),
         Opcode::Reti => resume(s),
     }
 }

@@ -19,7 +19,8 @@ pub struct Instr {
 }
 
 impl Instr {
-    /// The instruction with these fields, as far as its row names them.
+    /// The instruction with these fields, as far as its row names them: others are 0, and a size of
+    /// more bytes than the row allows is of one.
     #[tactic(auto, using(crate::proofs::Spelled::valid_with))]
     pub fn new(opcode: Opcode, rd: u8, rs: u8, size: AccessSize, imm: i32) -> Instr
         ensures instruction { result ≡ instruction_with opcode rd rs size imm }

@@ -127,40 +127,58 @@ impl Shape {
     }
 }
 
-// A row: its number, what it does, its word, and the fields of its instructions.
+// A row. Its number is its index in the table: it is written out for the reader, and proved to agree.
 #[derive(Clone, Copy)]
-struct Row(u8, Opcode, &'static str, Shape);
+struct Row {
+    number: u8,
+    opcode: Opcode,
+    // Its word in a source.
+    word: &'static str,
+    // The fields of its instructions.
+    shape: Shape,
+}
+
+macro_rules! row {
+    ($number:expr, $opcode:ident, $word:expr, $shape:ident) => {
+        Row {
+            number: $number,
+            opcode: Opcode::$opcode,
+            word: $word,
+            shape: Shape::$shape,
+        }
+    };
+}
 
 /// The table, by number.
 static ROWS: [Row; 28] = [
-    Row(0x00, Opcode::Nop, "NOP", Shape::Alone),
-    Row(0x01, Opcode::Li, "LI", Shape::Immediate),
-    Row(0x02, Opcode::Lih, "LIH", Shape::High),
-    Row(0x03, Opcode::Mov, "MOV", Shape::Pair),
-    Row(0x04, Opcode::Add, "ADD", Shape::Pair),
-    Row(0x05, Opcode::Sub, "SUB", Shape::Pair),
-    Row(0x06, Opcode::And, "AND", Shape::Pair),
-    Row(0x07, Opcode::Or, "OR", Shape::Pair),
-    Row(0x08, Opcode::Xor, "XOR", Shape::Pair),
-    Row(0x09, Opcode::Shl, "SHL", Shape::Pair),
-    Row(0x0a, Opcode::Shr, "SHR", Shape::Pair),
-    Row(0x0b, Opcode::Load, "LOAD", Shape::Memory),
-    Row(0x0c, Opcode::Store, "STORE", Shape::Memory),
-    Row(0x0d, Opcode::Jmp, "JMP", Shape::Jump),
-    Row(0x0e, Opcode::Jz, "JZ", Shape::JumpIf),
-    Row(0x0f, Opcode::Jnz, "JNZ", Shape::JumpIf),
-    Row(0x10, Opcode::Jb, "JB", Shape::JumpBelow),
-    Row(0x11, Opcode::In, "IN", Shape::PortRead),
-    Row(0x12, Opcode::Out, "OUT", Shape::PortWrite),
-    Row(0x13, Opcode::Rdmsr, "RDMSR", Shape::Pair),
-    Row(0x14, Opcode::Wrmsr, "WRMSR", Shape::Pair),
-    Row(0x15, Opcode::Rdtsc, "RDTSC", Shape::Destination),
-    Row(0x16, Opcode::Vmcall, "VMCALL", Shape::Source),
-    Row(0x17, Opcode::Hlt, "HLT", Shape::Alone),
-    Row(0x18, Opcode::Sti, "STI", Shape::Alone),
-    Row(0x19, Opcode::Cli, "CLI", Shape::Alone),
-    Row(0x1a, Opcode::Setv, "SETV", Shape::Source),
-    Row(0x1b, Opcode::Reti, "RETI", Shape::Alone),
+    row!(0x00, Nop, "NOP", Alone),
+    row!(0x01, Li, "LI", Immediate),
+    row!(0x02, Lih, "LIH", High),
+    row!(0x03, Mov, "MOV", Pair),
+    row!(0x04, Add, "ADD", Pair),
+    row!(0x05, Sub, "SUB", Pair),
+    row!(0x06, And, "AND", Pair),
+    row!(0x07, Or, "OR", Pair),
+    row!(0x08, Xor, "XOR", Pair),
+    row!(0x09, Shl, "SHL", Pair),
+    row!(0x0a, Shr, "SHR", Pair),
+    row!(0x0b, Load, "LOAD", Memory),
+    row!(0x0c, Store, "STORE", Memory),
+    row!(0x0d, Jmp, "JMP", Jump),
+    row!(0x0e, Jz, "JZ", JumpIf),
+    row!(0x0f, Jnz, "JNZ", JumpIf),
+    row!(0x10, Jb, "JB", JumpBelow),
+    row!(0x11, In, "IN", PortRead),
+    row!(0x12, Out, "OUT", PortWrite),
+    row!(0x13, Rdmsr, "RDMSR", Pair),
+    row!(0x14, Wrmsr, "WRMSR", Pair),
+    row!(0x15, Rdtsc, "RDTSC", Destination),
+    row!(0x16, Vmcall, "VMCALL", Source),
+    row!(0x17, Hlt, "HLT", Alone),
+    row!(0x18, Sti, "STI", Alone),
+    row!(0x19, Cli, "CLI", Alone),
+    row!(0x1a, Setv, "SETV", Source),
+    row!(0x1b, Reti, "RETI", Alone),
 ];
 
 // The row of this number among rows.
@@ -175,14 +193,14 @@ fn opcode_in(rows: &[Row], number: u8) -> Option<Opcode>
     ensures { result ≡ opcode_at number }
 {
     let row = row_in(rows, number)?;
-    Some(row.1)
+    Some(row.opcode)
 }
 
 // The row with this word among rows.
 fn row_with(rows: &[Row], word: &[u8]) -> Option<Row>
-    ensures { result ≡ find (λ r. bytes_eq r.2.now word.now) rows.now }
+    ensures { result ≡ find (λ r. bytes_eq r.word.now word.now) rows.now }
 {
-    rows.iter().copied().find(|row| row.2.as_bytes() == word)
+    rows.iter().copied().find(|row| row.word.as_bytes() == word)
 }
 
 fn opcode_with(rows: &[Row], word: &[u8]) -> Option<Opcode>
@@ -190,7 +208,7 @@ fn opcode_with(rows: &[Row], word: &[u8]) -> Option<Opcode>
     ensures { result ≡ opcode_with word.now }
 {
     let row = row_with(rows, word)?;
-    Some(row.1)
+    Some(row.opcode)
 }
 
 impl Opcode {
@@ -219,7 +237,7 @@ impl Opcode {
     pub(crate) fn number(self) -> u8
         ensures { result ≡ number_of self }
     {
-        self.row().0
+        self.row().number
     }
 
     /// Its word in a source.
@@ -227,13 +245,13 @@ impl Opcode {
         ensures word { result.now ≡ word_of self }
         ensures short { length result.now ≤ 6 }
     {
-        self.row().2
+        self.row().word
     }
 
     /// Which fields its instructions have.
     pub fn shape(self) -> Shape
         ensures { result ≡ shape_of self }
     {
-        self.row().3
+        self.row().shape
     }
 }

@@ -30,8 +30,6 @@ pub record Regions (all : List SpanPart) (left : List Region) (addresses : List 
   pub few : length made + length left ≤ 2 ^ 16
   pub small : All (λ r. r.size / PAGE < 2 ^ 32) left
 
-}
-
 module _ (all : List SpanPart) (left : List Region) (addresses : List ℕ) (made : List SpanPart) (h : Regions all left addresses made) where
   module _ (r : Region) (rs : List Region) (is : left ≡ r ∷ rs) where
     -- the next can be made

@@ -37,7 +37,7 @@ const EXITS: [(u64, u64, u64, u8, u64, u64); 31] = [
     (PC, 0x210c, 0x40_7000, 48, 0xa, 0x40_7000),
     (PC, 0x03_210c, 0x40_6000, 49, 0, 0x40_6000),
     // no instructions, and one that halts
-    (PC, 0x1c, 0, 0, 0, 0),
+    (PC, 0xff, 0, 0, 0, 0),
     (PC, 0xff_0000_0000, 0, 0, 0, 0),
     (PC, 0x17, 0, 12, 0, 0),
     // ports: one that isn't granted, one of four that isn't, and a wrap past the last

@@ -4,7 +4,7 @@ use Rattle.muen_outside.specs.Buffered.{OutState}
 use Rattle.muen_outside.specs.Prints.{out_state}
 use Rattle.muen_outside.proofs.Buffered.{gives_exit}
 use Rattle.asm_listing.specs.Source.{source_of}
-use Rattle.asm_listing.proofs.Printing.{IsCut, some_bytes, printing_all, source_end, source_lost, source_step}
+use Rattle.asm_listing.proofs.Printing.{IsCut, some_bytes, printing_all, printing_lost, printing_more, source_cut, source_end}
 use Rattle.asm_listing.proofs.source.put_lines.Goals as goal
 
 pub returns-in_err-put_line : goal.returns-in_err-put_line
@@ -15,7 +15,8 @@ returns-in_err-put_line g c =
     let rest = c.loop-rest.rest.now in
     let cut : IsCut rest c.split_at.result.0.now c.split_at.result.1.now c.min.result =
     record { some = some_bytes rest (sym c.is_empty.ensures ∙ c.loop-rest-test.true); at = omega arith; front = c.split_at.ensures.front; back = c.split_at.ensures.back } in
-    (search rules, gives_exit (source_of c.args.bytes.now) s u _ c.from_residual.ensures.0 (source_lost c.args.bytes.now rest c.split_at.result.0.now c.split_at.result.1.now c.min.result s t u cut c.loop-rest.invariant.1 c.in_err-put_line.ensures.1))
+    let next = source_cut rest c.split_at.result.0.now c.split_at.result.1.now c.min.result cut in
+    (search rules, gives_exit (source_of c.args.bytes.now) s u _ c.from_residual.ensures.0 (printing_lost _ (source_of rest) _ _ s t u next c.loop-rest.invariant.1 c.in_err-put_line.ensures.1))
 
 pub loop-rest-preserved : goal.loop-rest-preserved
 loop-rest-preserved g c =
@@ -25,7 +26,8 @@ loop-rest-preserved g c =
     let rest = c.loop-rest.rest.now in
     let cut : IsCut rest c.split_at.result.0.now c.split_at.result.1.now c.min.result =
     record { some = some_bytes rest (sym c.is_empty.ensures ∙ c.loop-rest-test.true); at = omega arith; front = c.split_at.ensures.front; back = c.split_at.ensures.back } in
-    (search rules, source_step c.args.bytes.now rest c.split_at.result.0.now c.split_at.result.1.now c.min.result s t u cut c.loop-rest.invariant.1 c.in_ok-put_line.ensures.1)
+    let next = source_cut rest c.split_at.result.0.now c.split_at.result.1.now c.min.result cut in
+    (search rules, printing_more _ (source_of rest) _ _ s t u next c.loop-rest.invariant.1 c.in_ok-put_line.ensures.1)
 
 pub returns : goal.returns
 returns g c =

@@ -1,4 +1,4 @@
-use Rattle.std.proofs.Common.{◌≡◌, ◌+◌, ◌<◌, ◌≤◌, ◌^◌, ◌∙◌, length, get_or, sym, arith, rules}
+use Rattle.std.proofs.Common.{◌≡◌, ◌+◌, ◌<◌, ◌≤◌, ◌^◌, ◌∙◌, length, get_or, Err, ap, sym, arith, rules}
 use Rattle.asm_text.proofs.RangeLaws.{magnitude_read, no_such_name, sum_fits, sum_grown, sum_read, sums_end, within_more}
 use Rattle.asm_text.proofs.meaning.sum_of.Goals as goal
 
@@ -6,7 +6,9 @@ pub returns-in_default-clause-sum : goal.returns-in_default-clause-sum
 returns-in_default-clause-sum c =
     let there : c.loop-term.term-index < length c.args.terms.now = search rules in
     let is : c.term-item.result ≡ get_or c.args.terms.now c.loop-term.term-index c.term-item.result = search rules in
-    sym (no_such_name c.args.names.now.entries c.loop-term.sum c.args.terms.now c.term-item.result c.loop-term.term-index there is (sym c.in_default.ensures.value)) ∙ c.loop-term.invariant.same
+    ap Err c.wanted.ensures
+    ∙ sym (no_such_name c.args.names.now.entries c.loop-term.sum c.args.terms.now c.term-item.result c.loop-term.term-index there is (sym c.in_default.ensures.value))
+    ∙ c.loop-term.invariant.same
 
 pub overflow_add-sum : goal.overflow_add-sum
 overflow_add-sum c =
