@@ -10,6 +10,7 @@ use Rattle.dma_tables.specs.Tables.{IsDmaFile}
 use Rattle.dma_tables.specs.declared.file.DmaFile.{DmaFile}
 use Rattle.dma_tables.specs.parts.Image.{Image}
 use Rattle.policy_lawful.specs.Contents.{Held}
+use Rattle.policy_lawful.specs.source.Source.{Source}
 use Rattle.policy_lawful.specs.Dma.{dma_access}
 use Rattle.policy_lawful.specs.Resolution.{source_of}
 use Rattle.proof_build.specs.Built.{HasSpans}
@@ -26,13 +27,17 @@ EmittedTablesFit =
     → dma_walk t device addr true ≡ placed_at x (dma_access (source_of x.expanded.lawful) device addr (device_access_kind true)))
     → Fit (source_of x.expanded.lawful) i (Some t)
 
--- these bytes are the file of the tables of a placed policy's domains, which lie in the lowest pages that are free
-pub record AreFileOfTables (x : Placement) (bytes : List ℕ) : Type 0 where
+-- these bytes are the file of the tables of a policy's domains, as some placement of it has them, which lie in the lowest pages that
+-- are free
+pub record AreFileOfTables (p : Source) (bytes : List ℕ) : Type 0 where
+  pub placement : Placement
+  pub of_policy : source_of placement.expanded.lawful ≡ p
+  pub placed : IsPlaced placement
   pub tables : DmaFile
   pub bytes_are : IsDmaFile bytes tables
-  pub of_domains : IsFileOf (domains_of x) tables
-  pub base : IsBase (source_of x.expanded.lawful) (length tables.pages) tables.base
+  pub of_domains : IsFileOf (domains_of placement) tables
+  pub base : IsBase p (length tables.pages) tables.base
 
 -- no two files are
 abbrev pub DomainTablesAreOne : Type 0
-DomainTablesAreOne = (x : Placement) (a b : List ℕ) → AreFileOfTables x a → AreFileOfTables x b → a ≡ b
+DomainTablesAreOne = (p : Source) (a b : List ℕ) → AreFileOfTables p a → AreFileOfTables p b → a ≡ b

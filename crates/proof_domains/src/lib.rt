@@ -13,8 +13,8 @@ pub fn emitted_tables_fit()
     ensures { EmittedTablesFit }
 {}
 
-/// What bytes are the file of the tables of a placed policy's domains is fixed to the last byte: root
-/// table, context tables, each domain's tables, the list of devices, and where they lie.
+/// Of a policy there is one file of the tables of its domains, to the last byte: root table, context
+/// tables, each domain's tables, the list of devices, and where they lie. So two builds write the same.
 pub fn domain_tables_are_one()
     ensures { DomainTablesAreOne }
 {}
