@@ -3,44 +3,12 @@ ghost use Rattle.muen_outside.specs.MemFiles.{next_call_count};
 ghost use Rattle.muen_outside.specs.Puts.{Puts};
 ghost use Rattle.muen_outside.specs.MemSink.{taken, fails_at, next_sink_call_fails, sink_of};
 
+use crate::fault_count::{Count, OneMore, Start};
 use crate::mem_files::is_listed;
 use crate::sink::{Sink, SinkFault};
-use muen_num::{NoMemory, Tells, Told};
+use muen_num::{NoMemory, Told};
 use std::alloc::Global;
 use std::marker::Model;
-
-// A count, in clauses alone: no value of this type is made.
-struct Count {
-    none: (),
-}
-
-impl Model for Count {
-    ghost use Rattle.std.specs.Prelude.{ℕ};
-
-    ghost Value = { ℕ };
-
-    ghost view = { λ _. 0 };
-}
-
-// None was counted.
-#[derive(Drop)]
-struct Start;
-
-impl Tells<Count> for Start {
-    ghost tells = { λ _. 0 };
-}
-
-// One more was counted.
-#[derive(Drop)]
-struct OneMore<'a> {
-    before: &'a Told<Count>,
-}
-
-impl Tells<Count> for OneMore<'_> {
-    ghost use Rattle.std.specs.Prelude.{◌+◌};
-
-    ghost tells = { λ m. m.before.now.value + 1 };
-}
 
 /// A sink in memory, whose room is made before. It fails at the calls whose numbers are listed, and
 /// at those whose bytes don't fit.

@@ -36,7 +36,7 @@ pub trait Sink {
     ghost state: { Self → SinkState };
 
     /// Hands on the bytes. Where it fails it has handed on a front of them, maybe all or none. No
-    /// call takes memory.
+    /// call takes memory, but that of a `GrowingSink`.
     fn put(&mut self, bytes: &[u8]) -> Result<(), SinkFault>
         ensures { Puts bytes.now (state self.old) (state self.new) result };
 }
