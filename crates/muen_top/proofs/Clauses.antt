@@ -70,7 +70,7 @@ last_well ws image tables p files well (tables_last bytes of name file named tab
     (All-pop (λ w. w.end ≢ Err FileFailed) ws (write image bytes (Ok tt) ∷ []) (Some (write name file (Err FileFailed))) is well).1 refl
 
 -- no look is the last of none
-none_ends : (front : List Look) (l : Look) → [] ≡ front ++ l ∷ [] → ⊥
+pub none_ends : (front : List Look) (l : Look) → [] ≡ front ++ l ∷ [] → ⊥
 none_ends [] l e = cc (e)
 none_ends (x ∷ xs) l e = cc (e)
 

@@ -1,7 +1,6 @@
--- What `boot` prints of the files that are generated of a number.
-use Rattle.std.proofs.Common.{◌≡◌, ℕ, ◌+◌, ◌*◌, ◌<◌, ◌%◌, Bool, true, false, List, [], ◌∷◌, ◌++◌, map, length, Option, Some, None, refl, sym, ap, subst, ◌∙◌, inl, inr, zero, suc, true≢false, arith}
-use Rattle.std.specs.Prelude.{◌&&◌, codes, decimal, nat_lt, if◌then◌else◌}
-use Rattle.std.specs.FinMap.{get}
+-- The image of the system that is generated of a number, and what its run prints.
+use Rattle.std.proofs.Common.{◌≡◌, ℕ, ◌+◌, ◌*◌, ◌<◌, ◌%◌, Bool, true, false, List, [], ◌∷◌, ◌++◌, map, length, Option, Some, Result, Ok, Err, refl, sym, ap, subst, ◌∙◌, inl, inr, zero, suc, true≢false, arith}
+use Rattle.std.specs.Prelude.{◌&&◌, codes, decimal}
 use Rattle.std.specs.List.{find, list_all}
 use Rattle.std.specs.Option.{option_map_or}
 use Rattle.std.proofs.lemmas.Bool.{cases_Bool}
@@ -10,36 +9,57 @@ use Rattle.hex.specs.Hex.{encode_lower}
 use Rattle.sha2.specs.Sha256.{sha256}
 use Rattle.generated_system.specs.Record.{generated_record}
 use Rattle.generated_system.specs.System.{generated_system, subject, system_with}
+use Rattle.image_load.specs.Resolving.{image_bench, image_record}
 use Rattle.image_soundness.specs.Bench.{devices_of}
-use Rattle.muen_build.specs.Refusals.{accepted_policy_of, refusal_of}
+use Rattle.muen_build.specs.Accepting.{AreAskedFor, FailsWith, Files, IsAsked, IsNext, insert_all, looks_of}
+use Rattle.muen_build.specs.Document.{policy_of}
+use Rattle.muen_build.specs.Looks.{is_of_file}
+use Rattle.muen_build.specs.Refusals.{accepted_policy_of, lawful_policy_of}
+use Rattle.muen_build.specs.declared.accepted.BuildError.{BuildError}
+use Rattle.muen_build.specs.declared.accepted.BuildError.TheVariants.{Refused, FileFault as FaultOfFiles}
+use Rattle.muen_build.proofs.Refusing.{accepted_so}
+use Rattle.muen_num.specs.Answers.{Answers}
 use Rattle.muen_num.proofs.NumbersBelow.{length_numbers}
-use Rattle.muen_num.proofs.Lists.{map_same}
+use Rattle.muen_num.proofs.Lists.{map_same, passes_at}
 use Rattle.muen_num.specs.Range.{numbers_below}
-use Rattle.muen_num.specs.declared.limits.TheConstants.{POLICY_MOST, RECORD_MOST}
-use Rattle.muen_outside.proofs.HeldMap.{get-stored}
-use Rattle.muen_outside.specs.MemFiles.{Shelf, store_of}
-use Rattle.muen_outside.specs.MemSink.{Filling, sink_of}
-use Rattle.muen_outside.specs.States.{History, SinkState, Write}
-use Rattle.muen_outside.specs.Store.{Store, long, reading_of, whole}
+use Rattle.muen_outside.proofs.Explained.{explained}
+use Rattle.muen_outside.specs.States.{History, Look, look}
+use Rattle.muen_outside.specs.Store.{Store}
+use Rattle.muen_outside.specs.declared.files.FileError.TheVariants.{Failed}
+use Rattle.muen_run.specs.RunText.{run_text}
 use Rattle.policy_lawful.specs.Contents.{Held, content_bytes, initial_bytes, no_files}
-use Rattle.policy_lawful.specs.Lawful.{kept_or}
 use Rattle.policy_lawful.specs.Thing.{Item, Thing, device_items, item_of, items_of, placed_items, same_thing, state, things_of}
-use Rattle.policy_lawful.specs.refusal.Refusal.{Refusal}
+use Rattle.policy_lawful.specs.source.Content.{Content}
+use Rattle.policy_lawful.specs.source.Content.TheVariants.{Zero, Fill, Inline, File}
 use Rattle.policy_lawful.specs.source.Source.{Source}
 use Rattle.policy_lawful.proofs.NoFiles.{in_no_file, same_content}
+use Rattle.proof_runs.proofs.ImageRuns.{image_bench_is, image_runs}
 use Rattle.record_text.specs.DeviceRecord.{DeviceRecord}
 use Rattle.record_text.specs.Reading.{record_of}
+use Rattle.record_text.specs.Steps.{mapped}
+use Rattle.record_text.specs.declared.fault.RecordFault.{RecordFault}
+use Rattle.record_text.specs.declared.fault.RecordFault.TheVariants.{NoMemory as NoMemoryForRecord}
+use Rattle.record_text.specs.declared.record.Input.{Input}
+use Rattle.record_text.specs.declared.record.Record.{Record}
 use Rattle.subject_model.specs.Clock.{run_of}
 use Rattle.subject_model.specs.System.{first_page, start_of}
 use Rattle.subject_model.specs.Trace.{trace_of}
-use Rattle.muen_top.specs.Answers.{Answer, boot_answer, of_file, policy_answer, trace_answer}
-use Rattle.muen_top.specs.Calls.{ComesOfCommand, IsDone}
-use Rattle.muen_top.specs.Commands.{boot}
-use Rattle.muen_top.specs.GeneratedFiles.{HoldsGenerated}
+use Rattle.muen_top.specs.CommandErrors.{error_of_build}
 use Rattle.muen_top.specs.LoadText.{summary}
-use Rattle.muen_top.specs.declared.outcome.Outcome.TheVariants.{Done}
+use Rattle.muen_top.specs.Loads.{HasMade, IsMadeOf, NotMade, refused, unmade}
+use Rattle.muen_top.specs.Runs.{OnlyMemory}
+use Rattle.muen_top.specs.declared.boot.Made.{Made}
+use Rattle.muen_top.specs.declared.outcome.CommandError.{CommandError}
+use Rattle.muen_top.proofs.Clauses.{none_ends}
+use Rattle.muen_top.proofs.GeneratedAccepted.{document_accepted}
 
 -- ---- a policy whose contents name no file
+
+not_of_file : (name : List ℕ) (c : Content) → in_no_file c ≡ true → is_of_file name c ≡ true → ⊥
+not_of_file name Zero none h = true≢false (sym h)
+not_of_file name (Fill b) none h = true≢false (sym h)
+not_of_file name (Inline bytes) none h = true≢false (sym h)
+not_of_file name (File file offset most) none h = true≢false (sym none)
 
 abbrev names_no_file : List Item → Bool
 names_no_file items = list_all (λ i. in_no_file i.content) items
@@ -108,54 +128,71 @@ pub summary_is : (n : ℕ) (text subjects ticks size digest : List ℕ) → subj
     → codes "subjects " ++ (subjects ++ (codes "\nticks " ++ (ticks ++ (codes "\ntrace " ++ (size ++ (codes "\nsha256 " ++ (digest ++ codes "\n"))))))) ≡ summary (length (generated_system n).subjects) (generated_record n).end text
 summary_is n text subjects ticks size digest many end sized sum = rw (many, end, sized, sum) refl
 
--- ---- the run
+-- ---- the image
 
-module _ (n : ℕ) (s : Shelf) (g : HoldsGenerated n s) where
-  abbrev held : Store
-  held = store_of s
-
+module _ (n : ℕ) (document : List ℕ) (is : policy_of document ≡ Ok (generated_system n)) where
   abbrev p : Source
   p = generated_system n
 
-  policy_there : get held (codes "policy") ≡ Some g.policy
-  policy_there = rw g.entries (get-stored ((codes "policy", g.policy) ∷ (codes "record", g.input) ∷ []) (codes "policy"))
+  accepted : (files : Held) → accepted_policy_of files document ≡ Ok p
+  accepted files = document_accepted files n document is
 
-  record_there : get held (codes "record") ≡ Some g.input
-  record_there = rw g.entries (get-stored ((codes "policy", g.policy) ∷ (codes "record", g.input) ∷ []) (codes "record"))
+  -- no content names a file, so no look at one is asked for
+  not_next : (given : Files) (before : List Look) (l : Look) → IsNext given p before l → ⊥
+  not_next given before l next = not_of_file l.name next.item.content (passes_at (λ i. in_no_file i.content) (items_of p) next.number next.item (none_named n) next.there) next.file
 
-  -- where something is done, it is what is printed of the run
-  abbrev Runs : Answer → SinkState → Type 0
-  Runs answer after = (ws : List Write) → IsDone answer ws (record { given = []; faults = 0 }) after → after.given ≡ trace_of p no_files (generated_record n)
+  not_asked : (given : Files) (before : List Look) (l : Look) → IsAsked given document before l → ⊥
+  not_asked given before l asked = not_next given before l (subst (λ q. IsNext given q before l) (same_policy asked.policy asked.lawful) asked.next)
+    where
+      same_policy : (q : Source) → lawful_policy_of document ≡ Ok q → q ≡ p
+      same_policy q lawful = cc (sym lawful ∙ (accepted_so no_files document p (accepted no_files)).lawful)
 
-  of_record : (after : SinkState) → Runs (trace_answer held p (record_of g.input (devices_of p))) after
-  of_record after =
-      subst (λ r. Runs (trace_answer held p r) after) (sym g.input_is)
-      (λ ws done. ap (λ s. s.given) done.1.state ∙ same_text p held no_files (none_named n) (generated_record n))
+  no_looks : (name : List ℕ) (looks : List Look) → AreAskedFor name document looks → looks ≡ []
+  no_looks name [] asked = refl
+  no_looks name (l ∷ ls) asked = absurd (not_asked ((name, document) ∷ []) [] l asked.0)
 
-  of_reading : (after : SinkState) (answer : List ℕ → Answer) (name bytes : List ℕ) (most : ℕ) → Runs (answer bytes) after → Runs (of_file name answer (reading_of (Some bytes) most)) after
-  of_reading after answer name bytes most next =
-      elim (nat_lt most (length bytes)) as (λ b. Runs (of_file name answer (if b then long (length bytes) else whole bytes)) after) [
-        | true ↦ λ ws done. absurd done
-        | false ↦ next
+  -- so memory alone can be wanting
+  fails_so : (name : List ℕ) (held : Option Store) (old new : History) (build_error : BuildError) → FailsWith name document held old new build_error → OnlyMemory (error_of_build build_error)
+  fails_so name held old new (Refused r) fails =
+      elim fails.says [
+        | inl memory ↦ subst (λ r. OnlyMemory (error_of_build (Refused r))) (sym memory) tt
+        | inr refuses ↦ let m = explained fails.looks fails.looked.single in absurd (cc (sym (accepted (insert_all m.0 ((name, document) ∷ []))) ∙ refuses m.0 m.1))
       ]
+  fails_so name held old new FaultOfFiles fails = absurd (none_ends fails.says.front (look fails.says.name fails.says.most (Err Failed)) (sym (no_looks name fails.looks fails.asked) ∙ fails.says.is))
 
-  of_policy : (after : SinkState) (o : Option Refusal) → Runs (policy_answer held (codes "record") (kept_or p o)) after
-  of_policy after None =
-      subst (λ o. Runs (of_file (codes "record") (λ bytes. trace_answer held p (record_of bytes (devices_of p))) (reading_of o RECORD_MOST)) after) (sym record_there)
-      (of_reading after (λ bytes. trace_answer held p (record_of bytes (devices_of p))) (codes "record") g.input RECORD_MOST (of_record after))
-  of_policy after (Some refusal) = λ ws done. absurd done
+  pub unmade_so : (name : List ℕ) (held : Option Store) (old new : History) (error : CommandError) → NotMade name document held old new error → OnlyMemory error
+  unmade_so name held old new error (refused build_error fails made) = subst OnlyMemory (sym made) (fails_so name held old new build_error fails)
+  unmade_so name held old new error (unmade found looked asked only) = let m = explained (looks_of found) looked.single in only m.0 m.1
 
-  of_document : (after : SinkState) → Runs (policy_answer held (codes "record") (accepted_policy_of held g.policy)) after
-  unfolding accepted_policy_of
-  of_document after = rw g.policy_is (of_policy after (refusal_of held p))
+  -- .. and else its image is made, and its tables
+  pub made_so : (name : List ℕ) (held : Option Store) (old new : History) (m : Made) → HasMade name document held old new m → IsMadeOf p m
+  made_so name held old new m made =
+      let files = explained (looks_of m.files) made.looked.single in
+      let store = insert_all files.0 ((name, document) ∷ []) in
+      let same : made.source ≡ p = cc (sym (made.accepts files.0 files.1) ∙ accepted store) in
+      let back = made.back files.0 files.1 in
+      subst (λ q. IsMadeOf q m) same (record { files = store; sound = back.0; fit = back.1 })
 
-  of_boot : (after : SinkState) → Runs (boot_answer held (codes "policy") (codes "record")) after
-  unfolding boot_answer
-  of_boot after =
-      subst (λ o. Runs (of_file (codes "policy") (λ bytes. policy_answer held (codes "record") (accepted_policy_of held bytes)) (reading_of o POLICY_MOST)) after) (sym policy_there)
-      (of_reading after (λ bytes. policy_answer held (codes "record") (accepted_policy_of held bytes)) (codes "policy") g.policy POLICY_MOST (of_document after))
+-- ---- its record
 
-  pub booted : (held' : Option Store) (old new : History) (before after : Filling) → sink_of before ≡ record { given = []; faults = 0 }
-      → ComesOfCommand (Some (boot (codes "policy") (codes "record"))) (Some held) held' old new (sink_of before) (sink_of after) Done
-      → after.text ≡ trace_of p no_files (generated_record n)
-  booted held' old new before after empty came = of_boot (sink_of after) came.ws (subst (λ s. IsDone (boot_answer held (codes "policy") (codes "record")) came.ws s (sink_of after)) empty (came.says held came.told))
+module _ (n : ℕ) (m : Made) (made : IsMadeOf (generated_system n) m) (text : List ℕ) (is : record_of text (devices_of (generated_system n)) ≡ Ok (generated_record n)) where
+  abbrev reads : Result (Record Input) RecordFault
+  reads = mapped (image_record m.parts) (record_of text (image_bench m.parts))
+
+  named : record_of text (image_bench m.parts) ≡ Ok (generated_record n)
+  named = ap (record_of text) (image_bench_is (generated_system n) made.files m.parts made.sound) ∙ is
+
+  reads_so : reads ≡ Ok (image_record m.parts (generated_record n))
+  reads_so = ap (mapped (image_record m.parts)) named
+
+  -- it is read, unless memory was refused
+  pub record_only_memory : (fault : RecordFault) → Answers NoMemoryForRecord reads (Err fault) → fault ≡ NoMemoryForRecord
+  record_only_memory fault (inl memory) = memory
+  record_only_memory fault (inr refused) = absurd (cc (sym reads_so ∙ refused))
+
+  -- .. and its run prints the text of that system's
+  pub runs_so : (input : Record Input) → reads ≡ Ok input → run_text (Some m.tables) m.parts input ≡ trace_of (generated_system n) no_files (generated_record n)
+  runs_so input read =
+      ap (run_text (Some m.tables) m.parts) (cc (sym read ∙ reads_so))
+      ∙ (image_runs (generated_system n) made.files m.parts (Some m.tables) text (generated_record n) made.sound made.fit is
+      ∙ same_text (generated_system n) made.files no_files (none_named n) (generated_record n))

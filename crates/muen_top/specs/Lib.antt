@@ -5,7 +5,6 @@ pub mod CommandErrors
 pub mod Commands
 pub mod Complete
 pub mod FilesSeen
-pub mod GeneratedFiles
 pub mod Headline
 pub mod Images
 pub mod Kept

@@ -171,3 +171,9 @@ HasMade policy document held old new m = IsMadeFromLooks policy document held ol
 pub data NotMade (policy document : List ℕ) (held : Option Store) (old new : History) (error : CommandError) : Type 0 where
   refused : (build_error : BuildError) → FailsWith policy document held old new build_error → error ≡ error_of_build build_error → NotMade policy document held old new error
   unmade : (found : Files) → Looked policy held old new (looks_of found) → AreAskedFor policy document (looks_of found) → OnlyMemoryWith policy document found error → NotMade policy document held old new error
+
+-- an image that is sound for this policy over some files, with tables that fit it
+pub record IsMadeOf (p : Source) (m : Made) : Type 0 where
+  pub files : Store
+  pub sound : IsSound p files m.parts
+  pub fit : Fit p m.parts (Some m.tables)

@@ -53,16 +53,16 @@ fn parts_of<'a>(
     read_back(alloc, &bytes)
 }
 
-// The image of a policy, the tables of its domains of devices, and the files that its contents name.
+/// The image of a policy, the tables of its domains of devices, and the files that its contents name.
 #[derive(Drop)]
-struct Made {
-    parts: Parts,
-    tables: DmaTables,
-    files: ComponentFiles,
+pub(crate) struct Made {
+    pub(crate) parts: Parts,
+    pub(crate) tables: DmaTables,
+    pub(crate) files: ComponentFiles,
 }
 
-// The image of the policy of this document, and the tables of its domains, if it is accepted.
-fn make<'a, F: Files>(
+/// The image of the policy of this document, and the tables of its domains, if it is accepted.
+pub(crate) fn make<'a, F: Files>(
     alloc: Global,
     policy: &str,
     document: &[u8],

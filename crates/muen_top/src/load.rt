@@ -1,58 +1,89 @@
 // The command `load`: the system that is generated of a number is booted in memory, and what the text of its
 // run comes to is printed.
-ghost use Rattle.std.specs.Prelude.{◌≡◌, IfOk, length, string_bytes};
+ghost use Rattle.std.specs.Prelude.{◌≡◌, Ok, IfOk, length, string_bytes};
 ghost use Rattle.hex.specs.Hex.{encode_lower};
 ghost use Rattle.sha2.specs.Sha256.{sha256};
 ghost use Rattle.generated_system.specs.Record.{generated_record};
 ghost use Rattle.generated_system.specs.System.{generated_system};
+ghost use Rattle.muen_build.specs.Document.{policy_of};
 ghost use Rattle.muen_outside.specs.Puts.{Puts};
+ghost use Rattle.muen_run.specs.RunText.{run_text as run_text_of};
 ghost use Rattle.policy_lawful.specs.Contents.{no_files};
+ghost use Rattle.record_text.specs.Law.{IsOrderly};
 ghost use Rattle.subject_model.specs.Trace.{trace_of};
-ghost use Rattle.muen_top.specs.GeneratedFiles.{HoldsGenerated};
 ghost use Rattle.muen_top.specs.LoadText.{load_text, summary};
-ghost use Rattle.muen_top.specs.Runs.{RunsTo};
+ghost use Rattle.muen_top.specs.Loads.{IsMadeOf};
+ghost use Rattle.muen_top.specs.Runs.{OnlyMemory, RunsTo};
 
-use crate::boot::boot;
+use crate::boot::{Made, make};
 use crate::outcome::{CommandError, Outcome};
+use crate::run::{Loaded, run_image};
 use generated_system::{Generated, generate};
+use image_load::read_record;
 use itoa::Buffer;
 use muen_num::NoMemory;
-use muen_outside::{MemFiles, MemSink, Sink, SinkFault, put_pieces};
+use muen_outside::{GrowingSink, MemFiles, Sink, SinkFault, put_pieces};
+use record_text::RecordFault;
 use sha2::{Digest, Sha256};
 use std::alloc::Global;
-
-// How many bytes the text of a generated system's run may have. It has at most 80,000 lines of turns, of 160 bytes
-// at most, and 56 others, of 256 at most: so there is room for each.
-const TEXT_MOST: usize = 16_777_216;
 
 // How many ticks a generated record has.
 const TICKS: u32 = 20_000;
 
+// Under which name messages would tell of the document; no file has it.
 const POLICY: &str = "policy";
 
-const RECORD: &str = "record";
-
-// The policy and the record that are generated of a number, as files in memory.
-fn generated_files(alloc: Global, number: u16) -> Result<MemFiles, NoMemory>
-    ensures { IfOk result (HoldsGenerated number) }
+// The error of a call for which memory alone can be wanting.
+fn only_memory(error: CommandError<'_>) -> NoMemory
+    requires { OnlyMemory error }
 {
-    let Generated { policy, input } = generate(alloc, number)?;
-    let mut held = Vec::with_capacity(alloc, 2)?;
-    held.push((String::from_str(alloc, POLICY)?, policy))?;
-    held.push((String::from_str(alloc, RECORD)?, input))?;
-    Ok(MemFiles::make(held, Vec::new(alloc)))
+    match error {
+        CommandError::NoMemory => NoMemory,
+        _ => unreachable!(),
+    }
 }
 
-// The text of that system's run on that record. What is generated is accepted and read, and its text fits: so
-// memory alone can be wanting.
-fn run_text(alloc: Global, number: u16) -> Result<MemSink, NoMemory>
-    ensures { IfOk result (λ s. s.text ≡ trace_of (generated_system number) no_files (generated_record number)) }
+// The image of the system that this document has, and its tables. Its contents name no file, so none is looked at.
+fn made(alloc: Global, number: u16, document: &[u8]) -> Result<Made, NoMemory>
+    requires { policy_of document.now ≡ Ok (generated_system number) }
+    ensures { IfOk result (IsMadeOf (generated_system number)) }
 {
-    let mut files = generated_files(alloc, number)?;
-    let mut text = MemSink::make(alloc, TEXT_MOST, Vec::new(alloc), 0)?;
-    match boot(alloc, POLICY, RECORD, &mut files, &mut text) {
+    let mut files = MemFiles::make(Vec::new(alloc), Vec::new(alloc));
+    match make(alloc, POLICY, document, &mut files) {
+        Ok(made) => Ok(made),
+        Err(error) => Err(only_memory(error)),
+    }
+}
+
+// What is run of the system that is generated of a number. It is accepted, and its record is read: so memory
+// alone can be wanting.
+fn loaded(alloc: Global, number: u16) -> Result<Loaded, NoMemory>
+    ensures text { IfOk result (λ x. run_text_of x.tables x.parts x.input ≡ trace_of (generated_system number) no_files (generated_record number)) }
+    ensures orderly { IfOk result (λ x. IsOrderly x.input) }
+{
+    let Generated { policy, input } = generate(alloc, number)?;
+    let Made { parts, tables, .. } = made(alloc, number, &policy)?;
+    match read_record(alloc, &parts, &input) {
+        Ok(input) => Ok(Loaded {
+            parts,
+            input,
+            tables: Some(tables),
+        }),
+        Err(RecordFault::NoMemory) => Err(NoMemory),
+        Err(_) => unreachable!(),
+    }
+}
+
+// The text of that system's run on that record. It goes into memory that grows with it, and is never full: so
+// memory alone can be wanting here too.
+fn run_text(alloc: Global, number: u16) -> Result<GrowingSink, NoMemory>
+    ensures { IfOk result (λ s. s.given ≡ trace_of (generated_system number) no_files (generated_record number)) }
+{
+    let loaded = loaded(alloc, number)?;
+    let mut text = GrowingSink::new(alloc);
+    match run_image(alloc, loaded, &mut text) {
         Outcome::Done => Ok(text),
-        _ => Err(NoMemory),
+        Outcome::Stopped(_) | Outcome::OutputFault => Err(NoMemory),
     }
 }
 
@@ -101,8 +132,8 @@ fn put_summary<S: Sink>(
 }
 
 // The text of the run, and its digest.
-fn summed_up(alloc: Global, number: u16) -> Result<(MemSink, String), NoMemory>
-    ensures { IfOk result (λ x. (x.0.text ≡ trace_of (generated_system number) no_files (generated_record number)) × (string_bytes x.1 ≡ encode_lower (sha256 x.0.text))) }
+fn summed_up(alloc: Global, number: u16) -> Result<(GrowingSink, String), NoMemory>
+    ensures { IfOk result (λ x. (x.0.given ≡ trace_of (generated_system number) no_files (generated_record number)) × (string_bytes x.1 ≡ encode_lower (sha256 x.0.given))) }
 {
     let text = run_text(alloc, number)?;
     let digest = digest(alloc, text.text())?;
