@@ -53,9 +53,9 @@ unfolding unlawful offences offence_1 offence_2 offence_3 offence_4 offence_5 of
 lawful = refl
 
 -- its contents name no file
-held : (files : Held) → AreFilesHeld small_policy files
+files_there : (files : Held) → AreFilesHeld small_policy files
 unfolding items_of placed_items device_items
-held files = refl
+files_there files = refl
 
 contents : (files : Held) → AreContents small_policy files small_image
 unfolding things_of items_of placed_items device_items declared_size item_of initial_bytes by_number
@@ -281,7 +281,7 @@ sound files =
     record {
       lawful = lawful;
       parts = is_image.parts;
-      held = held files;
+      held = files_there files;
       contents = contents files;
       walks = All-from_recursion (λ (e : Subject × SubjectPart). HasWalks small_policy small_image e.0 e.1) both (walks, tt);
       tables = All-from_recursion (λ (e : Subject × SubjectPart). ReadsTables small_image e.1) both (tables, tt);
