@@ -1,7 +1,8 @@
 -- When an image is sound for a policy and its files (this project's own; tables, bitmaps and areas as in Intel SDM volume 3).
-use Rattle.std.specs.Prelude.{◌≡◌, ℕ, ◌+◌, ◌*◌, ◌<◌, ◌==◌, ◌&&◌, not, Bool, true, false, List, [], ◌∷◌, ◌++◌, map, filter, length, nat_le, slice_index_or, take, zip, Some, None, option_map}
+use Rattle.std.specs.Prelude.{◌≡◌, ℕ, ◌+◌, ◌*◌, ◌<◌, ◌==◌, ◌&&◌, not, Bool, true, false, List, [], ◌∷◌, ◌++◌, map, filter, length, nat_le, slice_index_or, take, zip, Some, None, is_some, option_map}
 use Rattle.std.specs.Option.{option_map_or}
-use Rattle.std.specs.List.{All, AllPairs, AllZip, find, list_any}
+use Rattle.std.specs.List.{All, AllPairs, AllZip, find, list_all, list_any}
+use Rattle.std.specs.FinMap.{get}
 use Rattle.std.specs.List.Sorted.{IsPermutation}
 use Rattle.expand_grants.specs.Resources.{are_granted, is_granted, msrs_of, ports_of}
 use Rattle.image_memory.specs.Memory.{Span, bytes_at, bytes_of, by_number, memory_of, page_at, address_at}
@@ -29,9 +30,11 @@ use Rattle.image_soundness.specs.PlanOf.{IsPlanOf}
 use Rattle.policy_lawful.specs.Lawful.{IsLawful}
 use Rattle.policy_lawful.specs.Contents.{Held, initial_bytes}
 use Rattle.policy_lawful.specs.Events.{event_of, irq_of}
-use Rattle.policy_lawful.specs.Thing.{Thing, channel, declared_size, device_memory, provided, region, same_thing, state, thing_tag, things_of}
+use Rattle.policy_lawful.specs.Thing.{Thing, channel, declared_size, device_memory, items_of, provided, region, same_thing, state, thing_tag, things_of}
 use Rattle.policy_lawful.specs.Windows.{Access, access_of, byte, violation, windows_of}
 use Rattle.policy_lawful.specs.Rights.{found_bits}
+use Rattle.policy_lawful.specs.source.Content.{Content}
+use Rattle.policy_lawful.specs.source.Content.TheVariants.{File}
 use Rattle.policy_lawful.specs.source.Device.{Device as SourceDevice}
 use Rattle.policy_lawful.specs.source.Irq.{Irq}
 use Rattle.policy_lawful.specs.source.Source.{Source}
@@ -45,6 +48,17 @@ use Rattle.state_page.specs.States.{started}
 -- of each subject that both have, by its index: the policy's, and its part of the image
 abbrev pub ForEachSubject : Source → Image → (Subject → SubjectPart → Type 0) → Type 0
 ForEachSubject p i Holds = All (λ e. Holds e.0 e.1) (zip p.subjects i.subjects)
+
+-- ---- files: what contents are of
+
+-- the file that a content is of, if it is of one, is held
+abbrev pub is_file_held : Held → Content → Bool
+is_file_held files (File name offset most) = is_some (get files name)
+is_file_held files content = true
+
+-- **the files** that the contents of the policy are of are held. So none of these takes a file that isn't there for an empty one
+abbrev pub AreFilesHeld : Source → Held → Type 0
+AreFilesHeld p files = list_all (λ i. is_file_held files i.content) (items_of p) ≡ true
 
 -- ---- contents: which spans there are
 
@@ -185,6 +199,7 @@ pub record IsSound (p : Source) (files : Held) (i : Image) : Type 0 where
   pub lawful : IsLawful p
   -- it keeps the conditions of its format
   pub parts : IsParts i
+  pub held : AreFilesHeld p files
   pub contents : AreContents p files i
   pub walks : ForEachSubject p i (HasWalks p i)
   pub tables : ForEachSubject p i (λ s q. ReadsTables i q)

@@ -19,7 +19,7 @@ use Rattle.image_pack.specs.Parts.{IsParts}
 use Rattle.image_pack.specs.declared.parts.Image.{Image}
 use Rattle.image_pack.specs.declared.parts.SubjectPart.{SubjectPart}
 use Rattle.image_memory.specs.Memory.{Span, memory_of}
-use Rattle.image_soundness.specs.Sound.{AreContents, ForEachSubject, HasArea, HasBitmaps, HasPlanAndEvents, HaveOwnPages, IsFresh, IsSound, IsSpanOf, thing_spans}
+use Rattle.image_soundness.specs.Sound.{AreContents, AreFilesHeld, ForEachSubject, HasArea, HasBitmaps, HasPlanAndEvents, HaveOwnPages, IsFresh, IsSound, IsSpanOf, thing_spans}
 use Rattle.image_verify.proofs.Checked.{stand_for}
 use Rattle.image_verify.specs.Filled.{IsFilled}
 use Rattle.image_verify.specs.Stand.{StandForTables}
@@ -173,10 +173,10 @@ twice_found p (Some t) f h k = record { subject = subject_name p t.subject; addr
 
 -- ---- laws
 
--- **without a fault** the image is sound
-pub no_fault_is_sound : (p : Source) (files : Held) (i : Image) → IsLawful p → IsParts i → IsVerdict p files i None → IsSound p files i
-no_fault_is_sound p files i lawful parts (inl h) = absurd (none-some _ h.is)
-no_fault_is_sound p files i lawful parts (inr (contents, first)) =
+-- **without a fault** the image is sound, where the files of contents are held
+pub no_fault_is_sound : (p : Source) (files : Held) (i : Image) → IsLawful p → IsParts i → AreFilesHeld p files → IsVerdict p files i None → IsSound p files i
+no_fault_is_sound p files i lawful parts held (inl h) = absurd (none-some _ h.is)
+no_fault_is_sound p files i lawful parts held (inr (contents, first)) =
     let k = are_kept p i (IsTableFault p i) first in
     let stand = standing p files i (record { lawful = lawful; parts = parts; contents = contents; many = k.0.plan.many }) in
     let none = none_found p (table_fault (image_tables_of p i)) k.1 in
@@ -184,6 +184,7 @@ no_fault_is_sound p files i lawful parts (inr (contents, first)) =
     record {
       lawful = lawful;
       parts = parts;
+      held = held;
       contents = contents;
       walks = stand.walks tables;
       tables = stand.reads tables;

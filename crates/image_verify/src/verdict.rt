@@ -4,7 +4,7 @@ ghost use Rattle.image_checks.specs.PlanFault.{IsPlanFault};
 ghost use Rattle.image_soundness.specs.ThingBytes.{thing_bytes};
 ghost use Rattle.image_pack.specs.Parts.{IsParts};
 ghost use Rattle.image_pack.specs.declared.parts.Image.{Image};
-ghost use Rattle.image_soundness.specs.Sound.{IsSound};
+ghost use Rattle.image_soundness.specs.Sound.{AreFilesHeld, IsSound};
 ghost use Rattle.image_verify.specs.Verdict.{AreOfFiles, FirstOf, IsReadyFor, IsTableFault, IsTwice, IsVerdict, device_owner, in_order, named, plan_owner, subject_name, subject_owner};
 ghost use Rattle.image_verify.specs.declared.fault.Fault.{Fault};
 ghost use Rattle.image_verify.specs.declared.fault.Fault.TheVariants.{Fails};
@@ -172,8 +172,8 @@ pub fn verify(
 
 /// What a verdict tells.
 pub fn verdicts_tell()
-    // Without a fault the image is sound.
-    ensures sound { (p : Source) (files : Held) (i : Image) → IsLawful p → IsParts i → IsVerdict p files i None → IsSound p files i }
+    // Without a fault the image is sound, where the files of contents are held.
+    ensures sound { (p : Source) (files : Held) (i : Image) → IsLawful p → IsParts i → AreFilesHeld p files → IsVerdict p files i None → IsSound p files i }
     // Any fault but that a table is read on two paths tells that it isn't.
     ensures unsound { (p : Source) (files : Held) (i : Image) (f : Fault) → IsVerdict p files i (Some f) → IsSound p files i → IsTwice f }
     // A sound image no table of which is read on two paths has no fault.

@@ -7,6 +7,7 @@ use Rattle.expand_kernel.specs.Expansion.{Expansion}
 use Rattle.image_emit.specs.Made.{IsEmitted, IsFilled}
 use Rattle.proof_build.specs.ThingBytes.{thing_bytes}
 use Rattle.proof_build.specs.Built.{IsMadeFor}
+use Rattle.proof_build.specs.Sound.{AreFilesHeld}
 use Rattle.image_pack.specs.declared.parts.Image.{Image}
 use Rattle.muen_outside.specs.Looks.{ShowAll}
 use Rattle.muen_outside.specs.Store.{Store}
@@ -15,6 +16,7 @@ use Rattle.policy_lawful.specs.Resolution.{Resolution, source_of}
 use Rattle.region_alloc.specs.Placed.{IsPlaced, Placement}
 use Rattle.muen_build.specs.Accepting.{Accepts, Files, looks_of}
 use Rattle.muen_build.specs.Reading.{things_read}
+use Rattle.muen_build.proofs.FilesHeld.{files_held}
 use Rattle.muen_build.proofs.Held.{things_held}
 use Rattle.muen_build.proofs.Refusing.{accepted_so}
 use Rattle.muen_build.proofs.Rooms.{things_filled}
@@ -34,8 +36,11 @@ module _ (x : Placement) (placed : IsPlaced x) where
     filled_so = subst (IsFilled x) (sym things_are) (things_filled ((name, document) ∷ []) found x placed.resolved placed.expansion.regions)
 
     pub seen_so : {E : Type 0} (Holds : Store → Image → Type 0) (result : Result Image E) → Accepts name (looks_of found) document (source_of x.expanded.lawful)
-        → IfOk result (λ i. (files : Store) → things ≡ thing_bytes files x.expanded.lawful → Holds files i)
+        → IfOk result (λ i. (files : Store) → things ≡ thing_bytes files x.expanded.lawful → AreFilesHeld (source_of x.expanded.lawful) files → Holds files i)
         → IfOk result (λ i. (files : Store) → ShowAll files (looks_of found) → Holds (insert files name document) i)
     seen_so Holds result accepts held =
+        let fit = λ (m : Store) (t : ShowAll m (looks_of found)). (accepted_so (insert m name document) document (source_of x.expanded.lawful) (accepts m t)).contents in
         IfOk-weaker result _ _
-        (λ i h files s. h (insert files name document) (things_are ∙ things_held ((name, document) ∷ []) found x.expanded.lawful (placed_by_index x.expanded.lawful placed.resolved) (λ m t. (accepted_so (insert m name document) document (source_of x.expanded.lawful) (accepts m t)).contents) files s)) held
+        (λ i h files s.
+        h (insert files name document) (things_are ∙ things_held ((name, document) ∷ []) found x.expanded.lawful (placed_by_index x.expanded.lawful placed.resolved) fit files s)
+        (files_held (insert files name document) (source_of x.expanded.lawful) (fit files s))) held

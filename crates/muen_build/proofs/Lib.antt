@@ -3,6 +3,7 @@ pub mod Checking
 pub mod Documents
 pub mod Emitting
 pub mod FilesDigested
+pub mod FilesHeld
 pub mod Held
 pub mod LimitExamples
 pub mod Looks

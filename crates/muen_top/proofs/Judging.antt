@@ -37,7 +37,7 @@ module _ (image policy : List ℕ) (held : Option Store) (old new : History) (i 
         → ((m : Store) → HasVerdict (source_of r) m read.says.bytes i o → Such (judges (source_of r) m read.says.bytes i)) → OverLooks read.looks (λ m. Such (reply m))
     over o found Such so m shows =
         let a = read.says.over m shows in
-        subst Such (sym a.answer) (so m (found m read.says.bytes a.things_are read.says.image_is))
+        subst Such (sym a.answer) (so m (found m read.says.bytes a.held a.things_are read.says.image_is))
 
     -- how the command ends is as it is answered
     ends_so : (outcome : Outcome) → EndsFound (IsFound i r things) out out' outcome → Says outcome

@@ -83,7 +83,7 @@ module _ (m : Store) (image policy : List ℕ) where
           parts = j.parts;
           read = j.image_read;
           image = v.image;
-          sound = no_fault_is_sound j.p m j.parts v.lawful v.image.parts v.verdict;
+          sound = no_fault_is_sound j.p m j.parts v.lawful v.image.parts v.held v.verdict;
         };
       }
 

@@ -15,6 +15,7 @@ use Rattle.muen_build.specs.Refusals.{contents_refused, fitting_policy_of, lawfu
 use Rattle.muen_build.specs.declared.accepted.BuildError.{BuildError}
 use Rattle.muen_build.specs.declared.accepted.BuildError.TheVariants.{Refused as RefusedPolicy, FileFault as FaultOfFiles}
 use Rattle.muen_build.proofs.Documents.{shown_document, whole_found}
+use Rattle.muen_build.proofs.FilesHeld.{files_held}
 use Rattle.muen_build.proofs.Looks.{looked_both, show_front, told_both}
 use Rattle.muen_build.proofs.Refusing.{fits_not, fits_so}
 use Rattle.muen_num.specs.Answers.{Answers}
@@ -326,6 +327,7 @@ module _ (last : History) {image policy : List ℕ} {held held' held'' : Option 
           image_is = image_is;
           over = λ m shows. record {
             answer = answers_so two_files others None h.fit m shows;
+            held = files_held m (source_of r) (stands two_files others (λ k. contents_refused k (source_of r) ≡ None) h.fit m shows);
             things_are = stands two_files others (λ k. things ≡ thing_bytes k r) h.are m shows;
           };
         };

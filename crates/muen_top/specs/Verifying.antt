@@ -1,5 +1,6 @@
 -- What reading the files of `verify`, and the verdict, come to.
 use Rattle.std.specs.Prelude.{◌≡◌, ℕ, List, [], ◌∷◌, Option, Some, None, Ok, Err}
+use Rattle.image_soundness.specs.Sound.{AreFilesHeld}
 use Rattle.image_soundness.specs.ThingBytes.{thing_bytes}
 use Rattle.image_pack.specs.Faults.{unpacked}
 use Rattle.image_pack.specs.Image.{image as image_form}
@@ -75,9 +76,11 @@ pub record LacksAny (given : Files) (p : Source) (held : Option Store) (old new 
 
 -- ---- all that is read
 
--- over a store the verdict is asked for of the image of these bytes, for this policy, whose regions hold this
+-- over a store, which holds the files that contents name, the verdict is asked for of the image of these bytes, for this policy,
+-- whose regions hold this
 pub record IsAskedFor (image policy bytes : List ℕ) (i : Image) (r : Resolution) (things : List (List ℕ)) (m : Store) : Type 0 where
   pub answer : verify_answer m image policy ≡ judges (source_of r) m bytes i
+  pub held : AreFilesHeld (source_of r) m
   pub things_are : things ≡ thing_bytes m r
 
 -- .. over every store that agrees with the looks
@@ -95,9 +98,10 @@ HasToJudge image policy held old new x = HasAllRead image policy held old new x.
 
 -- ---- the verdict
 
--- what is found of an image is this, over any files over which the policy's regions hold so
+-- what is found of an image is this, over any files that hold what contents name, and over which the policy's regions hold so
 abbrev pub IsFound : Image → Resolution → List (List ℕ) → Option Fault → Type 0
-IsFound i r things o = (files : Held) (bytes : List ℕ) → things ≡ thing_bytes files r → IsImage bytes i → HasVerdict (source_of r) files bytes i o
+IsFound i r things o =
+    (files : Held) (bytes : List ℕ) → AreFilesHeld (source_of r) files → things ≡ thing_bytes files r → IsImage bytes i → HasVerdict (source_of r) files bytes i o
 
 -- how a command ends that has found such: that the image is sound is put, or its fault is told; or memory was refused
 abbrev pub EndsFound : (Option Fault → Type 0) → SinkState → SinkState → Outcome → Type 0

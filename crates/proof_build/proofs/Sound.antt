@@ -21,16 +21,18 @@ use Rattle.image_emit.specs.Made.{IsEmitted, IsImageOf, IsMade, Made, image_of, 
 use Rattle.image_soundness.specs.ThingBytes.{thing_bytes}
 use Rattle.image_pack.specs.Parts.{IsParts}
 use Rattle.image_pack.specs.declared.parts.Image.{Image}
-use Rattle.image_soundness.specs.Sound.{ForEachSubject, IsSound}
+use Rattle.image_soundness.specs.Sound.{AreFilesHeld, ForEachSubject, IsSound}
 use Rattle.policy_lawful.specs.Contents.{Held}
 use Rattle.policy_lawful.specs.Resolution.{source_of}
 use Rattle.policy_lawful.specs.source.Source.{Source}
 use Rattle.region_alloc.specs.Placed.{Placement}
 
-of_made : (files : Held) (m : Made) → IsMade m → m.things ≡ thing_bytes files (policy_of m) → IsParts (image_of m) → IsSound (source_of (policy_of m)) files (image_of m)
-of_made files m h e parts = record {
+of_made : (files : Held) (m : Made) → IsMade m → m.things ≡ thing_bytes files (policy_of m) → IsParts (image_of m) → AreFilesHeld (source_of (policy_of m)) files
+    → IsSound (source_of (policy_of m)) files (image_of m)
+of_made files m h e parts held = record {
   lawful = h.lawful;
   parts = parts;
+  held = held;
   contents = contents files m h e;
   walks = walks m h;
   tables = tables m h;
@@ -41,13 +43,14 @@ of_made files m h e parts = record {
   plan_and_events = plan_and_events m h;
 }
 
--- it is sound, where things hold what the policy says
-pub is_sound : (x : Placement) (things : List (List ℕ)) (i : Image) → IsEmitted x things i → (files : Held) → things ≡ thing_bytes files x.expanded.lawful → IsSound (source_of x.expanded.lawful) files i
-is_sound x things i emitted files e =
+-- it is sound, where things hold what the policy says, and the files of contents are held
+pub is_sound : (x : Placement) (things : List (List ℕ)) (i : Image) → IsEmitted x things i → (files : Held) → things ≡ thing_bytes files x.expanded.lawful → AreFilesHeld (source_of x.expanded.lawful) files
+    → IsSound (source_of x.expanded.lawful) files i
+is_sound x things i emitted files e there =
     let m = emitted.made in
     let held : m.made.things ≡ thing_bytes files (policy_of m.made) = m.held ∙ e ∙ ap (λ (y : Placement). thing_bytes files y.expanded.lawful) (sym m.placed) in
     subst (λ j. IsSound (source_of x.expanded.lawful) files j) (sym m.image)
-    (subst (λ (y : Placement). IsSound (source_of y.expanded.lawful) files (image_of m.made)) m.placed (of_made files m.made m.is held (subst IsParts m.image emitted.parts)))
+    (subst (λ (y : Placement). IsSound (source_of y.expanded.lawful) files (image_of m.made)) m.placed (of_made files m.made m.is held (subst IsParts m.image emitted.parts) (subst (λ (y : Placement). AreFilesHeld (source_of y.expanded.lawful) files) (sym m.placed) there)))
 
 -- ---- and what it has beside
 

@@ -3,7 +3,7 @@ use Rattle.std.specs.Prelude.{◌≡◌, ℕ, List}
 use Rattle.image_emit.specs.Made.{IsEmitted, IsImageOf}
 use Rattle.image_soundness.specs.ThingBytes.{thing_bytes}
 use Rattle.image_pack.specs.declared.parts.Image.{Image}
-use Rattle.image_soundness.specs.Sound.{ForEachSubject, IsSound}
+use Rattle.image_soundness.specs.Sound.{AreFilesHeld, ForEachSubject, IsSound}
 use Rattle.policy_lawful.specs.Resolution.{source_of}
 use Rattle.policy_lawful.specs.Contents.{Held}
 use Rattle.region_alloc.specs.Placed.{Placement}
@@ -11,11 +11,12 @@ use Rattle.policy_lawful.specs.source.Source.{Source}
 use Rattle.proof_build.specs.Built.{HasGreatestPages, HasKernelSpans, HasMemoryTypes, HasNoSpareTables, HasSpans, IsMadeFor, TablesAscend}
 use Rattle.image_soundness.specs.Paths.{HasOnePathPerTable}
 
--- where its regions hold what the policy says over some files, it is sound for the policy and these files
+-- where its regions hold what the policy says over some files, and those that contents name are held, it is sound for the policy and
+-- these files
 abbrev pub ImagesAreSound : Type 0
 ImagesAreSound =
     (x : Placement) (things : List (List ℕ)) (i : Image) (files : Held) → IsEmitted x things i → things ≡ thing_bytes files x.expanded.lawful
-    → IsSound (source_of x.expanded.lawful) files i
+    → AreFilesHeld (source_of x.expanded.lawful) files → IsSound (source_of x.expanded.lawful) files i
 
 -- its spans are the policy's regions where its placement has them, and the devices' memory
 abbrev pub SpansAreThePolicys : Type 0

@@ -6,8 +6,8 @@
 
 ghost use Rattle.proof_build.specs.Laws.{ImagesAreOne, ImagesAreSound, KernelSpansAreOwn, NoTableIsSpare, PagesAreGreatest, PagesHaveTheirTypes, SpansAreThePolicys, TablesHaveOnePath, WalksAscend};
 
-/// An image that is made of a placed policy, whose regions hold what the policy says over some files, is
-/// sound for the policy and these files.
+/// An image that is made of a placed policy, whose regions hold what the policy says over some files, where
+/// each file that contents name is held, is sound for the policy and these files.
 pub fn images_of_policies_are_sound()
     ensures { ImagesAreSound }
 {}

@@ -13,7 +13,7 @@ use Rattle.image_pack.specs.declared.parts.Image.{Image}
 use Rattle.image_pack.specs.declared.parts.SubjectPart.{SubjectPart}
 use Rattle.image_soundness.specs.Paths.{HasOnePathPerTable, IsOnePath}
 use Rattle.image_soundness.specs.PlanOf.{IsPlanOf}
-use Rattle.image_soundness.specs.Sound.{AreContents, HasArea, HasBitmaps, HasPlanAndEvents, HasWalks, HaveOwnPages, IsFresh, IsSound, IsSubjectOf, ReadsTables, address_of, is_in_tables, led}
+use Rattle.image_soundness.specs.Sound.{AreContents, AreFilesHeld, HasArea, HasBitmaps, HasPlanAndEvents, HasWalks, HaveOwnPages, IsFresh, IsSound, IsSubjectOf, ReadsTables, address_of, is_in_tables, led}
 use Rattle.image_soundness.specs.Targets.{entry_event}
 use Rattle.image_verify.proofs.VerdictLaws.{a_sound_image_has_no_fault}
 use Rattle.image_verify.specs.Verdict.{IsVerdict, image_tables_of, named}
@@ -51,6 +51,11 @@ use Rattle.proof_witnesses.specs.SmallLaws.{SmallHasNoFault, SmallHasOnePath, Sm
 lawful : IsLawful small_policy
 unfolding unlawful offences offence_1 offence_2 offence_3 offence_4 offence_5 offence_6 offence_7 offence_8 offence_9 offence_10 offence_11 offence_12 offence_13 offence_14 offence_15 offence_16 offence_17 offence_18 offence_19 offence_20 offence_21 offence_22 offence_23 offence_24 first_overlap window_extents windows_of
 lawful = refl
+
+-- its contents name no file
+files_there : (files : Held) → AreFilesHeld small_policy files
+unfolding items_of placed_items device_items
+files_there files = refl
 
 contents : (files : Held) → AreContents small_policy files small_image
 unfolding things_of items_of placed_items device_items declared_size item_of initial_bytes by_number
@@ -276,6 +281,7 @@ sound files =
     record {
       lawful = lawful;
       parts = is_image.parts;
+      held = files_there files;
       contents = contents files;
       walks = All-from_recursion (λ (e : Subject × SubjectPart). HasWalks small_policy small_image e.0 e.1) both (walks, tt);
       tables = All-from_recursion (λ (e : Subject × SubjectPart). ReadsTables small_image e.1) both (tables, tt);

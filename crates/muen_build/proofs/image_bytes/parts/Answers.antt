@@ -16,13 +16,13 @@ pub returns-clause-made : goal.returns-clause-made
 returns-clause-made c =
     seen_so c.args.placed.now c.expanded-expanded.ensures.placed c.expanded-expanded.result.now c.expanded-expanded.ensures.value c.lawful.result.now c.resolved-policy.result.now c.lawful.ensures c.resolved-policy.ensures.value
     c.args.name.now c.args.document.now c.args.found.now c.in_ok-things.things c.in_ok-things.ensures.things (IsMadeFor (source_of c.args.placed.now.expanded.lawful)) c.emit.result c.requires.accepts
-    (IfOk-weaker c.emit.result _ _ (λ i emitted files e. made_for c.args.placed.now c.in_ok-things.things i emitted files e) c.emit.ensures)
+    (IfOk-weaker c.emit.result _ _ (λ i emitted files e held. made_for c.args.placed.now c.in_ok-things.things i emitted files e) c.emit.ensures)
 
 pub returns-clause-sound : goal.returns-clause-sound
 returns-clause-sound c =
     seen_so c.args.placed.now c.expanded-expanded.ensures.placed c.expanded-expanded.result.now c.expanded-expanded.ensures.value c.lawful.result.now c.resolved-policy.result.now c.lawful.ensures c.resolved-policy.ensures.value
     c.args.name.now c.args.document.now c.args.found.now c.in_ok-things.things c.in_ok-things.ensures.things (IsSound (source_of c.args.placed.now.expanded.lawful)) c.emit.result c.requires.accepts
-    (IfOk-weaker c.emit.result _ _ (λ i emitted files e. is_sound c.args.placed.now c.in_ok-things.things i emitted files e) c.emit.ensures)
+    (IfOk-weaker c.emit.result _ _ (λ i emitted files e held. is_sound c.args.placed.now c.in_ok-things.things i emitted files e held) c.emit.ensures)
 
 pub returns-clause-spans : goal.returns-clause-spans
 returns-clause-spans c = IfOk-weaker c.emit.result _ _ (λ i emitted. has_spans c.args.placed.now c.in_ok-things.things i emitted.made) c.emit.ensures
