@@ -87,17 +87,6 @@ module _ (r : Resolution) (s : Subject) (front behind : List View) (in_front : f
   pub overlap_parted : first_overlap (map view_extent front ++ map provided_extent (provided_at r.components s.component) ++ map view_extent behind) ≡ overlap_in_subject r s
   overlap_parted = ap first_overlap all_are
 
-  pub all_sized : outside_in_subject r s ≡ None → list_all (λ e. nat_lt 0 e.size) (map view_extent front ++ map provided_extent (provided_at r.components s.component) ++ map view_extent behind) ≡ true
-  all_sized inside = ap (list_all has_size) all_are ∙ ranges.windows_sized s.name (views_of r s) inside
-
-  pub others_sized : outside_in_subject r s ≡ None → list_all (λ e. nat_lt 0 e.size) (map view_extent front ++ map view_extent behind) ≡ true
-  others_sized inside =
-      let given = map provided_extent (provided_at r.components s.component) in
-      let parts = and_parts (list_all has_size (map view_extent front ++ given)) (list_all has_size (map view_extent behind)) (sym (list_all-append has_size (map view_extent front ++ given) (map view_extent behind)) ∙ all_sized inside) in
-      let first = and_parts (list_all has_size (map view_extent front)) (list_all has_size given) (sym (list_all-append has_size (map view_extent front) given) ∙ parts.0) in
-      list_all-append has_size (map view_extent front) (map view_extent behind)
-      ∙ and_from (list_all has_size (map view_extent front)) (list_all has_size (map view_extent behind)) first.0 parts.1
-
   told : (kept : List (Option (List AddressRange))) (used : Option ComponentUse) → AreProvided kept r.components → (apart : List AddressRange) → provided_to kept used ≡ Some apart → StayApart apart (map view_extent front) (map view_extent behind)
       → first_overlap (map view_extent front ++ map provided_extent (provided_at r.components used) ++ map view_extent behind) ≡ None
   told kept None are apart is stay = absurd (cc)

@@ -24,7 +24,3 @@ module _ (ss read : List Subject) (k : ℕ) (s : Subject) (same : read ≡ ss) (
   -- the first offence is of the first of them or of those behind it
   pub first_in_turn : {O : Type 0} (at : Subject → Option O) (answer : Option O) → answer ≡ at s → first_in at (drop k ss) ≡ option_or answer (first_in at (drop (k + 1) ss))
   first_in_turn at answer says = first_step at ss k s answer inside there says
-
-  -- where there is none, neither the first offends nor one behind it
-  pub none_in_turn : {O : Type 0} (at : Subject → Option O) → first_in at (drop k ss) ≡ None → (at s ≡ None) × (first_in at (drop (k + 1) ss) ≡ None)
-  none_in_turn at none = none_both (at s) (first_in at (drop (k + 1) ss)) (sym (first_in_turn at (at s) (λ i. at s)) ∙ none)

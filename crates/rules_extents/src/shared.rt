@@ -86,9 +86,10 @@ fn joined(alloc: Global, front: &[Extent], behind: &[Extent]) -> Result<Vec<Exte
 }
 
 impl Apart {
-    /// Keeps these ranges, where no two share an address. None is empty.
+    /// Keeps these ranges, where no two share an address.
     ///
     /// Answers `NoMemory` where memory was refused.
+    #[tactic(auto, using(crate::proofs::Ranges::addresses_rise))]
     pub fn of(alloc: Global, extents: &[Extent]) -> Result<Option<Apart>, NoMemory>
         ensures { IfOk result (λ o. IfSome o (λ apart. AreKept apart extents.now)) }
     {
@@ -100,7 +101,7 @@ impl Apart {
     }
 
     /// Whether these ranges in front of the kept ones, and those behind them, share no address with
-    /// them nor with each other. None is empty.
+    /// them nor with each other.
     ///
     /// Answers `NoMemory` where memory was refused.
     #[tactic(auto, using(crate::proofs::Beside::stay_apart))]
@@ -110,7 +111,6 @@ impl Apart {
         front: &[Extent],
         behind: &[Extent],
     ) -> Result<bool, NoMemory>
-        requires { list_all (λ e. nat_lt 0 e.size) (front.now ++ behind.now) ≡ true }
         ensures { IfOk result (λ b. IsTrue b → StayApart self.now front.now behind.now) }
     {
         let others = joined(alloc, front, behind)?;

@@ -8,6 +8,5 @@ use Rattle.rules_extents.proofs.apart.windows_apart.Given as goal
 abbrev pub invariant-loop-index : goal.invariant-loop-index
 invariant-loop-index l = record {
   rest : first_in (overlap_in_subject l.policy) (drop l.index l.policy.subjects) ≡ first_in (overlap_in_subject l.policy) l.policy.subjects;
-  inside : first_in (outside_in_subject l.policy) (drop l.index l.policy.subjects) ≡ None;
   provided : AreProvided l.provided.items l.policy.components;
 }
