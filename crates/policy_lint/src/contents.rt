@@ -3,7 +3,6 @@ ghost use Rattle.std.specs.Prelude.{◌≡◌, [], IfErr, IfOk};
 ghost use Rattle.muen_build.specs.Accepting.{Grows, IsAskedBy, WithGiven, given_files, thing_names, thing_refused};
 ghost use Rattle.muen_build.specs.Looks.{names_file};
 ghost use Rattle.policy_lawful.specs.Resolution.{source_of};
-ghost use Rattle.policy_lint.specs.All.{all_contents_refused};
 ghost use Rattle.policy_lint.specs.Seen.{StopsLooking, length_refused, seen_looks};
 ghost use Rattle.policy_lint.specs.Linting.{TellsContents};
 
@@ -51,11 +50,13 @@ fn content_refused<F: Files>(
     match policy.content(thing.content) {
         None | Some(Content::Zero) | Some(Content::Fill(_)) => Ok(None),
         Some(Content::Inline(bytes)) => Ok(fits(thing, bytes.len() as u64).err()),
-        Some(Content::File {
-            name: file,
-            offset,
-            length: most,
-        }) => {
+        Some(
+            Content::File {
+                name: file,
+                offset,
+                length: most,
+            },
+        ) => {
             let length = length_of(alloc, given, *file, seen, files)?;
             Ok(file_refused(thing, *file, *offset, *most, length))
         }

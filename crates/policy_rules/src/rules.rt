@@ -226,10 +226,7 @@ pub fn broken_rules(alloc: Global, policy: &Linked) -> Result<Seq<Refusal>, NoMe
 /// refused policy is dropped.
 ///
 /// Answers `NoMemory` where memory was refused.
-pub fn check_all(
-    alloc: Global,
-    policy: Linked,
-) -> Result<Result<Lawful, Seq<Refusal>>, NoMemory>
+pub fn check_all(alloc: Global, policy: Linked) -> Result<Result<Lawful, Seq<Refusal>>, NoMemory>
     ensures { IfOk result (λ told. all_kept told ≡ all_kept_or (source_of policy) (broken_rules (source_of policy))) }
 {
     let broken = broken_rules(alloc, &policy)?;

@@ -1,7 +1,6 @@
 //! Rule 22: the windows of domains lie on regions, and are disjoint ranges of guest addresses
 //! without a right to execute.
-ghost use Rattle.std.specs.Prelude.{◌≡◌, None, map, true, option_map, IfOk};
-ghost use Rattle.std.specs.List.{list_all};
+ghost use Rattle.std.specs.Prelude.{◌≡◌, None, map, option_map, IfOk};
 ghost use Rattle.muen_num.specs.Search.{first_in};
 ghost use Rattle.policy_lawful.specs.Domains.{offence_22};
 ghost use Rattle.policy_lawful.specs.Offences.{two};

@@ -1,15 +1,10 @@
 -- Rule 19 is the shared search: each fixed region lies in a block, and no two share an address.
-use Rattle.std.proofs.Common.{◌≡◌, ℕ, zero, suc, ◌≤◌, Bool, true, not, List, [], ◌∷◌, length, take, cond, Option, Some, None, refl, sym, ap, ◌∙◌}
-use Rattle.std.specs.Prelude.{◌&&◌, ◌+◌, nat_lt, option_map, slice_get}
+use Rattle.std.proofs.Common.{◌≡◌, ℕ, ◌≤◌, Bool, not, List, [], ◌∷◌, length, take, cond, refl, sym, ap, ◌∙◌}
+use Rattle.std.specs.Prelude.{◌+◌, option_map, slice_get}
 use Rattle.std.specs.Option.{option_or}
-use Rattle.std.specs.List.{cons_option, list_all, position_or_len}
-use Rattle.std.proofs.lemmas.Bool.{and_from, and_parts}
-use Rattle.std.proofs.Math.Seq.{take-nil}
+use Rattle.std.specs.List.{position_or_len}
 use Rattle.std.proofs.lemmas.List.Sums.{prefix_len-le-length}
-use Rattle.muen_num.specs.Search.{first_pair}
-use Rattle.muen_num.proofs.FirstPair.{first_pair-append}
 use Rattle.muen_num.proofs.Lists.{list_any-map}
-use Rattle.muen_num.proofs.SearchLaws.{none_both}
 use Rattle.rules_extents.specs.Inside.{holds}
 use Rattle.rules_extents.specs.Inside as inside
 use Rattle.rules_extents.specs.AddressRange.{address_range_of}
@@ -19,14 +14,9 @@ use Rattle.policy_lawful.specs.MoreRules.{offence_19}
 use Rattle.policy_lawful.specs.Offences.{alone}
 use Rattle.policy_lawful.specs.Ranges.{in_a_block}
 use Rattle.policy_lawful.specs.Resolution.{Resolution, source_of}
-use Rattle.policy_lawful.specs.Rules.{first_overlap, is_alignment, is_fixed, is_laid, is_page_size, offence_4, offence_18, overlapping}
-use Rattle.muen_num.specs.Numbers.{is_page_aligned}
+use Rattle.policy_lawful.specs.Rules.{first_overlap}
 use Rattle.policy_lawful.specs.declared.offence.Extent.{Extent}
-use Rattle.policy_lawful.proofs.KeptAddresses.{addresses_kept}
-use Rattle.policy_lawful.specs.source.Region.{Region}
 use Rattle.policy_lawful.specs.source.Source.{Source}
-use Rattle.rules_extents.specs.Windows.{device_extents}
-use Rattle.rules_extents.proofs.RangesByIndex.{blocks_sized}
 use Rattle.rules_extents.specs.Fixed.{block_extents, fixed_extents}
 
 -- ---- the search

@@ -1,24 +1,19 @@
 -- A range lies in one of many that share no address just where it lies in the last of those that begin at its address or
 -- before it.
-use Rattle.std.proofs.Common.{◌≡◌, ℕ, zero, suc, ◌+◌, ◌-◌, ◌<◌, ◌≤◌, inl, inr, Bool, true, false, cond, not, List, [], ◌∷◌, length, get_or, drop, drop-cons, add-one, map, None, refl, sym, ap, ◌∙◌, arith}
-use Rattle.std.specs.Prelude.{◌||◌, nat_le, nat_lt}
-use Rattle.std.specs.List.{All, AllAdjacentBelow, AllWithin, list_all, list_any, position_or_len}
+use Rattle.std.proofs.Common.{◌≡◌, ℕ, suc, ◌+◌, ◌-◌, ◌<◌, ◌≤◌, inl, inr, Bool, true, false, cond, not, List, [], ◌∷◌, length, get_or, drop, drop-cons, add-one, map, refl, sym, ap, subst, ◌∙◌, arith}
+use Rattle.std.specs.Prelude.{◌||◌, nat_le}
+use Rattle.std.specs.List.{AllAdjacentBelow, AllWithin, list_any, position_or_len}
 use Rattle.std.specs.List.Sorted.{IsPartitionedBy, IsPermutation, IsNonDecreasingBy}
 use Rattle.std.proofs.Math.ListN.{drop_of_length-le}
-use Rattle.std.proofs.lemmas.Bool.{cases_order, le-leb, leb-true, ltb-true}
+use Rattle.std.proofs.lemmas.Bool.{and_from, and_parts, cases_order, false≢true, le-leb, leb-true}
+use Rattle.std.proofs.lemmas.List.Folds.{list_any_at}
 use Rattle.std.proofs.lemmas.Bool.Decides.{nat_tests}
-use Rattle.std.proofs.lemmas.List.Elements.{All-map, All-weaker}
-use Rattle.std.proofs.lemmas.List.Sorted.{All-permutation, list_any-IsPermutation}
-use Rattle.std.proofs.lemmas.List.Sums.{AllPass-from_list_all}
-use Rattle.std.proofs.Math.Bool.{or-false}
+use Rattle.std.proofs.lemmas.List.Sorted.{list_any-IsPermutation}
 use Rattle.muen_num.proofs.Lists.{list_any-map}
-use Rattle.policy_lawful.specs.Rules.{first_overlap}
 use Rattle.policy_lawful.specs.declared.offence.Extent.{Extent}
 use Rattle.rules_extents.specs.Inside.{holds, is_inside}
-use Rattle.rules_extents.specs.AddressRange.{IsApart, address_range_of, IsBelow}
+use Rattle.rules_extents.specs.AddressRange.{address_range_of, IsBelow}
 use Rattle.rules_extents.specs.declared.overlap.AddressRange.{AddressRange}
-use Rattle.rules_extents.proofs.Overlaps.{ranges_apart}
-use Rattle.rules_extents.proofs.Ranges.{EachTwo-permutation, neighbours_from_apart}
 
 -- ---- a test that one element passes where any does
 

@@ -1,11 +1,9 @@
 -- The windows of a subject in parts: those on what its component provides are looked at once, at the component.
 use Rattle.std.proofs.Common.{◌≡◌, ℕ, zero, suc, ◌+◌, ◌<◌, ◌⊎◌, inl, inr, get_or, true, List, [], ◌∷◌, ◌++◌, length, map, Option, Some, None, refl, sym, ap, ◌∙◌, subst}
-use Rattle.std.specs.Prelude.{nat_lt, slice_get, IfSome, IsSomeAnd}
+use Rattle.std.specs.Prelude.{slice_get, IfSome, IsSomeAnd}
 use Rattle.std.specs.Option.{option_map_or, option_or}
-use Rattle.std.specs.List.{enumerate_from, list_all}
-use Rattle.std.proofs.lemmas.Bool.{and_from, and_parts}
+use Rattle.std.specs.List.{enumerate_from}
 use Rattle.std.proofs.lemmas.List.{map-append}
-use Rattle.std.proofs.lemmas.List.Folds.{list_all-append}
 use Rattle.std.proofs.lemmas.Option.{slice_get_read}
 use Rattle.muen_num.specs.Search.{first_in, unless}
 use Rattle.muen_num.proofs.SearchLaws.{first_in-append, none_both, option_or-None, unless_none}
@@ -25,8 +23,6 @@ use Rattle.rules_extents.specs.Parted.{AreProvided, kept_at, provided_extent, pr
 use Rattle.rules_extents.specs.Shared.{AreKept, StayApart}
 use Rattle.rules_extents.specs.Windows.{component_ranges, elements_offence, outside, outside_in_subject, overlap_in_subject, provided_offence}
 use Rattle.rules_extents.specs.declared.overlap.AddressRange.{AddressRange}
-use Rattle.rules_extents.proofs.RangesByIndex.{has_size}
-use Rattle.rules_extents.proofs.RangesByIndex as ranges
 
 -- ---- rule 4
 

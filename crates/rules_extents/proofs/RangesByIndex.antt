@@ -1,27 +1,16 @@
 -- Rules 4, 5 and 18 of a resolved policy are those of its source policy.
-use Rattle.std.proofs.Common.{◌≡◌, ℕ, Bool, true, List, [], ◌∷◌, map, None, refl, sym, ap, ◌∙◌}
-use Rattle.std.specs.Prelude.{◌&&◌, nat_lt}
-use Rattle.std.specs.List.{list_all}
-use Rattle.std.proofs.lemmas.Bool.{and_from, and_parts}
-use Rattle.std.proofs.lemmas.List.Folds.{list_all-append, list_all-map}
+use Rattle.std.proofs.Common.{◌≡◌, map, refl, sym, ap, ◌∙◌}
 use Rattle.muen_num.specs.Search.{first_in, unless}
-use Rattle.muen_num.proofs.Lists.{each_from}
 use Rattle.muen_num.proofs.SameAnswers.{first_in-map, first_in_same}
-use Rattle.muen_num.proofs.SearchLaws.{all_pass, first_over-map, none_both, option_or-None, option_or_assoc}
-use Rattle.policy_lawful.specs.ByIndex.{block_extent}
-use Rattle.policy_lawful.specs.Offences.{alone, two}
+use Rattle.muen_num.proofs.SearchLaws.{first_over-map, option_or-None, option_or_assoc}
+use Rattle.policy_lawful.specs.Offences.{two}
 use Rattle.policy_lawful.specs.Resolution.{IsResolved, Resolution, source_of, subject_named, subject_in_range}
-use Rattle.policy_lawful.specs.Rules.{component_offence, first_overlap, is_guest, is_page_size, is_physical, offence_4, offence_5, offence_18, window_extents, window_offence}
-use Rattle.muen_num.specs.Numbers.{is_page_aligned}
-use Rattle.policy_lawful.specs.declared.offence.Extent.{Extent}
+use Rattle.policy_lawful.specs.Rules.{component_offence, first_overlap, is_guest, offence_4, offence_5, offence_18, window_extents, window_offence}
 use Rattle.policy_lawful.proofs.SourceElements.{parts_in_range}
-use Rattle.policy_lawful.specs.source.Block.{Block}
 use Rattle.policy_lawful.specs.source.Component.{Component}
-use Rattle.policy_lawful.specs.source.Device.{Device}
 use Rattle.policy_lawful.specs.Views.{view_extent, views_of}
-use Rattle.policy_lawful.specs.declared.view.View.{View}
 use Rattle.policy_lawful.proofs.ExtentsByIndex.{extents_by_index}
-use Rattle.rules_extents.specs.Windows.{addresses_offence, component_ranges, device_extent, device_extents, device_memory_offence, elements_offence, outside, outside_in_subject, overlap_in_subject, physical_extents}
+use Rattle.rules_extents.specs.Windows.{addresses_offence, component_ranges, outside_in_subject, overlap_in_subject, physical_extents}
 
 -- ---- rule 4
 

@@ -1,11 +1,10 @@
 -- The subjects from one on: that one, read with its index, and those behind it.
-use Rattle.std.proofs.Common.{◌≡◌, ℕ, ◌+◌, ◌<◌, suc, Bool, List, drop, drop-cons, add-one, get_or, length, Option, None, sym, ap, subst, ◌∙◌}
+use Rattle.std.proofs.Common.{◌≡◌, ℕ, ◌+◌, ◌<◌, suc, Bool, List, drop, drop-cons, add-one, get_or, length, Option, sym, ap, subst, ◌∙◌}
 use Rattle.std.specs.Prelude.{◌||◌}
 use Rattle.std.specs.List.{list_any}
 use Rattle.std.specs.Option.{option_or}
 use Rattle.muen_num.specs.Search.{first_in}
 use Rattle.muen_num.proofs.FirstSteps.{first_step}
-use Rattle.muen_num.proofs.SearchLaws.{none_both}
 use Rattle.policy_lawful.specs.declared.resolved.Subject.{Subject}
 
 module _ (ss read : List Subject) (k : ℕ) (s : Subject) (same : read ≡ ss) (within : k < length read) (is : s ≡ get_or read k s) where

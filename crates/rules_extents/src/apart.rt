@@ -1,13 +1,12 @@
 // Rules 5 and 18: windows of a subject, and blocks and devices' memory, that share no address.
-ghost use Rattle.std.specs.Prelude.{◌≡◌, ◌++◌, true, nat_lt, None, map, IfOk, IsSomeAnd, IsTrue};
-ghost use Rattle.std.specs.List.{list_all};
+ghost use Rattle.std.specs.Prelude.{◌≡◌, ◌++◌, None, map, IfOk, IsSomeAnd, IsTrue};
 ghost use Rattle.policy_lawful.specs.ByIndex.{block_extent};
 ghost use Rattle.policy_lawful.specs.Resolution.{source_of};
-ghost use Rattle.policy_lawful.specs.Rules.{first_overlap, offence_4, offence_5, offence_18};
+ghost use Rattle.policy_lawful.specs.Rules.{first_overlap, offence_5, offence_18};
 ghost use Rattle.policy_views.specs.Parts.{behind_views, front_views};
 ghost use Rattle.rules_extents.specs.Parted.{AreProvided, provided_extent, provided_to};
 ghost use Rattle.rules_extents.specs.Shared.{StayApart};
-ghost use Rattle.rules_extents.specs.Windows.{device_extent, device_extents, outside_in_subject, overlap_in_subject, physical_extents};
+ghost use Rattle.rules_extents.specs.Windows.{device_extent, device_extents, overlap_in_subject, physical_extents};
 
 use crate::overlap::first_overlap;
 use crate::shared::Apart;

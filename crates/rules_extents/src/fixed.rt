@@ -1,5 +1,5 @@
 // Rule 19: fixed regions lie inside blocks, and share no address.
-ghost use Rattle.std.specs.Prelude.{◌≡◌, None, IfOk};
+ghost use Rattle.std.specs.Prelude.{◌≡◌, IfOk};
 ghost use Rattle.policy_lawful.specs.MoreRules.{fixed_extent, offence_19};
 ghost use Rattle.policy_lawful.specs.Resolution.{source_of};
 ghost use Rattle.rules_extents.specs.Fixed.{block_extents, fixed_extents};

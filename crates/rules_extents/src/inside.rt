@@ -1,6 +1,6 @@
 // Which ranges lie inside others.
-ghost use Rattle.std.specs.Prelude.{◌≡◌, ◌<◌, ◌≤◌, None, length, not, nat_lt, true, IfOk};
-ghost use Rattle.std.specs.List.{AllAdjacentBelow, AllWithin, list_all, list_any, position_or_len};
+ghost use Rattle.std.specs.Prelude.{◌≡◌, ◌<◌, ◌≤◌, length, not, IfOk};
+ghost use Rattle.std.specs.List.{AllAdjacentBelow, AllWithin, list_any, position_or_len};
 ghost use Rattle.std.specs.List.Sorted.{IsNonDecreasingBy};
 ghost use Rattle.rules_extents.specs.Inside.{holds, is_inside};
 ghost use Rattle.rules_extents.specs.AddressRange.{IsBelow};
@@ -56,12 +56,19 @@ fn count_in(ranges: &[AddressRange], extents: &[Extent]) -> usize
     extents.len()
 }
 
-// The same of blocks in any order, which may share addresses.
+// Whether a range lies wholly in one of these, in any order, which may share addresses.
+fn is_in_any(blocks: &[AddressRange], extent: &Extent) -> bool
+    ensures { result ≡ list_any (holds extent.now) blocks.now }
+{
+    blocks.iter().any(|block| holds(*block, extent))
+}
+
+// How many of the first ranges lie each in one of those, where the next one doesn't.
 fn count_in_any(blocks: &[AddressRange], extents: &[Extent]) -> usize
     ensures { result ≡ position_or_len (λ e. not (list_any (holds e) blocks.now)) extents.now }
 {
     for (index, extent) in extents.iter().enumerate() {
-        if !blocks.iter().any(|block| holds(*block, extent)) {
+        if !is_in_any(blocks, extent) {
             return index;
         }
     }

@@ -1,7 +1,7 @@
 // Which two of many ranges overlap first.
-ghost use Rattle.std.specs.Prelude.{◌≡◌, ◌+◌, ◌<◌, ◌≤◌, ◌↔◌, true, length, map, take, nat_lt, nat_le, slice_get, is_some, option_map, None, IfOk, IsTrue};
+ghost use Rattle.std.specs.Prelude.{◌≡◌, ◌+◌, ◌<◌, ◌≤◌, ◌↔◌, true, length, map, take, nat_le, slice_get, is_some, option_map, None, IfOk, IsTrue};
 ghost use Rattle.std.specs.Option.{option_or};
-ghost use Rattle.std.specs.List.{All, AllAdjacentBelow, list_all};
+ghost use Rattle.std.specs.List.{AllAdjacentBelow};
 ghost use Rattle.std.specs.List.Sorted.{IsPermutation, IsNonDecreasingBy};
 ghost use Rattle.muen_num.specs.Search.{first_in};
 ghost use Rattle.policy_lawful.specs.Offences.{alone};

@@ -1,6 +1,6 @@
 //! Ranges that are met again and again beside others.
-ghost use Rattle.std.specs.Prelude.{◌≡◌, ◌≤◌, ◌++◌, true, length, nat_lt, IfOk, IfSome, IsTrue};
-ghost use Rattle.std.specs.List.{All, AllAdjacentBelow, list_all};
+ghost use Rattle.std.specs.Prelude.{◌≡◌, ◌≤◌, ◌++◌, true, length, IfOk, IfSome, IsTrue};
+ghost use Rattle.std.specs.List.{All, AllAdjacentBelow};
 ghost use Rattle.std.specs.List.Sorted.{IsNonDecreasingBy};
 ghost use Rattle.rules_extents.specs.AddressRange.{IsApart, IsBelow, address_range_of};
 ghost use Rattle.rules_extents.specs.Shared.{AreKept, IsBehind, IsInFront, StayApart};
@@ -89,7 +89,6 @@ impl Apart {
     /// Keeps these ranges, where no two share an address.
     ///
     /// Answers `NoMemory` where memory was refused.
-    #[tactic(auto, using(crate::proofs::Ranges::addresses_rise))]
     pub fn of(alloc: Global, extents: &[Extent]) -> Result<Option<Apart>, NoMemory>
         ensures { IfOk result (λ o. IfSome o (λ apart. AreKept apart extents.now)) }
     {

@@ -1,10 +1,9 @@
 use Rattle.std.proofs.Common.{◌≡◌, ◌++◌, map, ap, subst, ◌∙◌}
-use Rattle.std.specs.Prelude.{IfOk, IsSomeAnd, nat_lt}
-use Rattle.std.specs.List.{list_all}
+use Rattle.std.specs.Prelude.{IfOk, IsSomeAnd}
 use Rattle.policy_lawful.specs.Rules.{first_overlap}
 use Rattle.policy_lawful.specs.Views.{view_extent}
 use Rattle.rules_extents.specs.Parted.{provided_extent, provided_to}
-use Rattle.rules_extents.proofs.Parted.{all_sized, others_sized, overlap_parted, told_apart}
+use Rattle.rules_extents.proofs.Parted.{overlap_parted, told_apart}
 use Rattle.rules_extents.specs.Shared.{StayApart}
 use Rattle.rules_extents.proofs.apart.of_subject.Goals as goal
 

@@ -3,7 +3,7 @@ use Rattle.std.proofs.Math.ListN.{drop_of_length-le}
 use Rattle.muen_num.specs.Search.{first_in}
 use Rattle.policy_views.proofs.SightsAtIndex.{behind_read, front_read}
 use Rattle.rules_extents.specs.Parted.{AreProvided}
-use Rattle.rules_extents.specs.Windows.{outside_in_subject, overlap_in_subject}
+use Rattle.rules_extents.specs.Windows.{overlap_in_subject}
 use Rattle.rules_extents.proofs.RangesByIndex.{windows_apart}
 use Rattle.rules_extents.proofs.SubjectsInTurn.{first_in_turn}
 use Rattle.rules_extents.proofs.apart.windows_apart.Goals as goal

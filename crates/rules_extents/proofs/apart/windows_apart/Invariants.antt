@@ -1,8 +1,8 @@
 -- No windows of the subjects so far share an address.
-use Rattle.std.proofs.Common.{◌≡◌, None, drop}
+use Rattle.std.proofs.Common.{◌≡◌, drop}
 use Rattle.muen_num.specs.Search.{first_in}
 use Rattle.rules_extents.specs.Parted.{AreProvided}
-use Rattle.rules_extents.specs.Windows.{outside_in_subject, overlap_in_subject}
+use Rattle.rules_extents.specs.Windows.{overlap_in_subject}
 use Rattle.rules_extents.proofs.apart.windows_apart.Given as goal
 
 abbrev pub invariant-loop-index : goal.invariant-loop-index
