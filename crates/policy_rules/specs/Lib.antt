@@ -1,3 +1,4 @@
+pub mod Broken
 pub mod Cpus
 pub mod Groups
 pub mod InTurn

@@ -25,19 +25,6 @@ extent_of d = bus_extent d.name d.bdf
 abbrev extents : List Device → List Extent
 extents ds = filter_map (λ d. bus_extent d.name d.bdf) ds
 
-size_one : (d : Device) (b : Option Bdf) (es : List Extent) → list_all (λ e. nat_lt 0 e.size) es ≡ true → list_all (λ e. nat_lt 0 e.size) (cons_option (bus_extent d.name b) es) ≡ true
-size_one d None es h = h
-size_one d (Some b) es h =
-    elim (is_bdf (Some b)) as (λ t. list_all (λ e. nat_lt 0 e.size) (cons_option (cond t (Some (record { name = d.name; address = b.bus * 256 + b.device * 8 + b.function; size = 1 })) None) es) ≡ true) [
-      | true ↦ h
-      | false ↦ h
-    ]
-
--- no range is empty
-pub bus_sized : (ds : List Device) → list_all (λ e. nat_lt 0 e.size) (filter_map (λ d. bus_extent d.name d.bdf) ds) ≡ true
-bus_sized [] = refl
-bus_sized (d ∷ ds) = size_one d d.bdf (extents ds) (bus_sized ds)
-
 -- ---- two bus, device and function numbers
 
 abbrev bdf_number : Bdf → ℕ

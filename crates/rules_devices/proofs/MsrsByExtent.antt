@@ -30,13 +30,6 @@ ends_low x sound =
       | inr high ↦ leb-true x.end HIGH_MSR_LAST (and_parts _ _ high).1
     ]
 
-sized : (name : List ℕ) (x : Msrs) → nat_lt 0 (msr_extent name x).size ≡ true
-sized name x = lt-ltb 0 (min 18446744073709551615 (x.end - x.start + 1)) (omega arith)
-
-pub msrs_sized : (name : List ℕ) (xs : List Msrs) → list_all (λ e. nat_lt 0 e.size) (map (msr_extent name) xs) ≡ true
-msrs_sized name [] = refl
-msrs_sized name (x ∷ xs) = and_from _ _ (sized name x) (msrs_sized name xs)
-
 below : (a b n : ℕ) → a ≤ b → b ≤ HIGH_MSR_LAST → nat_le (a + min 18446744073709551615 (b - a + 1)) n ≡ nat_le (b + 1) n
 below a b n l most =
     let e : a + min 18446744073709551615 (b - a + 1) ≡ b + 1 = omega arith in

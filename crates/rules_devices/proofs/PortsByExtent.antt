@@ -50,9 +50,6 @@ breaks xs =
 pub sound_within : (xs : List Extent) → position_or_len (λ e. e.size == 0) xs ≤ length xs
 sound_within xs = prefix_len-le-length (λ e. not (e.size == 0)) xs
 
-pub sound_sized : (xs : List Extent) → list_all (λ e. nat_lt 0 e.size) (take (position_or_len (λ e. e.size == 0) xs) xs) ≡ true
-sound_sized xs = (breaks xs).before
-
 -- ---- as ranges of addresses
 
 size_is : (x : Ports) → is_port_range x ≡ true → (port_extent x).size ≡ x.end - x.start + 1

@@ -20,20 +20,6 @@ use Rattle.policy_lawful.specs.source.Region.{Region}
 use Rattle.rules_extents.proofs.FixedByExtent.{one_sized}
 use Rattle.rules_devices.specs.Windows.{size_among, undeclared_in, mapping_extent, domain_windows_offence}
 
--- ---- sizes
-
--- a declared region has a size
-size_there : (regions : List Region) (name : List ℕ) → list_all is_laid regions ≡ true → is_declared (map (λ r. r.name) regions) name ≡ true → nat_lt 0 (size_among regions name) ≡ true
-size_there regions name laid declared =
-    let at = found (λ r. bytes_eq r.name name) regions (sym (list_any-map (λ n. bytes_eq n name) (λ (r : Region). r.name) regions) ∙ declared) in
-    ap (λ o. nat_lt 0 (option_map_or (λ r. r.size) o 0)) at.is ∙ one_sized at.item (at.among is_laid laid)
-
-pub windows_sized : (regions : List Region) (d : Domain) → list_all is_laid regions ≡ true → undeclared_in regions d ≡ None → list_all (λ e. nat_lt 0 e.size) (map (mapping_extent regions) d.memory) ≡ true
-windows_sized regions d laid none =
-    list_all-map (λ e. nat_lt 0 e.size) (mapping_extent regions) d.memory
-    ∙ each_from (λ m. is_declared (map (λ r. r.name) regions) m.region) (λ m. nat_lt 0 (size_among regions m.region)) (λ m declared. size_there regions m.region laid declared) d.memory
-    (all_pass (λ m. is_declared (map (λ r. r.name) regions) m.region) (λ m. two d.name m.region) d.memory none)
-
 -- ---- the later one of a pair is named
 
 unless_named : (by : List ℕ) (t : Bool) (o : Offence) → unless t (two by o.second) ≡ option_map (λ o. two by o.second) (unless t o)
@@ -63,10 +49,6 @@ unfolding first_overlap
 overlap_named by xs = sym (after_named by [] xs)
 
 -- ---- rule 22
-
-pub regions_laid : (r : Resolution) → offence_4 (source_of r) ≡ None → list_all is_laid r.memory ≡ true
-unfolding source_of
-regions_laid r h = (addresses_kept (source_of r) h).regions
 
 pub windows_by_index : (r : Resolution) → domain_windows_offence r.memory r.device_domains ≡ offence_22 (source_of r)
 unfolding offence_22 source_of

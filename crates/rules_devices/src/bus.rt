@@ -71,7 +71,7 @@ fn impossible(devices: &[Device]) -> Option<Offence>
 }
 
 // The first two devices with the same bus, device and function number.
-#[tactic(auto, using(crate::proofs::BusByExtent::bus_sized, crate::proofs::BusByExtent::bus_by_extent))]
+#[tactic(auto, using(crate::proofs::BusByExtent::bus_by_extent))]
 fn shared(alloc: Global, devices: &[Device]) -> Result<Option<Offence>, NoMemory>
     requires { first_in (λ d. unless (is_bdf d.bdf) (alone d.name)) devices.now ≡ None }
     ensures { IfOk result (λ o. o ≡ first_pair (λ a b. unless (not (same_bdf a.bdf b.bdf)) (two a.name b.name)) devices.now) }

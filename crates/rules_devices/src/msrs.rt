@@ -53,7 +53,6 @@ fn msr_extents(alloc: Global, name: Name, ranges: &[Msrs]) -> Result<Vec<Extent>
 }
 
 // The first two of these ranges that share an MSR, under this name.
-#[tactic(auto, using(crate::proofs::MsrsByExtent::msrs_sized))]
 fn overlap(alloc: Global, name: Name, ranges: &[Msrs]) -> Result<Option<Offence>, NoMemory>
     ensures { IfOk result (λ o. o ≡ first_overlap (map (msr_extent name) ranges.now)) }
 {

@@ -81,7 +81,7 @@ fn count_sound(extents: &[Extent]) -> usize
 /// share a port.
 ///
 /// Answers `NoMemory` where memory was refused.
-#[tactic(auto, using(crate::proofs::PortsByExtent::sound_within, crate::proofs::PortsByExtent::sound_sized, crate::proofs::PortsByExtent::ports_by_extent))]
+#[tactic(auto, using(crate::proofs::PortsByExtent::sound_within, crate::proofs::PortsByExtent::ports_by_extent))]
 pub fn port_ranges(alloc: Global, policy: &Linked) -> Result<Option<Offence>, NoMemory>
     ensures { IfOk result (λ o. o ≡ offence_10 (source_of policy.now)) }
 {

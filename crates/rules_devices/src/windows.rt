@@ -1,12 +1,11 @@
 //! Rule 22: the windows of domains lie on regions, and are disjoint ranges of guest addresses
 //! without a right to execute.
-ghost use Rattle.std.specs.Prelude.{◌≡◌, None, map, true, option_map, IfOk};
-ghost use Rattle.std.specs.List.{list_all};
+ghost use Rattle.std.specs.Prelude.{◌≡◌, None, map, option_map, IfOk};
 ghost use Rattle.muen_num.specs.Search.{first_in};
 ghost use Rattle.policy_lawful.specs.Domains.{offence_22};
 ghost use Rattle.policy_lawful.specs.Offences.{two};
 ghost use Rattle.policy_lawful.specs.Resolution.{source_of};
-ghost use Rattle.policy_lawful.specs.Rules.{first_overlap, is_laid, offence_4};
+ghost use Rattle.policy_lawful.specs.Rules.{first_overlap};
 ghost use Rattle.rules_devices.specs.Windows.{undeclared_in, unaligned_in, outside_in, executable_in, mapping_extent, overlap_in, domain_windows_offence};
 
 use crate::declared::Declared;
@@ -99,15 +98,12 @@ fn second_of(domain: Name, overlap: Option<Offence>) -> Option<Offence>
     })
 }
 
-// The first two windows of a domain that share an address, where each is on a region.
-#[tactic(auto, using(crate::proofs::WindowsByExtent::windows_sized))]
+// The first two windows of a domain that share an address.
 fn overlap(
     alloc: Global,
     regions: &Declared<'_, Region>,
     domain: &Domain,
 ) -> Result<Option<Offence>, NoMemory>
-    requires sizes { list_all is_laid regions.now.items.now ≡ true }
-    requires on_regions { undeclared_in regions.now.items.now domain.now ≡ None }
     ensures { IfOk result (λ o. o ≡ first_overlap (map (mapping_extent regions.now.items.now) domain.now.memory)) }
 {
     let extents = extents(alloc, regions, domain.memory.items())?;
@@ -120,8 +116,6 @@ fn overlap_in(
     regions: &Declared<'_, Region>,
     domain: &Domain,
 ) -> Result<Option<Offence>, NoMemory>
-    requires sizes { list_all is_laid regions.now.items.now ≡ true }
-    requires on_regions { undeclared_in regions.now.items.now domain.now ≡ None }
     ensures { IfOk result (λ o. o ≡ overlap_in regions.now.items.now domain.now) }
 {
     let overlap = overlap(alloc, regions, domain)?;
@@ -134,8 +128,6 @@ fn overlap_of(
     regions: &Declared<'_, Region>,
     domains: &[Domain],
 ) -> Result<Option<Offence>, NoMemory>
-    requires sizes { list_all is_laid regions.now.items.now ≡ true }
-    requires on_regions { first_in (undeclared_in regions.now.items.now) domains.now ≡ None }
     ensures { IfOk result (λ o. o ≡ first_in (overlap_in regions.now.items.now) domains.now) }
 {
     for domain in domains {
@@ -180,7 +172,6 @@ fn of_windows(
     regions: &Declared<'_, Region>,
     domains: &[Domain],
 ) -> Result<Option<Offence>, NoMemory>
-    requires { list_all is_laid regions.now.items.now ≡ true }
     ensures { IfOk result (λ o. o ≡ domain_windows_offence regions.now.items.now domains.now) }
 {
     if let Some(offence) = undeclared_of(regions, domains) {
@@ -204,9 +195,8 @@ fn of_windows(
 /// before it in its domain.
 ///
 /// Answers `NoMemory` where memory was refused.
-#[tactic(auto, using(policy_lawful::proofs::UniqueNames::regions_unique, crate::proofs::WindowsByExtent::regions_laid, crate::proofs::WindowsByExtent::windows_by_index))]
+#[tactic(auto, using(policy_lawful::proofs::UniqueNames::regions_unique, crate::proofs::WindowsByExtent::windows_by_index))]
 pub fn domain_windows(alloc: Global, policy: &Linked) -> Result<Option<Offence>, NoMemory>
-    requires { offence_4 (source_of policy.now) ≡ None }
     ensures { IfOk result (λ o. o ≡ offence_22 (source_of policy.now)) }
 {
     let regions = Declared::of(alloc, policy.memory())?;

@@ -83,13 +83,13 @@ reordered front kept behind h =
     (subst (λ xs. IsPermutation xs (front ++ kept ++ behind)) (append_assoc kept front behind)
     (IsPermutation-append_left behind (kept ++ front) (front ++ kept) (IsPermutation-append_comm kept front)))) h
 
-pub stay_apart : (ranges : List AddressRange) (front behind : List Extent) → IsNonDecreasingBy (λ s. s.address) ranges → AllAdjacentBelow IsBelow ranges (length ranges) → first_overlap (front ++ behind) ≡ None
+pub stay_apart : (ranges : List AddressRange) (front behind : List Extent) → AllAdjacentBelow IsBelow ranges (length ranges) → first_overlap (front ++ behind) ≡ None
     → All (λ e. All (λ s. IsApart s (address_range_of e)) ranges) (front ++ behind) → StayApart ranges front behind
-stay_apart ranges front behind up below apart clear kept moved =
+stay_apart ranges front behind below apart clear kept moved =
     let both : EachTwo IsApart (map address_range_of (kept ++ (front ++ behind))) =
     subst (EachTwo IsApart) (sym (map-append address_range_of kept (front ++ behind)))
     (EachTwo-append IsApart apart_back (map address_range_of kept) (map address_range_of (front ++ behind))
-    (EachTwo-permutation IsApart ranges (map address_range_of kept) (IsPermutation-sym _ _ moved) (apart_from_neighbours ranges up below))
+    (EachTwo-permutation IsApart ranges (map address_range_of kept) (IsPermutation-sym _ _ moved) (apart_from_neighbours ranges below))
     (ranges_apart (front ++ behind) apart)
     (across kept (front ++ behind) ranges moved clear)) in
     overlap_none (front ++ kept ++ behind) (reordered front kept behind both)

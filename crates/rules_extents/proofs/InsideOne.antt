@@ -1,70 +1,79 @@
 -- A range lies in one of many that share no address just where it lies in the last of those that begin at its address or
 -- before it.
-use Rattle.std.proofs.Common.{◌≡◌, ℕ, zero, suc, ◌+◌, ◌-◌, ◌<◌, ◌≤◌, inl, inr, Bool, true, false, cond, not, List, [], ◌∷◌, length, get_or, drop, drop-cons, add-one, map, None, refl, sym, ap, ◌∙◌, arith}
-use Rattle.std.specs.Prelude.{◌||◌, nat_le, nat_lt}
-use Rattle.std.specs.List.{All, AllAdjacentBelow, AllWithin, list_all, list_any, position_or_len}
+use Rattle.std.proofs.Common.{◌≡◌, ℕ, suc, ◌+◌, ◌-◌, ◌<◌, ◌≤◌, inl, inr, Bool, true, false, cond, not, List, [], ◌∷◌, length, get_or, drop, drop-cons, add-one, map, refl, sym, ap, subst, ◌∙◌, arith}
+use Rattle.std.specs.Prelude.{◌||◌, nat_le}
+use Rattle.std.specs.List.{AllAdjacentBelow, AllWithin, list_any, position_or_len}
 use Rattle.std.specs.List.Sorted.{IsPartitionedBy, IsPermutation, IsNonDecreasingBy}
 use Rattle.std.proofs.Math.ListN.{drop_of_length-le}
-use Rattle.std.proofs.lemmas.Bool.{cases_order, le-leb, leb-true, ltb-true}
+use Rattle.std.proofs.lemmas.Bool.{and_from, and_parts, cases_order, false≢true, le-leb, leb-true}
+use Rattle.std.proofs.lemmas.List.Folds.{list_any_at}
 use Rattle.std.proofs.lemmas.Bool.Decides.{nat_tests}
-use Rattle.std.proofs.lemmas.List.Elements.{All-map, All-weaker}
-use Rattle.std.proofs.lemmas.List.Sorted.{All-permutation, list_any-IsPermutation}
-use Rattle.std.proofs.lemmas.List.Sums.{AllPass-from_list_all}
-use Rattle.std.proofs.Math.Bool.{or-false}
+use Rattle.std.proofs.lemmas.List.Sorted.{list_any-IsPermutation}
 use Rattle.muen_num.proofs.Lists.{list_any-map}
-use Rattle.policy_lawful.specs.Rules.{first_overlap}
 use Rattle.policy_lawful.specs.declared.offence.Extent.{Extent}
 use Rattle.rules_extents.specs.Inside.{holds, is_inside}
-use Rattle.rules_extents.specs.AddressRange.{IsApart, address_range_of, IsBelow}
+use Rattle.rules_extents.specs.AddressRange.{address_range_of, IsBelow}
 use Rattle.rules_extents.specs.declared.overlap.AddressRange.{AddressRange}
-use Rattle.rules_extents.proofs.Overlaps.{ranges_apart}
-use Rattle.rules_extents.proofs.Ranges.{EachTwo-permutation, neighbours_from_apart}
 
--- ---- a test that one element alone may pass
+-- ---- a test that one element passes where any does
 
-none_pass : {X : Type 0} (p : X → Bool) (xs : List X) → ((k : ℕ) (d : X) → k < length xs → p (get_or xs k d) ≡ false) → list_any p xs ≡ false
-none_pass p [] h = refl
-none_pass p (x ∷ xs) h = ap (λ b. b || list_any p xs) (h 0 x (omega arith)) ∙ none_pass p xs (λ k d l. h (suc k) d (omega arith))
+none_pass : {X : Type 0} (p : X → Bool) (xs : List X) (d : X) → ((k : ℕ) → k < length xs → p (get_or xs k d) ≡ false) → list_any p xs ≡ false
+none_pass p [] d h = refl
+none_pass p (x ∷ xs) d h = ap (λ b. b || list_any p xs) (h 0 (omega arith)) ∙ none_pass p xs d (λ k l. h (suc k) (omega arith))
 
-one_passes : {X : Type 0} (p : X → Bool) (xs : List X) (n : ℕ) (d : X) → n < length xs → ((k : ℕ) (d : X) → k < length xs → (k ≡ n → ⊥) → p (get_or xs k d) ≡ false) → list_any p xs ≡ p (get_or xs n d)
-one_passes p [] n d l h = absurd (omega arith)
-one_passes p (x ∷ xs) zero d l h =
-    ap (λ b. p x || b) (none_pass p xs (λ k d l. h (suc k) d (omega arith) (λ e. absurd (omega arith)))) ∙ or-false (p x)
-one_passes p (x ∷ xs) (suc n) d l h =
-    ap (λ b. b || list_any p xs) (h 0 x (omega arith) (λ e. absurd (omega arith)))
-    ∙ one_passes p xs n d (omega arith) (λ k d l other. h (suc k) d (omega arith) (λ e. other (omega arith)))
+fails : (a b : Bool) → (a ≡ true → b ≡ true) → b ≡ false → a ≡ false
+fails true b h none = absurd (false≢true (sym none ∙ h refl))
+fails false b h none = refl
+
+one_passes : {X : Type 0} (p : X → Bool) (xs : List X) (n : ℕ) (d : X) → n < length xs → ((k : ℕ) → k < length xs → p (get_or xs k d) ≡ true → p (get_or xs n d) ≡ true) → p (get_or xs n d) ≡ list_any p xs
+one_passes p xs n d l h =
+    (elim (p (get_or xs n d)) as (λ b. p (get_or xs n d) ≡ b → b ≡ list_any p xs) [
+      | true ↦ λ is. sym (list_any_at p xs n d l is)
+      | false ↦ λ is. sym (none_pass p xs d (λ k here. fails (p (get_or xs k d)) (p (get_or xs n d)) (h k here) is))
+    ]) refl
 
 -- ---- ranges in the order of their addresses
 
 begins_later : (e : Extent) (s : AddressRange) → e.address < s.address → holds e s ≡ false
 begins_later e s h = grind (arith, nat_tests)
 
-ends_before : (e : Extent) (s : AddressRange) → s.address + s.size < e.address + e.size → holds e s ≡ false
-ends_before e s h = grind (arith, nat_tests)
+-- a range holds another
+record Holding (e : Extent) (s : AddressRange) : Type 0 where
+  begins : s.address ≤ e.address
+  ends : e.address + e.size ≤ s.address + s.size
 
-module _ (ranges : List AddressRange) (e : Extent) (up : IsNonDecreasingBy (λ s. s.address) ranges) (below : AllAdjacentBelow IsBelow ranges (length ranges)) (some : nat_lt 0 e.size ≡ true) (count : ℕ) (bound : count ≤ length ranges) (before : AllWithin (λ s. s.address ≤ e.address) ranges 0 count) (behind : AllWithin (λ s. e.address < s.address) ranges count (length ranges)) where
-  size : 0 < e.size
-  size = ltb-true 0 e.size some
+holding : (e : Extent) (s : AddressRange) → holds e s ≡ true → Holding e s
+holding e s h =
+    let both = and_parts (nat_le s.address e.address) (nat_le (e.address + e.size) (s.address + s.size)) h in
+    record { begins = leb-true _ _ both.0; ends = leb-true _ _ both.1 }
 
+held : (e : Extent) (s : AddressRange) → s.address ≤ e.address → e.address + e.size ≤ s.address + s.size → holds e s ≡ true
+held e s begins ends = and_from (nat_le s.address e.address) (nat_le (e.address + e.size) (s.address + s.size)) (le-leb _ _ begins) (le-leb _ _ ends)
+
+module _ (ranges : List AddressRange) (e : Extent) (up : IsNonDecreasingBy (λ s. s.address) ranges) (below : AllAdjacentBelow IsBelow ranges (length ranges)) (count : ℕ) (bound : count ≤ length ranges) (before : AllWithin (λ s. s.address ≤ e.address) ranges 0 count) (behind : AllWithin (λ s. e.address < s.address) ranges count (length ranges)) where
   pub in_none : count ≡ 0 → false ≡ list_any (holds e) ranges
-  in_none none = sym (none_pass (holds e) ranges (λ k d l. begins_later e (get_or ranges k d) (behind k d (omega (arith, none)) l)))
+  in_none none =
+      let d : AddressRange = record { address = 0; size = 0 } in
+      sym (none_pass (holds e) ranges d (λ k l. begins_later e (get_or ranges k d) (behind k d (omega (arith, none)) l)))
 
-  not_last : (k : ℕ) (d : AddressRange) → k < length ranges → 0 < count → (k ≡ count - 1 → ⊥) → holds e (get_or ranges k d) ≡ false
-  not_last k d l there other =
+  -- what one in front of the last of them holds, the last one holds: it is empty, and where that one begins
+  also_in_last : (k : ℕ) (d : AddressRange) → k < length ranges → 0 < count → holds e (get_or ranges k d) ≡ true → holds e (get_or ranges (count - 1) d) ≡ true
+  also_in_last k d l there is =
       elim (cases_order k (count - 1)) [
-        | inl same ↦ absurd (other same)
+        | inl same ↦ subst (λ j. holds e (get_or ranges j d) ≡ true) same is
         | inr apart ↦ elim apart [
           | inl less ↦
               let here = below k d (omega (arith, less, bound)) in
               let on = up (k + 1) (count - 1) d (omega (arith, less)) (omega (arith, bound, there)) in
               let at = before (count - 1) d (omega arith) (omega (arith, there)) in
-              ends_before e (get_or ranges k d) (omega (arith, here, on, at, size))
-          | inr more ↦ begins_later e (get_or ranges k d) (behind k d (omega (arith, more, there)) l)
+              let inside = holding e (get_or ranges k d) is in
+              held e (get_or ranges (count - 1) d) at (omega (arith, here, on, at, inside))
+          | inr more ↦ absurd (false≢true (sym (begins_later e (get_or ranges k d) (behind k d (omega (arith, more, there)) l)) ∙ is))
         ]
       ]
 
   pub in_last : (d : AddressRange) → 0 < count → holds e (get_or ranges (count - 1) d) ≡ list_any (holds e) ranges
-  in_last d there = sym (one_passes (holds e) ranges (count - 1) d (omega (arith, bound, there)) (λ k d l other. not_last k d l there other))
+  in_last d there = one_passes (holds e) ranges (count - 1) d (omega (arith, bound, there)) (λ k l is. also_in_last k d l there is)
 
 -- a test of addresses divides them
 pub divided : (ranges : List AddressRange) (address : ℕ) → IsNonDecreasingBy (λ s. s.address) ranges → IsPartitionedBy (λ s. nat_le s.address address) ranges
@@ -107,17 +116,6 @@ counted_all p xs i c end =
     omega (arith, rest, c.so, end)
 
 -- ---- the blocks
-
-full : (xs : List Extent) → list_all (λ e. nat_lt 0 e.size) xs ≡ true → All (λ e. 0 < e.size) xs
-full xs h = All-weaker (λ (e : Extent). nat_lt 0 e.size ≡ true) (λ e. 0 < e.size) (λ e t. ltb-true 0 e.size t) xs (AllPass-from_list_all (λ (e : Extent). nat_lt 0 e.size) xs h)
-
--- in order each ends before the next begins
-pub blocks_below : (blocks : List Extent) (ranges : List AddressRange) → first_overlap blocks ≡ None → list_all (λ e. nat_lt 0 e.size) blocks ≡ true → IsPermutation (map address_range_of blocks) ranges → IsNonDecreasingBy (λ s. s.address) ranges → AllAdjacentBelow IsBelow ranges (length ranges)
-blocks_below blocks ranges apart sized moved up =
-    neighbours_from_apart ranges
-    (All-permutation (λ s. 0 < s.size) (map address_range_of blocks) ranges moved (All-map (λ s. 0 < s.size) address_range_of blocks (full blocks sized)))
-    up
-    (EachTwo-permutation IsApart (map address_range_of blocks) ranges moved (ranges_apart blocks apart))
 
 same_inside : (blocks : List Extent) (ranges : List AddressRange) (e : Extent) → IsPermutation (map address_range_of blocks) ranges → list_any (holds e) ranges ≡ is_inside blocks e
 same_inside blocks ranges e moved = sym (list_any-IsPermutation (holds e) (map address_range_of blocks) ranges moved) ∙ list_any-map (holds e) address_range_of blocks

@@ -1,19 +1,18 @@
 -- When ranges overlap, told by their addresses in order; and which pair is the first.
 use Rattle.std.proofs.Common.{◌≡◌, ℕ, ◌+◌, ◌<◌, ◌↔◌, inl, inr, Bool, true, false, leb, not, List, [], ◌∷◌, length, get_or, take, map, Some, None, refl, sym, ap, ◌∙◌, arith}
 use Rattle.std.specs.Prelude.{◌||◌, is_some}
-use Rattle.std.specs.List.{AllAdjacentBelow, All}
+use Rattle.std.specs.List.{AllAdjacentBelow}
 use Rattle.std.specs.List.Sorted.{IsPermutation, IsNonDecreasingBy}
 use Rattle.std.proofs.lemmas.Bool.{leb-true, le-leb, or_cases, or_right, cases_order, false≢true}
 use Rattle.std.proofs.lemmas.List.{length-map, get_or-map, take_all}
-use Rattle.std.proofs.lemmas.List.Elements.{All-map}
-use Rattle.std.proofs.lemmas.List.Sorted.{IsPermutation-sym, All-permutation}
+use Rattle.std.proofs.lemmas.List.Sorted.{IsPermutation-sym}
 use Rattle.muen_num.specs.Search.{first_in, unless}
 use Rattle.policy_lawful.specs.Offences.{two}
 use Rattle.policy_lawful.specs.Rules.{are_apart, overlapping, first_overlap}
 use Rattle.policy_lawful.specs.declared.offence.Extent.{Extent}
 use Rattle.muen_num.proofs.SearchLaws.{unless_none}
 use Rattle.rules_extents.specs.declared.overlap.AddressRange.{AddressRange}
-use Rattle.rules_extents.specs.AddressRange.{IsApart, address_range_of, IsBelow}
+use Rattle.rules_extents.specs.AddressRange.{IsApart, IsBelow, address_range_of, sum_of_ends}
 use Rattle.muen_num.proofs.FirstPair.{pairs_at, pairs_from, first_pair-last}
 use Rattle.rules_extents.proofs.Ranges.{EachTwo, EachTwo-permutation, apart_from_neighbours, neighbours_from_apart}
 
@@ -67,17 +66,16 @@ overlap_none xs h =
     let apart = h i j (address_range_of d) (omega arith) (omega arith) (omega arith) in
     apart_from _ _ (rw (get_or-map address_range_of xs i d (address_range_of d) k, get_or-map address_range_of xs j d (address_range_of d) m) at apart))
 
--- some two overlap just where, in the order of addresses, one doesn't end before the next begins
-pub overlap_is : (xs : List Extent) (ys : List AddressRange) (r : Bool) → All (λ e. 0 < e.size) xs → IsPermutation (map address_range_of xs) ys → IsNonDecreasingBy (λ s. s.address) ys → (r ≡ true) ↔ AllAdjacentBelow IsBelow ys (length ys) → not r ≡ is_some (first_overlap xs)
-overlap_is xs ys true full moved up h =
-    let apart = EachTwo-permutation IsApart ys (map address_range_of xs) (IsPermutation-sym _ _ moved) (apart_from_neighbours ys up (h.0 refl)) in
+-- some two overlap just where, in that order, one doesn't end before the next begins
+pub overlap_is : (xs : List Extent) (ys : List AddressRange) (r : Bool) → IsPermutation (map address_range_of xs) ys → IsNonDecreasingBy sum_of_ends ys → (r ≡ true) ↔ AllAdjacentBelow IsBelow ys (length ys) → not r ≡ is_some (first_overlap xs)
+overlap_is xs ys true moved up h =
+    let apart = EachTwo-permutation IsApart ys (map address_range_of xs) (IsPermutation-sym _ _ moved) (apart_from_neighbours ys (h.0 refl)) in
     ap is_some (sym (overlap_none xs apart))
-overlap_is xs ys false full moved up h =
+overlap_is xs ys false moved up h =
     (elim (first_overlap xs) as (λ o. first_overlap xs ≡ o → true ≡ is_some o) [
       | None ↦ λ e.
           let apart = EachTwo-permutation IsApart (map address_range_of xs) ys moved (ranges_apart xs e) in
-          let some = All-permutation (λ s. 0 < s.size) (map address_range_of xs) ys moved (All-map (λ s. 0 < s.size) address_range_of xs full) in
-          absurd (false≢true (h.1 (neighbours_from_apart ys some up apart)))
+          absurd (false≢true (h.1 (neighbours_from_apart ys up apart)))
       | Some o ↦ λ e. refl
     ]) refl
 

@@ -1,11 +1,9 @@
 -- The windows of a subject in parts: those on what its component provides are looked at once, at the component.
 use Rattle.std.proofs.Common.{◌≡◌, ℕ, zero, suc, ◌+◌, ◌<◌, ◌⊎◌, inl, inr, get_or, true, List, [], ◌∷◌, ◌++◌, length, map, Option, Some, None, refl, sym, ap, ◌∙◌, subst}
-use Rattle.std.specs.Prelude.{nat_lt, slice_get, IfSome, IsSomeAnd}
+use Rattle.std.specs.Prelude.{slice_get, IfSome, IsSomeAnd}
 use Rattle.std.specs.Option.{option_map_or, option_or}
-use Rattle.std.specs.List.{enumerate_from, list_all}
-use Rattle.std.proofs.lemmas.Bool.{and_from, and_parts}
+use Rattle.std.specs.List.{enumerate_from}
 use Rattle.std.proofs.lemmas.List.{map-append}
-use Rattle.std.proofs.lemmas.List.Folds.{list_all-append}
 use Rattle.std.proofs.lemmas.Option.{slice_get_read}
 use Rattle.muen_num.specs.Search.{first_in, unless}
 use Rattle.muen_num.proofs.SearchLaws.{first_in-append, none_both, option_or-None, unless_none}
@@ -25,8 +23,6 @@ use Rattle.rules_extents.specs.Parted.{AreProvided, kept_at, provided_extent, pr
 use Rattle.rules_extents.specs.Shared.{AreKept, StayApart}
 use Rattle.rules_extents.specs.Windows.{component_ranges, elements_offence, outside, outside_in_subject, overlap_in_subject, provided_offence}
 use Rattle.rules_extents.specs.declared.overlap.AddressRange.{AddressRange}
-use Rattle.rules_extents.proofs.RangesByIndex.{has_size}
-use Rattle.rules_extents.proofs.RangesByIndex as ranges
 
 -- ---- rule 4
 
@@ -86,17 +82,6 @@ module _ (r : Resolution) (s : Subject) (front behind : List View) (in_front : f
 
   pub overlap_parted : first_overlap (map view_extent front ++ map provided_extent (provided_at r.components s.component) ++ map view_extent behind) ≡ overlap_in_subject r s
   overlap_parted = ap first_overlap all_are
-
-  pub all_sized : outside_in_subject r s ≡ None → list_all (λ e. nat_lt 0 e.size) (map view_extent front ++ map provided_extent (provided_at r.components s.component) ++ map view_extent behind) ≡ true
-  all_sized inside = ap (list_all has_size) all_are ∙ ranges.windows_sized s.name (views_of r s) inside
-
-  pub others_sized : outside_in_subject r s ≡ None → list_all (λ e. nat_lt 0 e.size) (map view_extent front ++ map view_extent behind) ≡ true
-  others_sized inside =
-      let given = map provided_extent (provided_at r.components s.component) in
-      let parts = and_parts (list_all has_size (map view_extent front ++ given)) (list_all has_size (map view_extent behind)) (sym (list_all-append has_size (map view_extent front ++ given) (map view_extent behind)) ∙ all_sized inside) in
-      let first = and_parts (list_all has_size (map view_extent front)) (list_all has_size given) (sym (list_all-append has_size (map view_extent front) given) ∙ parts.0) in
-      list_all-append has_size (map view_extent front) (map view_extent behind)
-      ∙ and_from (list_all has_size (map view_extent front)) (list_all has_size (map view_extent behind)) first.0 parts.1
 
   told : (kept : List (Option (List AddressRange))) (used : Option ComponentUse) → AreProvided kept r.components → (apart : List AddressRange) → provided_to kept used ≡ Some apart → StayApart apart (map view_extent front) (map view_extent behind)
       → first_overlap (map view_extent front ++ map provided_extent (provided_at r.components used) ++ map view_extent behind) ≡ None

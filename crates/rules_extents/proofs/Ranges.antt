@@ -1,13 +1,13 @@
 -- Ranges in any order that share no address, and those that rise.
 use Rattle.std.proofs.Common.{◌≡◌, ℕ, ◌+◌, ◌<◌, ◌≢◌, ◌⊎◌, ◌↔◌, inl, inr, Bool, true, false, leb, List, length, get_or, refl, sym, ap, ◌∙◌, arith}
 use Rattle.std.specs.List as words
-use Rattle.std.specs.List.{AllAdjacentBelow, IsAllAdjacentAnswer, All}
+use Rattle.std.specs.List.{AllAdjacentBelow, IsAllAdjacentAnswer}
 use Rattle.std.specs.List.Sorted.{IsPermutation, IsNonDecreasingBy}
 use Rattle.std.proofs.lemmas.Bool.{cases_eq, cases_order, leb-true, le-leb, false≢true}
 use Rattle.std.proofs.lemmas.List.Edits.{Swapped, swapped_from_swap, length-swap}
-use Rattle.std.proofs.lemmas.List.Sorted.{IsPermutation-keeps}
+use Rattle.std.proofs.lemmas.List.Sorted.{IsNonDecreasingBy-from_all_adjacent, IsPermutation-keeps}
 use Rattle.rules_extents.specs.declared.overlap.AddressRange.{AddressRange}
-use Rattle.rules_extents.specs.AddressRange.{IsApart, IsBelow}
+use Rattle.rules_extents.specs.AddressRange.{IsApart, IsBelow, sum_of_ends}
 
 -- each two elements are related, in both orders
 abbrev pub EachTwo : {X : Type 0} → (X → X → Type 0) → List X → Type 0
@@ -40,11 +40,16 @@ swap_keeps R xs a b la lb h i j d li lj n =
 pub EachTwo-permutation : {X : Type 0} (R : X → X → Type 0) (xs ys : List X) → IsPermutation xs ys → EachTwo R xs → EachTwo R ys
 EachTwo-permutation R xs ys p h = IsPermutation-keeps xs (EachTwo R) h (λ l i j li lj q. swap_keeps R l i j li lj q) ys p
 
--- ---- in the order of their addresses
+-- ---- in their order
 
--- where each ends before the next begins, each two are apart
-pub apart_from_neighbours : (xs : List AddressRange) → IsNonDecreasingBy (λ s. s.address) xs → AllAdjacentBelow IsBelow xs (length xs) → EachTwo IsApart xs
-apart_from_neighbours xs up near i j d li lj n =
+-- where each ends before the next begins, they are in the order of their addresses
+pub addresses_rise : (xs : List AddressRange) → AllAdjacentBelow IsBelow xs (length xs) → IsNonDecreasingBy (λ s. s.address) xs
+addresses_rise xs near = IsNonDecreasingBy-from_all_adjacent (λ s. s.address) xs (λ k d l. let here = near k d l in omega arith)
+
+-- .. and each two are apart
+pub apart_from_neighbours : (xs : List AddressRange) → AllAdjacentBelow IsBelow xs (length xs) → EachTwo IsApart xs
+apart_from_neighbours xs near i j d li lj n =
+    let up = addresses_rise xs near in
     elim (cases_order i j) [
       | inl e ↦ absurd (n e)
       | inr m ↦ elim m [
@@ -59,12 +64,12 @@ apart_from_neighbours xs up near i j d li lj n =
       ]
     ]
 
--- and back, where none is empty
-pub neighbours_from_apart : (xs : List AddressRange) → All (λ s. 0 < s.size) xs → IsNonDecreasingBy (λ s. s.address) xs → EachTwo IsApart xs → AllAdjacentBelow IsBelow xs (length xs)
-neighbours_from_apart xs full up h k d l =
+-- and back, where they are in the order of the sums of their ends: of two that are apart the lower one has less, and
+-- where both have the same they are empty, at one address
+pub neighbours_from_apart : (xs : List AddressRange) → IsNonDecreasingBy sum_of_ends xs → EachTwo IsApart xs → AllAdjacentBelow IsBelow xs (length xs)
+neighbours_from_apart xs up h k d l =
     let on = up k (k + 1) d (omega arith) l in
-    let some = full (k + 1) d l in
-    elim (h k (k + 1) d (omega arith) l (omega arith)) [ inl e ↦ e | inr e ↦ absurd (omega arith) ]
+    elim (h k (k + 1) d (omega arith) l (omega arith)) [ inl e ↦ e | inr e ↦ omega (arith, on, e) ]
 
 -- what a test of neighbours answers
 pub below_is : (xs : List AddressRange) (r : Bool) → IsAllAdjacentAnswer (λ a b t. t ≡ leb (a.address + a.size) b.address) xs r → (r ≡ true) ↔ AllAdjacentBelow IsBelow xs (length xs)

@@ -1,11 +1,10 @@
 -- The subjects from one on: that one, read with its index, and those behind it.
-use Rattle.std.proofs.Common.{◌≡◌, ℕ, ◌+◌, ◌<◌, suc, Bool, List, drop, drop-cons, add-one, get_or, length, Option, None, sym, ap, subst, ◌∙◌}
+use Rattle.std.proofs.Common.{◌≡◌, ℕ, ◌+◌, ◌<◌, suc, Bool, List, drop, drop-cons, add-one, get_or, length, Option, sym, ap, subst, ◌∙◌}
 use Rattle.std.specs.Prelude.{◌||◌}
 use Rattle.std.specs.List.{list_any}
 use Rattle.std.specs.Option.{option_or}
 use Rattle.muen_num.specs.Search.{first_in}
 use Rattle.muen_num.proofs.FirstSteps.{first_step}
-use Rattle.muen_num.proofs.SearchLaws.{none_both}
 use Rattle.policy_lawful.specs.declared.resolved.Subject.{Subject}
 
 module _ (ss read : List Subject) (k : ℕ) (s : Subject) (same : read ≡ ss) (within : k < length read) (is : s ≡ get_or read k s) where
@@ -24,7 +23,3 @@ module _ (ss read : List Subject) (k : ℕ) (s : Subject) (same : read ≡ ss) (
   -- the first offence is of the first of them or of those behind it
   pub first_in_turn : {O : Type 0} (at : Subject → Option O) (answer : Option O) → answer ≡ at s → first_in at (drop k ss) ≡ option_or answer (first_in at (drop (k + 1) ss))
   first_in_turn at answer says = first_step at ss k s answer inside there says
-
-  -- where there is none, neither the first offends nor one behind it
-  pub none_in_turn : {O : Type 0} (at : Subject → Option O) → first_in at (drop k ss) ≡ None → (at s ≡ None) × (first_in at (drop (k + 1) ss) ≡ None)
-  none_in_turn at none = none_both (at s) (first_in at (drop (k + 1) ss)) (sym (first_in_turn at (at s) (λ i. at s)) ∙ none)

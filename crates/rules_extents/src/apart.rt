@@ -1,13 +1,12 @@
 // Rules 5 and 18: windows of a subject, and blocks and devices' memory, that share no address.
-ghost use Rattle.std.specs.Prelude.{◌≡◌, ◌++◌, true, nat_lt, None, map, IfOk, IsSomeAnd, IsTrue};
-ghost use Rattle.std.specs.List.{list_all};
+ghost use Rattle.std.specs.Prelude.{◌≡◌, ◌++◌, None, map, IfOk, IsSomeAnd, IsTrue};
 ghost use Rattle.policy_lawful.specs.ByIndex.{block_extent};
 ghost use Rattle.policy_lawful.specs.Resolution.{source_of};
-ghost use Rattle.policy_lawful.specs.Rules.{first_overlap, offence_4, offence_5, offence_18};
+ghost use Rattle.policy_lawful.specs.Rules.{first_overlap, offence_5, offence_18};
 ghost use Rattle.policy_views.specs.Parts.{behind_views, front_views};
 ghost use Rattle.rules_extents.specs.Parted.{AreProvided, provided_extent, provided_to};
 ghost use Rattle.rules_extents.specs.Shared.{StayApart};
-ghost use Rattle.rules_extents.specs.Windows.{device_extent, device_extents, outside_in_subject, overlap_in_subject, physical_extents};
+ghost use Rattle.rules_extents.specs.Windows.{device_extent, device_extents, overlap_in_subject, physical_extents};
 
 use crate::overlap::first_overlap;
 use crate::shared::Apart;
@@ -79,9 +78,8 @@ fn physical_extents(alloc: Global, policy: &Linked) -> Result<Vec<Extent>, NoMem
 /// Rule 18: the first two of the blocks and the devices' memory that share an address.
 ///
 /// Answers `NoMemory` where memory was refused.
-#[tactic(auto, using(crate::proofs::RangesByIndex::physical_sized, crate::proofs::RangesByIndex::blocks_apart))]
+#[tactic(auto, using(crate::proofs::RangesByIndex::blocks_apart))]
 pub fn blocks_apart(alloc: Global, policy: &Linked) -> Result<Option<Offence>, NoMemory>
-    requires { offence_4 (source_of policy.now) ≡ None }
     ensures { IfOk result (λ o. o ≡ offence_18 (source_of policy.now)) }
 {
     let extents = physical_extents(alloc, policy)?;
@@ -145,7 +143,6 @@ fn are_told_apart(
     front: &[Extent],
     behind: &[Extent],
 ) -> Result<bool, NoMemory>
-    requires { list_all (λ e. nat_lt 0 e.size) (front.now ++ behind.now) ≡ true }
     ensures { IfOk result (λ b. IsTrue b → IsSomeAnd (provided_to provided.now used.now) (λ ranges. StayApart ranges front.now behind.now)) }
 {
     match used {
@@ -171,7 +168,6 @@ fn of_subject(
 ) -> Result<Option<Offence>, NoMemory>
     requires front { front.now ≡ front_views policy.now subject.now }
     requires behind { behind.now ≡ behind_views policy.now subject.now }
-    requires inside { outside_in_subject policy.now subject.now ≡ None }
     requires provided { AreProvided provided.now policy.now.components }
     ensures { IfOk result (λ o. o ≡ overlap_in_subject policy.now subject.now) }
 {
@@ -188,7 +184,6 @@ fn of_subject(
 ///
 /// Answers `NoMemory` where memory was refused.
 pub fn windows_apart(alloc: Global, policy: &Linked) -> Result<Option<Offence>, NoMemory>
-    requires { offence_4 (source_of policy.now) ≡ None }
     ensures { IfOk result (λ o. o ≡ offence_5 (source_of policy.now)) }
 {
     let provided = all_provided(alloc, policy.components())?;

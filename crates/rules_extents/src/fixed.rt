@@ -1,8 +1,7 @@
 // Rule 19: fixed regions lie inside blocks, and share no address.
-ghost use Rattle.std.specs.Prelude.{◌≡◌, None, IfOk};
+ghost use Rattle.std.specs.Prelude.{◌≡◌, IfOk};
 ghost use Rattle.policy_lawful.specs.MoreRules.{fixed_extent, offence_19};
 ghost use Rattle.policy_lawful.specs.Resolution.{source_of};
-ghost use Rattle.policy_lawful.specs.Rules.{offence_4, offence_18};
 ghost use Rattle.rules_extents.specs.Fixed.{block_extents, fixed_extents};
 
 use crate::apart::block_extents;
@@ -35,10 +34,8 @@ fn fixed_extents(alloc: Global, memory: &[Region]) -> Result<Vec<Extent>, AllocE
 /// Rule 19: the first fixed region that lies in no block, or the first two that share an address.
 ///
 /// Answers `NoMemory` where memory was refused.
-#[tactic(auto, using(crate::proofs::FixedByExtent::fixed_blocks_sized, crate::proofs::FixedByExtent::fixed_blocks_apart, crate::proofs::FixedByExtent::fixed_sized, crate::proofs::FixedByExtent::fixed_front_sized, crate::proofs::FixedByExtent::inside_within, crate::proofs::FixedByExtent::fixed_by_extent))]
+#[tactic(auto, using(crate::proofs::FixedByExtent::inside_within, crate::proofs::FixedByExtent::fixed_by_extent))]
 pub fn fixed_regions(alloc: Global, policy: &Linked) -> Result<Option<Offence>, NoMemory>
-    requires addresses { offence_4 (source_of policy.now) ≡ None }
-    requires apart { offence_18 (source_of policy.now) ≡ None }
     ensures { IfOk result (λ o. o ≡ offence_19 (source_of policy.now)) }
 {
     let blocks = block_extents(alloc, policy.memory_blocks())?;

@@ -1,12 +1,11 @@
 // Which ranges lie inside others.
-ghost use Rattle.std.specs.Prelude.{◌≡◌, ◌<◌, ◌≤◌, None, length, not, nat_lt, true, IfOk};
-ghost use Rattle.std.specs.List.{AllAdjacentBelow, AllWithin, list_all, list_any, position_or_len};
+ghost use Rattle.std.specs.Prelude.{◌≡◌, ◌<◌, ◌≤◌, length, not, IfOk};
+ghost use Rattle.std.specs.List.{AllAdjacentBelow, AllWithin, list_any, position_or_len};
 ghost use Rattle.std.specs.List.Sorted.{IsNonDecreasingBy};
-ghost use Rattle.policy_lawful.specs.Rules.{first_overlap};
 ghost use Rattle.rules_extents.specs.Inside.{holds, is_inside};
 ghost use Rattle.rules_extents.specs.AddressRange.{IsBelow};
 
-use crate::overlap::{AddressRange, rising};
+use crate::overlap::{AddressRange, are_below, rising};
 use muen_num::NoMemory;
 use policy_lawful::Extent;
 use std::alloc::Global;
@@ -34,7 +33,6 @@ pub(crate) fn count_before(ranges: &[AddressRange], address: u64) -> usize
 fn is_inside(ranges: &[AddressRange], extent: &Extent) -> bool
     requires rising { IsNonDecreasingBy (λ s. s.address) ranges.now }
     requires below { AllAdjacentBelow IsBelow ranges.now (length ranges.now) }
-    requires some { nat_lt 0 extent.now.size ≡ true }
     ensures { result ≡ list_any (holds extent.now) ranges.now }
 {
     let count = count_before(ranges, extent.address);
@@ -48,7 +46,6 @@ fn is_inside(ranges: &[AddressRange], extent: &Extent) -> bool
 fn count_in(ranges: &[AddressRange], extents: &[Extent]) -> usize
     requires rising { IsNonDecreasingBy (λ s. s.address) ranges.now }
     requires below { AllAdjacentBelow IsBelow ranges.now (length ranges.now) }
-    requires some { list_all (λ e. nat_lt 0 e.size) extents.now ≡ true }
     ensures { result ≡ position_or_len (λ e. not (list_any (holds e) ranges.now)) extents.now }
 {
     for (index, extent) in extents.iter().enumerate() {
@@ -59,17 +56,35 @@ fn count_in(ranges: &[AddressRange], extents: &[Extent]) -> usize
     extents.len()
 }
 
+// Whether a range lies wholly in one of these, in any order, which may share addresses.
+fn is_in_any(blocks: &[AddressRange], extent: &Extent) -> bool
+    ensures { result ≡ list_any (holds extent.now) blocks.now }
+{
+    blocks.iter().any(|block| holds(*block, extent))
+}
+
+// How many of the first ranges lie each in one of those, where the next one doesn't.
+fn count_in_any(blocks: &[AddressRange], extents: &[Extent]) -> usize
+    ensures { result ≡ position_or_len (λ e. not (list_any (holds e) blocks.now)) extents.now }
+{
+    for (index, extent) in extents.iter().enumerate() {
+        if !is_in_any(blocks, extent) {
+            return index;
+        }
+    }
+    extents.len()
+}
+
 /// How many of the first ranges lie each wholly in one of the blocks, where the next one, if there
-/// is one, doesn't. The blocks share no address, and no range is empty.
+/// is one, doesn't. Blocks that share addresses are gone through for each range.
 ///
 /// Answers `NoMemory` where memory was refused.
-#[tactic(auto, using(crate::proofs::InsideOne::blocks_below))]
 pub fn count_inside(alloc: Global, blocks: &[Extent], extents: &[Extent]) -> Result<usize, NoMemory>
-    requires apart { first_overlap blocks.now ≡ None }
-    requires blocks { list_all (λ e. nat_lt 0 e.size) blocks.now ≡ true }
-    requires some { list_all (λ e. nat_lt 0 e.size) extents.now ≡ true }
     ensures { IfOk result (λ n. n ≡ position_or_len (λ e. not (is_inside blocks.now e)) extents.now) }
 {
     let ranges = rising(alloc, blocks)?;
-    Ok(count_in(&ranges, extents))
+    if are_below(&ranges) {
+        return Ok(count_in(&ranges, extents));
+    }
+    Ok(count_in_any(&ranges, extents))
 }

@@ -1,12 +1,12 @@
 // Which two of many ranges overlap first.
-ghost use Rattle.std.specs.Prelude.{◌≡◌, ◌+◌, ◌<◌, ◌≤◌, ◌↔◌, true, length, map, take, nat_lt, nat_le, slice_get, is_some, option_map, None, IfOk, IsTrue};
+ghost use Rattle.std.specs.Prelude.{◌≡◌, ◌+◌, ◌<◌, ◌≤◌, ◌↔◌, true, length, map, take, nat_le, slice_get, is_some, option_map, None, IfOk, IsTrue};
 ghost use Rattle.std.specs.Option.{option_or};
-ghost use Rattle.std.specs.List.{All, AllAdjacentBelow, list_all};
+ghost use Rattle.std.specs.List.{AllAdjacentBelow};
 ghost use Rattle.std.specs.List.Sorted.{IsPermutation, IsNonDecreasingBy};
 ghost use Rattle.muen_num.specs.Search.{first_in};
 ghost use Rattle.policy_lawful.specs.Offences.{alone};
 ghost use Rattle.policy_lawful.specs.Rules.{are_apart, overlapping, first_overlap};
-ghost use Rattle.rules_extents.specs.AddressRange.{address_range_of, IsBelow};
+ghost use Rattle.rules_extents.specs.AddressRange.{IsBelow, address_range_of, sum_of_ends};
 
 use muen_num::{NoMemory, first};
 use policy_lawful::{Extent, Offence};
@@ -28,6 +28,14 @@ impl AddressRange {
             address: extent.address,
             size: extent.size,
         }
+    }
+
+    /// The sum of the addresses where it begins and where it ends. Of ranges that share no address the
+    /// one with less of it is the lower one, also where one is empty.
+    fn sum_of_ends(self) -> u128
+        ensures { result ≡ sum_of_ends self }
+    {
+        2 * u128::from(self.address) + u128::from(self.size)
     }
 
     /// Whether it ends at or before the address of the other.
@@ -53,13 +61,13 @@ fn ranges(alloc: Global, extents: &[Extent]) -> Result<Vec<AddressRange>, AllocE
     extents.iter().map(AddressRange::of).collect(alloc)
 }
 
-/// The ranges in the order of their addresses.
+/// The ranges in the order of the sums of their ends.
 pub(crate) fn rising(alloc: Global, extents: &[Extent]) -> Result<Vec<AddressRange>, AllocError>
     ensures moved { IfOk result (λ v. IsPermutation (map address_range_of extents.now) v.items) }
-    ensures rising { IfOk result (λ v. IsNonDecreasingBy (λ s. s.address) v.items) }
+    ensures rising { IfOk result (λ v. IsNonDecreasingBy sum_of_ends v.items) }
 {
     let mut rising = ranges(alloc, extents)?;
-    rising.sort_unstable_by_key(|s| s.address);
+    rising.sort_unstable_by_key(|range| range.sum_of_ends());
     Ok(rising)
 }
 
@@ -70,10 +78,9 @@ pub(crate) fn are_below(ranges: &[AddressRange]) -> bool
     ranges.is_sorted_by(|a, b| a.is_below(*b))
 }
 
-/// Whether any two share an address. None is empty.
+/// Whether any two share an address.
 #[tactic(auto, using(crate::proofs::Overlaps::overlap_is))]
 pub(crate) fn overlap(alloc: Global, extents: &[Extent]) -> Result<bool, NoMemory>
-    requires { All (λ e. 0 < e.size) extents.now }
     ensures { IfOk result (λ b. b ≡ is_some (first_overlap extents.now)) }
 {
     let ranges = rising(alloc, extents)?;
@@ -84,8 +91,7 @@ pub(crate) fn overlap(alloc: Global, extents: &[Extent]) -> Result<bool, NoMemor
 // How many of the first ranges share no address, where one more does.
 #[tactic(auto, using(crate::proofs::Overlaps::no_overlap_in_none, crate::proofs::Overlaps::some_within, crate::proofs::Overlaps::overlap_in_all))]
 fn longest_apart(alloc: Global, extents: &[Extent]) -> Result<usize, NoMemory>
-    requires sizes { All (λ e. 0 < e.size) extents.now }
-    requires some { is_some (first_overlap extents.now) ≡ true }
+    requires { is_some (first_overlap extents.now) ≡ true }
     ensures within { IfOk result (λ n. n < length extents.now) }
     ensures apart { IfOk result (λ n. first_overlap (take n extents.now) ≡ None) }
     ensures one_more { IfOk result (λ n. is_some (first_overlap (take (n + 1) extents.now)) ≡ true) }
@@ -117,11 +123,10 @@ fn earlier(before: &[Extent], last: &Extent) -> Option<Offence>
 }
 
 /// The first two of these ranges that share an address: of those with the least later one, the
-/// one with the least earlier one. No range is empty.
+/// one with the least earlier one.
 ///
 /// Answers `NoMemory` where memory was refused.
 pub fn first_overlap(alloc: Global, extents: &[Extent]) -> Result<Option<Offence>, NoMemory>
-    requires { list_all (λ e. nat_lt 0 e.size) extents.now ≡ true }
     ensures { IfOk result (λ o. o ≡ first_overlap extents.now) }
 {
     if !overlap(alloc, extents)? {
@@ -133,7 +138,7 @@ pub fn first_overlap(alloc: Global, extents: &[Extent]) -> Result<Option<Offence
 
 /// The first offence of these ranges, where the first `sound` of them keep the conditions of their
 /// own, and the next one, if there is one, doesn't: the first two of the sound ones that share an
-/// address, else the next one alone. No sound range is empty.
+/// address, else the next one alone.
 ///
 /// Answers `NoMemory` where memory was refused.
 pub fn first_fault(
@@ -141,8 +146,7 @@ pub fn first_fault(
     extents: &[Extent],
     sound: usize,
 ) -> Result<Option<Offence>, NoMemory>
-    requires within { sound ≤ length extents.now }
-    requires sizes { list_all (λ e. nat_lt 0 e.size) (take sound extents.now) ≡ true }
+    requires { sound ≤ length extents.now }
     ensures { IfOk result (λ o. o ≡ option_or (first_overlap (take sound extents.now)) (option_map (λ e. alone e.name) (slice_get extents.now sound))) }
 {
     if let Some(offence) = first_overlap(alloc, &extents[..sound])? {

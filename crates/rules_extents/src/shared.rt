@@ -1,6 +1,6 @@
 //! Ranges that are met again and again beside others.
-ghost use Rattle.std.specs.Prelude.{◌≡◌, ◌≤◌, ◌++◌, true, length, nat_lt, IfOk, IfSome, IsTrue};
-ghost use Rattle.std.specs.List.{All, AllAdjacentBelow, list_all};
+ghost use Rattle.std.specs.Prelude.{◌≡◌, ◌≤◌, ◌++◌, true, length, IfOk, IfSome, IsTrue};
+ghost use Rattle.std.specs.List.{All, AllAdjacentBelow};
 ghost use Rattle.std.specs.List.Sorted.{IsNonDecreasingBy};
 ghost use Rattle.rules_extents.specs.AddressRange.{IsApart, IsBelow, address_range_of};
 ghost use Rattle.rules_extents.specs.Shared.{AreKept, IsBehind, IsInFront, StayApart};
@@ -86,7 +86,7 @@ fn joined(alloc: Global, front: &[Extent], behind: &[Extent]) -> Result<Vec<Exte
 }
 
 impl Apart {
-    /// Keeps these ranges, where no two share an address. None is empty.
+    /// Keeps these ranges, where no two share an address.
     ///
     /// Answers `NoMemory` where memory was refused.
     pub fn of(alloc: Global, extents: &[Extent]) -> Result<Option<Apart>, NoMemory>
@@ -100,7 +100,7 @@ impl Apart {
     }
 
     /// Whether these ranges in front of the kept ones, and those behind them, share no address with
-    /// them nor with each other. None is empty.
+    /// them nor with each other.
     ///
     /// Answers `NoMemory` where memory was refused.
     #[tactic(auto, using(crate::proofs::Beside::stay_apart))]
@@ -110,7 +110,6 @@ impl Apart {
         front: &[Extent],
         behind: &[Extent],
     ) -> Result<bool, NoMemory>
-        requires { list_all (λ e. nat_lt 0 e.size) (front.now ++ behind.now) ≡ true }
         ensures { IfOk result (λ b. IsTrue b → StayApart self.now front.now behind.now) }
     {
         let others = joined(alloc, front, behind)?;

@@ -1,19 +1,11 @@
 use Rattle.std.proofs.Common.{◌≡◌, ◌++◌, map, ap, subst, ◌∙◌}
-use Rattle.std.specs.Prelude.{IfOk, IsSomeAnd, nat_lt}
-use Rattle.std.specs.List.{list_all}
+use Rattle.std.specs.Prelude.{IfOk, IsSomeAnd}
 use Rattle.policy_lawful.specs.Rules.{first_overlap}
 use Rattle.policy_lawful.specs.Views.{view_extent}
 use Rattle.rules_extents.specs.Parted.{provided_extent, provided_to}
-use Rattle.rules_extents.proofs.Parted.{all_sized, others_sized, overlap_parted, told_apart}
+use Rattle.rules_extents.proofs.Parted.{overlap_parted, told_apart}
 use Rattle.rules_extents.specs.Shared.{StayApart}
 use Rattle.rules_extents.proofs.apart.of_subject.Goals as goal
-
-pub are_told_apart-requires : goal.are_told_apart-requires
-are_told_apart-requires c =
-    let front = c.deref.ensures.value ∙ c.in_ok-front.ensures in
-    let behind = c.deref-2.ensures.value ∙ c.in_ok-behind.ensures in
-    (λ i. list_all (λ e. nat_lt 0 e.size) (front i ++ behind i))
-    ∙ others_sized c.args.policy.now c.args.subject.now c.args.front.now c.args.behind.now c.requires.front c.requires.behind c.requires.inside
 
 pub returns-then-branch : goal.returns-then-branch
 returns-then-branch c =
@@ -24,15 +16,6 @@ returns-then-branch c =
     (subst (λ es. IsSomeAnd kept (λ ranges. StayApart ranges (map view_extent c.args.front.now) es)) behind
     (subst (λ es. IsSomeAnd kept (λ ranges. StayApart ranges es c.deref-2.result.now)) front
     (c.in_ok-are_told_apart.ensures c.if-branch.true)))
-
-pub first_overlap-requires : goal.first_overlap-requires
-first_overlap-requires c =
-    let r = c.args.policy.now in
-    let s = c.args.subject.now in
-    let front = c.deref-3.ensures.value ∙ c.in_ok-front.ensures in
-    let behind = c.deref-4.ensures.value ∙ c.in_ok-behind.ensures in
-    let all = c.deref-5.ensures.value ∙ c.in_ok-extents.ensures ∙ (λ i. front i ++ map provided_extent (c.provided_by.ensures i) ++ behind i) in
-    ap (list_all (λ e. nat_lt 0 e.size)) all ∙ all_sized r s c.args.front.now c.args.behind.now c.requires.front c.requires.behind c.requires.inside
 
 pub returns : goal.returns
 returns c =

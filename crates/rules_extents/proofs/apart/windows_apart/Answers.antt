@@ -3,15 +3,14 @@ use Rattle.std.proofs.Math.ListN.{drop_of_length-le}
 use Rattle.muen_num.specs.Search.{first_in}
 use Rattle.policy_views.proofs.SightsAtIndex.{behind_read, front_read}
 use Rattle.rules_extents.specs.Parted.{AreProvided}
-use Rattle.rules_extents.specs.Windows.{outside_in_subject, overlap_in_subject}
-use Rattle.rules_extents.proofs.RangesByIndex.{none_outside, windows_apart}
-use Rattle.rules_extents.proofs.SubjectsInTurn.{first_in_turn, none_in_turn}
+use Rattle.rules_extents.specs.Windows.{overlap_in_subject}
+use Rattle.rules_extents.proofs.RangesByIndex.{windows_apart}
+use Rattle.rules_extents.proofs.SubjectsInTurn.{first_in_turn}
 use Rattle.rules_extents.proofs.apart.windows_apart.Goals as goal
 
 pub loop-index-init : goal.loop-index-init
 loop-index-init c = record {
   rest = refl;
-  inside = none_outside c.args.policy.now c.subjects-subject-items.ensures.resolved c.requires;
   provided = subst (AreProvided c.in_ok-provided.provided.items) c.components.ensures c.in_ok-provided.ensures;
 }
 
@@ -22,11 +21,6 @@ of_subject-requires-clause-front c =
 pub of_subject-requires-clause-behind : goal.of_subject-requires-clause-behind
 of_subject-requires-clause-behind c =
     c.behind-behind.ensures ∙ behind_read c.args.policy.now _ c.loop-index.index c.subject-item.result c.subjects-subject-items.ensures.value c.loop-index-test.true c.subject-item.is
-
-pub of_subject-requires-clause-inside : goal.of_subject-requires-clause-inside
-of_subject-requires-clause-inside c =
-    let r = c.args.policy.now in
-    (none_in_turn r.subjects _ c.loop-index.index c.subject-item.result c.subjects-subject-items.ensures.value c.loop-index-test.true c.subject-item.is (outside_in_subject r) c.loop-index.invariant.inside).0
 
 pub of_subject-requires-clause-provided : goal.of_subject-requires-clause-provided
 of_subject-requires-clause-provided c = subst (λ kept. AreProvided kept c.args.policy.now.components) (sym c.deref.ensures.value) c.loop-index.invariant.provided
@@ -45,7 +39,6 @@ loop-index-preserved c =
     let same = c.subjects-subject-items.ensures.value in
     record {
       rest = sym (first_in_turn r.subjects _ c.loop-index.index s same c.loop-index-test.true c.subject-item.is (overlap_in_subject r) None (sym c.in_default.is ∙ c.in_ok-offence.ensures)) ∙ c.loop-index.invariant.rest;
-      inside = (none_in_turn r.subjects _ c.loop-index.index s same c.loop-index-test.true c.subject-item.is (outside_in_subject r) c.loop-index.invariant.inside).1;
       provided = c.loop-index.invariant.provided;
     }
 

@@ -11,4 +11,4 @@ returns c clear =
     let apart : first_overlap (c.args.front.now ++ c.args.behind.now) ≡ None =
     subst (λ es. first_overlap es ≡ None) (c.deref.ensures.value ∙ c.in_ok-others.ensures) (none_at_all (first_overlap c.deref.result.now) _ c.in_ok-overlap.ensures c.if-branch.false) in
     let all = subst (λ es. All (λ e. All (λ s. IsApart s (address_range_of e)) ranges) es) (c.deref-3.ensures.value ∙ c.in_ok-others.ensures) (subst (λ rs. All (λ e. All (λ s. IsApart s (address_range_of e)) rs) c.deref-3.result.now) c.deref-2.ensures.value (c.are_clear.ensures clear)) in
-    rw (← c.self.view_is) (stay_apart ranges c.args.front.now c.args.behind.now c.self.invariant.0 c.self.invariant.1 apart all)
+    rw (← c.self.view_is) (stay_apart ranges c.args.front.now c.args.behind.now c.self.invariant.1 apart all)

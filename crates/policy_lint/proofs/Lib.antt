@@ -1,0 +1,4 @@
+pub mod All
+pub mod Contents
+pub mod Linting
+pub mod Seen
