@@ -67,7 +67,7 @@ pub use twice::muen_twice;
 /// | 5 | the image is refused (`run`, `verify`) | `image refused at AT: FIELD` |
 /// | 6 | the record is refused (`boot`, `run`) | `record refused at line LINE: WHY` |
 /// | 7 | a call on `out` failed; a front of the text was put | `output fault` |
-/// | 8 | memory was refused, before the first turn; where that was for the last write, of the image or of the tables, what stands under its name may have changed | `out of memory` |
+/// | 8 | memory was refused, before the first turn (`load`: before its text was put); where that was for the last write, of the image or of the tables, what stands under its name may have changed | `out of memory` |
 /// | 9 | the image isn't sound for the policy and its files (`verify`) | `not sound: FAULT` |
 /// | 10 | the tables are refused (`run`) | `dma refused at AT: FIELD` |
 pub fn muen<F: Files, S: Sink, E: Sink>(
