@@ -1,5 +1,6 @@
 pub mod Store
 pub mod Found
+pub mod GrowingSink
 pub mod States
 pub mod Looks
 pub mod Puts

@@ -1,6 +1,6 @@
-ghost use Rattle.std.specs.Prelude.{◌≡◌, OnErr};
+ghost use Rattle.std.specs.Prelude.{◌≡◌, ◌+◌, ◌<◌, [], length, OnErr};
+ghost use Rattle.muen_outside.specs.GrowingSink.{growing_state};
 ghost use Rattle.muen_outside.specs.Puts.{Puts};
-ghost use Rattle.muen_outside.specs.States.{nothing_given};
 
 use crate::fault_count::{Count, OneMore, Start};
 use crate::sink::{Sink, SinkFault};
@@ -8,8 +8,8 @@ use muen_num::Told;
 use std::alloc::Global;
 use std::marker::Model;
 
-/// A sink in memory whose room grows with what it is given. So it is never full: a call fails where memory
-/// is refused, and at no other time.
+/// A sink in memory whose room grows with what it is given. So it is never full: a call fails where more
+/// memory has to be asked for, and is refused.
 #[derive(Drop)]
 pub struct GrowingSink {
     text: Vec<u8>,
@@ -17,17 +17,19 @@ pub struct GrowingSink {
 }
 
 impl Model for GrowingSink {
-    ghost use Rattle.muen_outside.specs.States.{SinkState};
+    ghost use Rattle.std.specs.Prelude.{vec_capacity};
+    ghost use Rattle.muen_outside.specs.GrowingSink.{Growing};
 
-    ghost Value = { SinkState };
+    ghost Value = { Growing };
 
-    ghost view = { λ s. record { given = s.text.items; faults = s.faults.value } };
+    ghost view = { λ s. record { given = s.text.items; room = vec_capacity s.text; faults = s.faults.value } };
 }
 
 impl GrowingSink {
     /// Empty; no call has failed. It takes no memory.
     pub fn new(alloc: Global) -> GrowingSink
-        ensures { result ≡ nothing_given }
+        ensures given { result.given ≡ [] }
+        ensures faults { result.faults ≡ 0 }
     {
         GrowingSink {
             text: Vec::new(alloc),
@@ -44,11 +46,12 @@ impl GrowingSink {
 }
 
 impl Sink for GrowingSink {
-    ghost state = { λ s. s };
+    ghost state = { growing_state };
 
     fn put(&mut self, bytes: &[u8]) -> Result<(), SinkFault>
-        ensures puts { Puts bytes.now self.old self.new result }
-        // Where memory is refused it has taken none of the bytes.
+        ensures puts { Puts bytes.now (growing_state self.old) (growing_state self.new) result }
+        // It fails only where there is no room for the bytes, so that more is asked for; and has then taken none of them.
+        ensures full { OnErr result (self.old.room < length self.old.given + length bytes.now) }
         ensures none { OnErr result (self.new.given ≡ self.old.given) }
     {
         if self.text.extend_from_slice(bytes).is_err() {
