@@ -1,6 +1,7 @@
 -- Looks, one after another.
 use Rattle.std.proofs.Common.{◌≡◌, inl, inr, ℕ, false, List, [], ◌∷◌, ◌++◌, Option, Some, None, IfSome, sym, ap, subst, ◌∙◌, append-nil, append_assoc}
 use Rattle.std.specs.Str.{bytes_eq}
+use Rattle.muen_outside.proofs.Histories.{no_look}
 use Rattle.muen_outside.specs.Looks.{HaveNoLookAt, AreSingle, IsPossibleEnd, ShowAll, Shows}
 use Rattle.muen_outside.specs.States.{History, Look, looked}
 use Rattle.muen_outside.specs.Store.{Store}
@@ -58,9 +59,6 @@ in_turn_so Asked Asked' a before shows so (l ∷ ls) h =
     (so before l shows h.0, in_turn_so Asked Asked' a (before ++ l ∷ []) (λ m s. shows m (show_front m before (l ∷ []) s)) so ls h.1)
 
 -- ---- looks that grow
-
-pub no_look : (h : History) → h ≡ looked h []
-no_look h = ap (λ looks. record { looks = looks; writes = h.writes }) (sym (append-nil h.looks))
 
 pub looked_both : (h : History) (ls more : List Look) → looked (looked h ls) more ≡ looked h (ls ++ more)
 looked_both h ls more = ap (λ looks. record { looks = looks; writes = h.writes }) (append_assoc h.looks ls more)

@@ -1,6 +1,6 @@
 -- What comes of a command whose files were read.
-use Rattle.std.proofs.Common.{◌≡◌, inl, ℕ, List, [], ◌++◌, Option, Some, None, refl, sym, ap, subst, ◌∙◌, append-nil}
-use Rattle.muen_build.proofs.Looks.{no_look}
+use Rattle.std.proofs.Common.{◌≡◌, inl, ℕ, List, [], Option, Some, None, refl, sym, ap, subst, ◌∙◌}
+use Rattle.muen_outside.proofs.Histories.{looked_alone, no_look}
 use Rattle.muen_outside.specs.Puts.{Failed}
 use Rattle.muen_outside.specs.States.{History, Look, SinkState, Write, looked, went, written}
 use Rattle.muen_outside.specs.Store.{Store}
@@ -18,9 +18,6 @@ use Rattle.muen_top.specs.declared.outcome.CommandError.{CommandError}
 use Rattle.muen_top.specs.declared.outcome.CommandError.TheVariants.{Usage, Missing, TooLong, Refused, ImageRefused, DmaRefused, RecordRefused, NotSound, FileFault, NoMemory}
 
 -- ---- what was done with files
-
-pub looked_alone : (old new : History) (looks : List Look) → new ≡ looked old looks → new ≡ went old looks []
-looked_alone old new looks is = is ∙ ap (λ ws. record { looks = old.looks ++ looks; writes = ws }) (sym (append-nil old.writes))
 
 pub looked_written : (old mid new : History) (looks : List Look) (ws : List Write) → mid ≡ looked old looks → new ≡ written mid ws → new ≡ went old looks ws
 looked_written old mid new looks ws is wrote = wrote ∙ ap (λ h. written h ws) is

@@ -17,7 +17,7 @@ use Rattle.muen_top.specs.Verifying.{EndsFound, HasAllRead, IsFound}
 use Rattle.muen_top.specs.declared.outcome.CommandError.TheVariants.{Usage, Missing, TooLong, Refused, ImageRefused, DmaRefused, RecordRefused, NotSound, FileFault, NoMemory}
 use Rattle.muen_top.specs.declared.outcome.Outcome.{Outcome}
 use Rattle.muen_top.specs.declared.outcome.Outcome.TheVariants.{Done, Stopped, OutputFault}
-use Rattle.muen_top.proofs.Ending.{looked_alone}
+use Rattle.muen_outside.proofs.Histories.{looked_alone}
 
 module _ (image policy : List ℕ) (held : Option Store) (old new : History) (i : Image) (r : Resolution) (things : List (List ℕ))
     (read : HasAllRead image policy held old new i r things) where
