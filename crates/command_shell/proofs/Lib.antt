@@ -1,3 +1,4 @@
 pub mod Completing
 pub mod Ending
-pub mod Usage
+pub mod FormFound
+pub mod UsagePut

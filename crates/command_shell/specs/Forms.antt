@@ -1,5 +1,7 @@
 -- The forms of a program's commands, as a table.
-use Rattle.std.specs.Prelude.{ℕ, List, [], ◌∷◌, ◌++◌, Bool, ◌&&◌, ◌==◌, length, map, Option, None, option_map, codes, find, flat_map}
+use Rattle.std.specs.Prelude.{ℕ, List, [], ◌∷◌, ◌++◌, Bool, ◌&&◌, ◌==◌, length, map, Option, None, option_map, codes, find, flat_map, String, string_bytes}
+use Rattle.std.specs.Borrow.{Bor}
+use Rattle.std.specs.declared.alloc.Global.{Global}
 use Rattle.std.specs.Str.{bytes_eq}
 use Rattle.command_shell.specs.declared.form.Form.{Form}
 
@@ -19,10 +21,18 @@ form_shown form = record { word = form.word.now; parameters = map (λ p. p.now) 
 abbrev pub fits : {C : Type 0} → List ℕ → ℕ → Row C → Bool
 fits word count form = bytes_eq word form.word && (count == length form.parameters)
 
+-- the command of a form, with these words behind its own
+abbrev pub taken : {C : Type 0} → List (List ℕ) → Row C → C × List (List ℕ)
+taken arguments form = (form.command, arguments)
+
+-- .. as it is handed on
+abbrev pub taken_shown : {C : Type 0} → C × Bor (List (String Global)) → C × List (List ℕ)
+taken_shown found = (found.0, map string_bytes found.1.now)
+
 -- the command whose form the words have, the first such, and the words behind its own
 abbrev pub command_in : {C : Type 0} → List (Row C) → List (List ℕ) → Option (C × List (List ℕ))
 command_in forms [] = None
-command_in forms (word ∷ arguments) = option_map (λ form. (form.command, arguments)) (find (fits word (length arguments)) forms)
+command_in forms (word ∷ arguments) = option_map (taken arguments) (find (fits word (length arguments)) forms)
 
 -- ---- how they are told
 

@@ -1,7 +1,7 @@
 //! The forms of a program's commands, as a table.
-ghost use Rattle.std.specs.Prelude.{◌≡◌, ◌∷◌, map, option_map, string_bytes};
+ghost use Rattle.std.specs.Prelude.{◌≡◌, length, map, option_map, string_bytes};
 ghost use Rattle.std.specs.List.{find};
-ghost use Rattle.command_shell.specs.Forms.{command_in, fits, form_shown};
+ghost use Rattle.command_shell.specs.Forms.{command_in, fits, form_shown, taken, taken_shown};
 
 /// A form of a command.
 #[derive(Clone, Copy, Debug)]
@@ -40,15 +40,23 @@ fn find_form<C: Copy>(forms: &[Form<C>], word: &str, count: usize) -> Option<For
 }
 
 impl<C: Copy> Program<'_, C> {
+    // The command of the first form that begins with this word, behind which these stand.
+    fn command_behind<'a>(&self, word: &str, arguments: &'a [String]) -> Option<(C, &'a [String])>
+        ensures { option_map taken_shown result ≡ option_map (taken (map string_bytes arguments.now)) (find (fits word.now (length arguments.now)) (map form_shown self.now.forms.now)) }
+    {
+        let form = find_form(self.forms, word, arguments.len())?;
+        Some((form.command, arguments))
+    }
+
     /// The command whose form the words after the program's name have, the first such, and the words behind its own;
     /// `None` where they have no form.
+    #[tactic(auto, using(crate::proofs::FormFound::words_cut, crate::proofs::FormFound::words_none))]
     pub fn command<'a>(&self, words: &'a [String]) -> Option<(C, &'a [String])>
-        ensures { option_map (λ found. (found.0, map string_bytes found.1.now)) result ≡ command_in (map form_shown self.now.forms.now) (map string_bytes words.now) }
+        ensures { option_map taken_shown result ≡ command_in (map form_shown self.now.forms.now) (map string_bytes words.now) }
     {
-        let [word, arguments @ ..] = words else {
-            return None;
-        };
-        let form = find_form(self.forms, word.as_str(), arguments.len())?;
-        Some((form.command, arguments))
+        match words.split_first() {
+            None => None,
+            Some((word, arguments)) => self.command_behind(word.as_str(), arguments),
+        }
     }
 }

@@ -1,10 +1,10 @@
 //! The status with which a call of a program ends.
+ghost use Rattle.std.specs.Prelude.{◌≡◌, ℕ};
+
 use std::process::ExitCode;
 
 /// The statuses of a program's own, beside those of every program.
 pub trait OwnStatus: Copy {
-    ghost use Rattle.std.specs.Prelude.{ℕ};
-
     /// The number of a status: none of 0, 1, 3, 4, 7 and 8.
     ghost number: { Self → ℕ };
 

@@ -42,11 +42,13 @@ fn put_others<C, E: Sink>(forms: &[Form<C>], err: &mut E) -> Result<(), SinkFaul
 fn put_forms<C, E: Sink>(forms: &[Form<C>], err: &mut E) -> Result<(), SinkFault>
     ensures { Puts (usage_text (map form_shown forms.now)) (E.state err.old) (E.state err.new) result }
 {
-    let [first, others @ ..] = forms else {
-        return put_pieces(&["usage: "], err);
-    };
-    put_form("usage: ", first, err)?;
-    put_others(others, err)
+    match forms.split_first() {
+        None => put_pieces(&["usage: "], err),
+        Some((first, others)) => {
+            put_form("usage: ", first, err)?;
+            put_others(others, err)
+        }
+    }
 }
 
 /// Puts the line that tells the forms of a program's commands.

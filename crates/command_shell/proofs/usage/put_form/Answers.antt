@@ -1,4 +1,4 @@
-use Rattle.command_shell.proofs.Usage.{form_failed, form_put}
+use Rattle.command_shell.proofs.UsagePut.{form_failed, form_put}
 use Rattle.command_shell.proofs.usage.put_form.Goals as goal
 
 pub returns-in_err-put_pieces : goal.returns-in_err-put_pieces

@@ -1,6 +1,6 @@
 -- The forms of a program's commands, put piece by piece.
-use Rattle.std.proofs.Common.{◌≡◌, ℕ, List, [], ◌∷◌, ◌++◌, map, Result, Ok, Err, IsErr, sym, ap, subst, ◌∙◌, append_assoc, append-nil}
-use Rattle.core.proofs.iter.runs.Flat.{flat_map-map}
+use Rattle.std.proofs.Common.{◌≡◌, ℕ, List, [], ◌∷◌, ◌++◌, arith, length, map, refl, Result, Ok, Err, IsErr, sym, ap, subst, ◌∙◌, append_assoc, append-nil}
+use Rattle.std.proofs.lemmas.List.Folds.{flat_map-map}
 use Rattle.std.specs.Borrow.{Bor}
 use Rattle.std.specs.List.{flat_map}
 use Rattle.std.specs.Prelude.{codes}
@@ -46,17 +46,27 @@ usage_is first others =
     append_assoc (codes "usage: ") (form_text (form_shown first)) (flat_map (λ f. codes ", " ++ form_text (form_shown f)) others)
     ∙ ap (λ x. codes "usage: " ++ (form_text (form_shown first) ++ x)) (others_are others)
 
-pub forms_put : {C E : Type 0} (first : Form C) (others : List (Form C)) (s t u : SinkState) (r : Result (Unit {0}) E)
-    → Appended (codes "usage: " ++ form_text (form_shown first)) s t → Puts (flat_map (λ f. codes ", " ++ form_text (form_shown f)) others) t u r
-    → Puts (usage_text (map form_shown (first ∷ others))) s u r
-forms_put first others s t u r p q =
-    puts_as _ _ s u r (usage_is first others) (puts_then (codes "usage: " ++ form_text (form_shown first)) (flat_map (λ f. codes ", " ++ form_text (form_shown f)) others) s t u r p q)
+module _ {C E : Type 0} (forms : List (Form C)) (s u : SinkState) (r : Result (Unit {0}) E) where
+  pub no_forms_put : length forms ≡ 0 → Puts (codes "usage: " ++ []) s u r → Puts (usage_text (map form_shown forms)) s u r
+  no_forms_put none q = puts_as _ _ s u r (empty forms none) q
+    where
+      empty : (fs : List (Form C)) → length fs ≡ 0 → codes "usage: " ++ [] ≡ usage_text (map form_shown fs)
+      empty [] h = refl
+      empty (f ∷ fs) h = absurd (omega (arith, h))
 
-pub forms_failed : {C E : Type 0} (first : Form C) (others : List (Form C)) (s u : SinkState) (r : Result (Unit {0}) E) → IsErr r
-    → Failed (codes "usage: " ++ form_text (form_shown first)) s u → Puts (usage_text (map form_shown (first ∷ others))) s u r
-forms_failed first others s u r is q =
-    puts_exit _ s u r is
-    (failed_as _ _ s u (usage_is first others) (failed_first (codes "usage: " ++ form_text (form_shown first)) (flat_map (λ f. codes ", " ++ form_text (form_shown f)) others) s u q))
+  module _ (first : Form C) (others : List (Form C)) (is : forms ≡ first ∷ others) where
+    all_are : (codes "usage: " ++ form_text (form_shown first)) ++ flat_map (λ f. codes ", " ++ form_text (form_shown f)) others ≡ usage_text (map form_shown forms)
+    all_are = usage_is first others ∙ ap (λ fs. usage_text (map form_shown fs)) (sym is)
+
+    pub forms_put : (t : SinkState) → Appended (codes "usage: " ++ form_text (form_shown first)) s t → Puts (flat_map (λ f. codes ", " ++ form_text (form_shown f)) others) t u r
+        → Puts (usage_text (map form_shown forms)) s u r
+    forms_put t p q =
+        puts_as _ _ s u r all_are (puts_then (codes "usage: " ++ form_text (form_shown first)) (flat_map (λ f. codes ", " ++ form_text (form_shown f)) others) s t u r p q)
+
+    pub forms_failed : IsErr r → Failed (codes "usage: " ++ form_text (form_shown first)) s u → Puts (usage_text (map form_shown forms)) s u r
+    forms_failed err q =
+        puts_exit _ s u r err
+        (failed_as _ _ s u all_are (failed_first (codes "usage: " ++ form_text (form_shown first)) (flat_map (λ f. codes ", " ++ form_text (form_shown f)) others) s u q))
 
 -- ---- the line
 
