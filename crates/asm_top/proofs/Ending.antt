@@ -24,9 +24,6 @@ Next = List ℕ → Answer AssemblerStatus
 -- ---- the text that was read
 
 module _ (names : Option (List ℕ)) (source front items : List ℕ) (held : Option Store) (old new : History) (plan : Plan AssemblerStatus) (next : Next) (r : Reaches assembler.name plan (answers (of_text names source next front items)) held old new) where
-  abbrev tell : _
-  tell = fault_text names source (line_feeds front)
-
   says : (bytes : List ℕ) → Said (front ++ items) bytes → Reaches assembler.name plan (answers (next bytes)) held old new
   says bytes is = subst (λ a. Reaches assembler.name plan (answers (of_source (fault_text names source (line_feeds front)) next a)) held old new) is r
 

@@ -1,9 +1,6 @@
 //! The bytes that a source says, behind names if a file of them is named.
-ghost use Rattle.std.specs.Prelude.{◌≡◌, ◌++◌, List, ℕ, IfErr, IfOk, OnOk, None, Some, length};
-ghost use Rattle.command_shell.specs.Answers.{Answer};
-ghost use Rattle.command_shell.specs.declared.error.CommandError.TheVariants.{NoMemory as MemoryRefused};
+ghost use Rattle.std.specs.Prelude.{◌≡◌, ◌++◌, [], IfErr, IfOk};
 ghost use Rattle.asm_text.specs.declared.fault.SourceFault.TheVariants.{At as AtPlace};
-ghost use Rattle.asm_text.specs.Meaning.{assembled};
 ghost use Rattle.asm_top.specs.Answers.{ended, line_feeds};
 ghost use Rattle.asm_top.specs.Commands.{name_given};
 ghost use Rattle.asm_top.specs.Reads.{Assembles, NotAssembled, Said, NotSaid};

@@ -16,7 +16,11 @@ use muen_outside::{Sink, SinkFault};
 #[derive(Clone, Copy)]
 pub(crate) enum Refusal<'a> {
     /// At this place of a source that stands alone.
-    Alone { line: u64, column: u64, want: Want },
+    Alone {
+        line: u64,
+        column: u64,
+        want: Want,
+    },
     /// At this place of the file of this name: of names, or of a source behind names.
     In {
         file: &'a str,

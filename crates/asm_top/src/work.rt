@@ -22,7 +22,11 @@ use muen_outside::{Buffer, Files, Sink, SinkFault, put_pieces};
 use std::alloc::Global;
 
 // Puts the bytes in hexadecimal digits, and a line feed behind them.
-fn put_hex<'a, S: Sink>(alloc: Global, bytes: &[u8], out: &mut S) -> Result<(), CommandError<'a, Refusal<'a>>>
+fn put_hex<'a, S: Sink>(
+    alloc: Global,
+    bytes: &[u8],
+    out: &mut S,
+) -> Result<(), CommandError<'a, Refusal<'a>>>
     ensures { PutsTo (hex_text bytes.now) (S.state out.old) (S.state out.new) result }
 {
     let Ok(digits) = hex::encode(alloc, bytes) else {
@@ -53,7 +57,11 @@ fn put_lines<'a, S: Sink>(
 }
 
 // Puts a source of the bytes.
-fn put_text<'a, S: Sink>(alloc: Global, bytes: &[u8], out: &mut S) -> Result<(), CommandError<'a, Refusal<'a>>>
+fn put_text<'a, S: Sink>(
+    alloc: Global,
+    bytes: &[u8],
+    out: &mut S,
+) -> Result<(), CommandError<'a, Refusal<'a>>>
     ensures { PutsTo (source_of bytes.now) (S.state out.old) (S.state out.new) result }
 {
     let Ok(mut buffer) = Buffer::make(alloc) else {
@@ -142,16 +150,20 @@ fn work<'a, F: Files, S: Sink>(
     match Command::parse(words) {
         None => Err(CommandError::Usage),
         Some(Command::Hex { names, source }) => print_hex(alloc, names, source, files, out),
-        Some(Command::Lines {
-            names,
-            source,
-            base,
-        }) => print_lines(alloc, names, source, base, files, out),
-        Some(Command::Bin {
-            names,
-            source,
-            file,
-        }) => write_bin(alloc, names, source, file, files),
+        Some(
+            Command::Lines {
+                names,
+                source,
+                base,
+            },
+        ) => print_lines(alloc, names, source, base, files, out),
+        Some(
+            Command::Bin {
+                names,
+                source,
+                file,
+            },
+        ) => write_bin(alloc, names, source, file, files),
         Some(Command::Text(file)) => print_text(alloc, file, files, out),
     }
 }

@@ -85,7 +85,7 @@ module _ {O : Type 0} (program : List ℕ) (e : Ends O) (puts : e.out'.faults �
   answered answer before unwritten d = record {
     more = [];
     looks = does_looks before answer d ∙ sym (append-nil before.looks);
-    whole = λ none. elim (or_not before unwritten answer d) [ | inl short ↦ inl short | inr all ↦ inr (λ m shown. all) ];
+    whole = λ none. elim (or_not before unwritten answer d) [ inl short ↦ inl short | inr all ↦ inr (λ m shown. all) ];
   }
 
   module _ (name : List ℕ) (most : ℕ) (next : List ℕ → Plan O) (before : History) (unwritten : before.writes ≡ e.before.writes) where
