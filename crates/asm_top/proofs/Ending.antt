@@ -1,7 +1,6 @@
 -- What comes of the files of a source.
-use Rattle.std.proofs.Common.{◌≡◌, ℕ, List, [], ◌++◌, Option, Some, None, Result, Ok, Err, option_map, refl, ap, subst}
-use Rattle.asm_text.specs.Meaning.{assembled}
-use Rattle.command_shell.specs.Answers.{Answer, Plan, answers, looks_at, refuses}
+use Rattle.std.proofs.Common.{◌≡◌, ℕ, List, [], ◌++◌, Option, Some, None, Result, Ok, option_map, refl, subst}
+use Rattle.command_shell.specs.Answers.{Answer, Plan, answers, looks_at}
 use Rattle.command_shell.specs.Outcomes.{ComesOf, Reaches, StopsAt}
 use Rattle.command_shell.specs.Reads.{NotRead, Saw}
 use Rattle.command_shell.specs.declared.error.CommandError.{CommandError}

@@ -1,5 +1,5 @@
 -- What reading a source, and assembling it, has come to.
-use Rattle.std.specs.Prelude.{◌≡◌, ℕ, List, ◌++◌, Option, Result, Ok, Err}
+use Rattle.std.specs.Prelude.{◌≡◌, ℕ, List, ◌++◌, Option, Ok, Err}
 use Rattle.asm_text.specs.Meaning.{assembled}
 use Rattle.asm_text.specs.declared.fault.SourceFault.{SourceFault}
 use Rattle.command_shell.specs.Answers.{Answer, answers}
