@@ -1,3 +1,1 @@
-mod Completing
-mod Ending
-mod Looking
+pub mod Ending

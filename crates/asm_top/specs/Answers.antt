@@ -1,23 +1,17 @@
 -- What a command answers to the bytes of its files.
-use Rattle.std.specs.Prelude.{ℕ, ◌-◌, ◌==◌, List, ◌++◌, length, filter, Option, Some, None, Result, Ok, Err, codes, decimal, nat_le, if◌then◌else◌}
+use Rattle.std.specs.Prelude.{ℕ, ◌==◌, List, [], ◌++◌, length, filter, Option, Some, None, Result, Ok, Err, codes}
 use Rattle.hex.specs.Hex.{encode_lower}
-use Rattle.muen_num.specs.Memory.{no_memory_text}
 use Rattle.asm_listing.specs.Listing.{listing_of}
 use Rattle.asm_listing.specs.Source.{source_of}
-use Rattle.asm_text.specs.FaultTexts.{source_fault_text, want_text}
 use Rattle.asm_text.specs.Meaning.{assembled}
 use Rattle.asm_text.specs.declared.fault.SourceFault.{SourceFault}
-use Rattle.asm_text.specs.declared.fault.SourceFault.TheVariants.{At as AtPlace, NoMemory}
-use Rattle.asm_text.specs.declared.fault.Want.{Want}
+use Rattle.command_shell.specs.Answers.{Answer, Plan, prints, writes, refuses, answers, looks_at}
+use Rattle.muen_num.specs.declared.limits.TheConstants.{COMPONENT_FILE_MOST}
 use Rattle.asm_top.specs.Commands.{Command, hex, lines, bin, text}
-
-pub data Answer : Type 0 where
-  -- this text is printed
-  prints : List ℕ → Answer
-  -- these bytes are written under this name
-  writes : List ℕ → List ℕ → Answer
-  -- the source is refused, with this text
-  refuses : List ℕ → Answer
+use Rattle.asm_top.specs.Refusals.{fault_text}
+use Rattle.asm_top.specs.declared.limits.TheConstants.{SOURCE_MOST}
+use Rattle.asm_top.specs.declared.status.AssemblerStatus.{AssemblerStatus}
+use Rattle.asm_top.specs.declared.status.AssemblerStatus.TheVariants.{SourceRefused}
 
 abbrev pub hex_text : List ℕ → List ℕ
 hex_text bytes = encode_lower bytes ++ codes "\n"
@@ -30,27 +24,24 @@ ended names = names ++ codes "\n"
 abbrev pub line_feeds : List ℕ → ℕ
 line_feeds items = length (filter (λ c. c == 10) items)
 
-abbrev pub place_text : List ℕ → ℕ → ℕ → Want → List ℕ
-place_text file line column want =
-    codes "file " ++ (file ++ (codes ", line " ++ (decimal line ++ (codes ", column " ++ (decimal column ++ (codes ": " ++ want_text want))))))
-
--- the text of a fault. Where names of so many lines stand before the source, it tells the file whose line has it, and its number there
-abbrev pub fault_text : Option (List ℕ) → List ℕ → ℕ → SourceFault → List ℕ
-fault_text None source count fault = source_fault_text fault
-fault_text (Some names) source count (AtPlace line column want) =
-    if nat_le line count then place_text names line column want else place_text source (line - count) column want
-fault_text (Some names) source count NoMemory = no_memory_text
-
-abbrev pub of_source : (SourceFault → List ℕ) → (List ℕ → Answer) → Result (List ℕ) SourceFault → Answer
+-- what follows from the bytes that a source says; or it is refused, with the text of its fault
+abbrev pub of_source : (SourceFault → List ℕ) → (List ℕ → Answer AssemblerStatus) → Result (List ℕ) SourceFault → Answer AssemblerStatus
 of_source tell next (Ok bytes) = next bytes
-of_source tell next (Err fault) = refuses (tell fault)
+of_source tell next (Err fault) = refuses SourceRefused (tell fault)
 
--- what is answered to the bytes of the file, before which these stand
-abbrev pub answer_of : Command → List ℕ → List ℕ → Answer
-answer_of (hex names source) front bytes =
-    of_source (fault_text names source (line_feeds front)) (λ b. prints (hex_text b)) (assembled (front ++ bytes))
-answer_of (lines names source base) front bytes =
-    of_source (fault_text names source (line_feeds front)) (λ b. prints (listing_of base b)) (assembled (front ++ bytes))
-answer_of (bin names source file) front bytes =
-    of_source (fault_text names source (line_feeds front)) (λ b. writes file b) (assembled (front ++ bytes))
-answer_of (text file) front bytes = prints (source_of bytes)
+-- .. of a text, before which this front stands
+abbrev pub of_text : Option (List ℕ) → List ℕ → (List ℕ → Answer AssemblerStatus) → List ℕ → List ℕ → Answer AssemblerStatus
+of_text names source next front items = of_source (fault_text names source (line_feeds front)) next (assembled (front ++ items))
+
+-- a source is read, after names if there is a file of them, and this follows from the bytes that it says behind them
+abbrev pub source_plan : Option (List ℕ) → List ℕ → (List ℕ → Answer AssemblerStatus) → Plan AssemblerStatus
+source_plan None source next = looks_at source SOURCE_MOST (λ items. answers (of_text None source next [] items))
+source_plan (Some names) source next =
+    looks_at names SOURCE_MOST (λ first. looks_at source SOURCE_MOST (λ items. answers (of_text (Some names) source next (ended first) items)))
+
+-- the files that a command looks at, and its answer to what they have
+abbrev pub plan_of : Command → Plan AssemblerStatus
+plan_of (hex names source) = source_plan names source (λ bytes. prints (hex_text bytes))
+plan_of (lines names source base) = source_plan names source (λ bytes. prints (listing_of base bytes))
+plan_of (bin names source file) = source_plan names source (λ bytes. writes file bytes)
+plan_of (text file) = looks_at file COMPONENT_FILE_MOST (λ bytes. answers (prints (source_of bytes)))

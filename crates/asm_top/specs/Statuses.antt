@@ -1,13 +1,7 @@
--- The number of each status.
+-- The number of each status of the assembler's own.
 use Rattle.std.specs.Prelude.{ℕ}
-use Rattle.asm_top.specs.declared.status.Status.{Status}
-use Rattle.asm_top.specs.declared.status.Status.TheVariants.{Done, Usage, SourceRefused, FileMissing, FileFault, OutputFault, NoMemory}
+use Rattle.asm_top.specs.declared.status.AssemblerStatus.{AssemblerStatus}
+use Rattle.asm_top.specs.declared.status.AssemblerStatus.TheVariants.{SourceRefused}
 
-abbrev pub code_of : Status → ℕ
-code_of Done = 0
-code_of Usage = 1
-code_of SourceRefused = 2
-code_of FileMissing = 3
-code_of FileFault = 4
-code_of OutputFault = 7
-code_of NoMemory = 8
+abbrev pub number_of : AssemblerStatus → ℕ
+number_of SourceRefused = 2

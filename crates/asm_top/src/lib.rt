@@ -3,18 +3,18 @@
 
 ghost use Rattle.std.specs.Prelude.{IfSome, map, string_bytes};
 ghost use Rattle.muen_outside.specs.Looks.{HeldAfter, ShowAll, looks_since, writes_since};
-ghost use Rattle.asm_top.specs.Calls.{IsCall, ends};
-ghost use Rattle.asm_top.specs.Complete.{IsComplete};
+ghost use Rattle.command_shell.specs.Calls.{ends};
+ghost use Rattle.asm_top.specs.Calls.{IsCall, IsComplete};
 
 mod command;
 mod limits;
 mod reading;
-mod report;
+mod refusal;
 mod status;
 mod work;
 
 use muen_outside::{Files, Sink};
-pub use status::Status;
+pub use status::{AssemblerStatus, Status};
 use std::alloc::Global;
 
 /// Does what the words after the program's name ask for, and answers the status.

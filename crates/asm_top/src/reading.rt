@@ -1,39 +1,17 @@
-//! What the commands read: a file in one look, and the bytes that a source says, behind names if a file of them is named.
-ghost use Rattle.std.specs.Prelude.{◌≡◌, ◌++◌, IfErr, IfOk, Ok, codes};
-ghost use Rattle.muen_outside.specs.Store.{whole};
+//! The bytes that a source says, behind names if a file of them is named.
+ghost use Rattle.std.specs.Prelude.{◌≡◌, ◌++◌, [], IfErr, IfOk};
 ghost use Rattle.asm_text.specs.declared.fault.SourceFault.TheVariants.{At as AtPlace};
-ghost use Rattle.asm_top.specs.Answers.{ended, fault_text, line_feeds};
+ghost use Rattle.asm_top.specs.Answers.{ended, line_feeds};
 ghost use Rattle.asm_top.specs.Commands.{name_given};
-ghost use Rattle.asm_top.specs.Parsed.{error_status, error_text};
-ghost use Rattle.asm_top.specs.Reads.{NotAssembled, SourceNotRead, Saw, SawSource};
-ghost use Rattle.asm_top.specs.declared.status.Status.TheVariants as statuses;
+ghost use Rattle.asm_top.specs.Reads.{Assembles, NotAssembled, Said, NotSaid};
+ghost use Rattle.asm_top.specs.Refusals.{fault_text, refusal_text};
 
 use crate::limits::SOURCE_MOST;
-use crate::report::CommandError;
+use crate::refusal::Refusal;
 use asm_text::{SourceFault, Want, assemble};
-use muen_num::Seq;
-use muen_outside::{FileError, Files, Found};
+use command_shell::{CommandError, read_file};
+use muen_outside::Files;
 use std::alloc::{AllocError, Global};
-
-/// The bytes of a file, in one look.
-pub(crate) fn read<'a, F: Files>(
-    alloc: Global,
-    name: &'a str,
-    most: usize,
-    files: &mut F,
-) -> Result<Seq<u8>, CommandError<'a>>
-    ensures ok { IfOk result (λ bytes. Saw name.now most (Ok (whole bytes)) (F.held files.old) (F.history files.old) (F.history files.new)) }
-    ensures err { IfErr result (SourceNotRead name.now most (F.held files.old) (F.history files.old) (F.history files.new)) }
-    ensures held { F.held files.new ≡ F.held files.old }
-{
-    match files.read(alloc, name, most) {
-        Ok(Found::Bytes(bytes)) => Ok(bytes),
-        Ok(Found::Missing) => Err(CommandError::Missing(name)),
-        Ok(Found::TooLong(n)) => Err(CommandError::TooLong(name, n)),
-        Err(FileError::Failed) => Err(CommandError::FileFault),
-        Err(FileError::NoMemory) => Err(CommandError::NoMemory),
-    }
-}
 
 // How many line feeds a text has.
 fn line_feeds(text: &[u8]) -> u64
@@ -60,19 +38,18 @@ fn refused_in<'a>(
     line: u64,
     column: u64,
     want: Want,
-) -> CommandError<'a>
-    ensures text { error_text result ≡ fault_text (Some names.now) source.now lines (AtPlace line column want) }
-    ensures status { error_status result ≡ statuses.SourceRefused }
+) -> Refusal<'a>
+    ensures { refusal_text result ≡ fault_text (Some names.now) source.now lines (AtPlace line column want) }
 {
     if line <= lines {
-        CommandError::RefusedIn {
+        Refusal::In {
             file: names,
             line,
             column,
             want,
         }
     } else {
-        CommandError::RefusedIn {
+        Refusal::In {
             file: source,
             line: line - lines,
             column,
@@ -81,22 +58,63 @@ fn refused_in<'a>(
     }
 }
 
+// The bytes that a text says.
+fn said_alone<'a>(
+    alloc: Global,
+    source: &'a str,
+    text: &[u8],
+) -> Result<Vec<u8>, CommandError<'a, Refusal<'a>>>
+    ensures ok { IfOk result (λ v. Said text.now v.items) }
+    ensures err { IfErr result (NotSaid None source.now [] text.now) }
+{
+    match assemble(alloc, text) {
+        Ok(bytes) => Ok(bytes),
+        Err(SourceFault::NoMemory) => Err(CommandError::NoMemory),
+        Err(SourceFault::At { line, column, want }) => {
+            Err(CommandError::Own(Refusal::Alone { line, column, want }))
+        }
+    }
+}
+
+// The bytes that a text says behind that of names.
+fn said_behind<'a>(
+    alloc: Global,
+    names: &'a str,
+    source: &'a str,
+    first: &[u8],
+    text: &[u8],
+) -> Result<Vec<u8>, CommandError<'a, Refusal<'a>>>
+    ensures ok { IfOk result (λ v. Said (ended first.now ++ text.now) v.items) }
+    ensures err { IfErr result (NotSaid (Some names.now) source.now (ended first.now) text.now) }
+{
+    let Ok(mut whole) = ended(alloc, first) else {
+        return Err(CommandError::NoMemory);
+    };
+    let lines = line_feeds(&whole);
+    let Ok(()) = whole.extend_from_slice(text) else {
+        return Err(CommandError::NoMemory);
+    };
+    match assemble(alloc, &whole) {
+        Ok(bytes) => Ok(bytes),
+        Err(SourceFault::NoMemory) => Err(CommandError::NoMemory),
+        Err(SourceFault::At { line, column, want }) => Err(CommandError::Own(refused_in(
+            names, source, lines, line, column, want,
+        ))),
+    }
+}
+
 // The bytes that the source of this file says.
 fn read_alone<'a, F: Files>(
     alloc: Global,
     source: &'a str,
     files: &mut F,
-) -> Result<Vec<u8>, CommandError<'a>>
-    ensures ok { IfOk result (λ v. SawSource None source.now (F.held files.old) (F.history files.old) (F.history files.new) (Ok v.items)) }
+) -> Result<Vec<u8>, CommandError<'a, Refusal<'a>>>
+    ensures ok { IfOk result (λ v. Assembles None source.now (F.held files.old) (F.history files.old) (F.history files.new) v.items) }
     ensures err { IfErr result (NotAssembled None source.now (F.held files.old) (F.history files.old) (F.history files.new)) }
     ensures held { F.held files.new ≡ F.held files.old }
 {
-    let text = read(alloc, source, SOURCE_MOST, files)?;
-    match assemble(alloc, text.items()) {
-        Ok(bytes) => Ok(bytes),
-        Err(SourceFault::NoMemory) => Err(CommandError::NoMemory),
-        Err(fault) => Err(CommandError::Refused(fault)),
-    }
+    let text = read_file(alloc, source, SOURCE_MOST, files)?;
+    said_alone(alloc, source, text.items())
 }
 
 // .. behind the names of that one.
@@ -105,27 +123,14 @@ fn read_behind<'a, F: Files>(
     names: &'a str,
     source: &'a str,
     files: &mut F,
-) -> Result<Vec<u8>, CommandError<'a>>
-    ensures ok { IfOk result (λ v. SawSource (Some names.now) source.now (F.held files.old) (F.history files.old) (F.history files.new) (Ok v.items)) }
+) -> Result<Vec<u8>, CommandError<'a, Refusal<'a>>>
+    ensures ok { IfOk result (λ v. Assembles (Some names.now) source.now (F.held files.old) (F.history files.old) (F.history files.new) v.items) }
     ensures err { IfErr result (NotAssembled (Some names.now) source.now (F.held files.old) (F.history files.old) (F.history files.new)) }
     ensures held { F.held files.new ≡ F.held files.old }
 {
-    let first = read(alloc, names, SOURCE_MOST, files)?;
-    let behind = read(alloc, source, SOURCE_MOST, files)?;
-    let Ok(mut whole) = ended(alloc, first.items()) else {
-        return Err(CommandError::NoMemory);
-    };
-    let lines = line_feeds(&whole);
-    let Ok(()) = whole.extend_from_slice(behind.items()) else {
-        return Err(CommandError::NoMemory);
-    };
-    match assemble(alloc, &whole) {
-        Ok(bytes) => Ok(bytes),
-        Err(SourceFault::NoMemory) => Err(CommandError::NoMemory),
-        Err(SourceFault::At { line, column, want }) => Err(refused_in(
-            names, source, lines, line, column, want,
-        )),
-    }
+    let first = read_file(alloc, names, SOURCE_MOST, files)?;
+    let behind = read_file(alloc, source, SOURCE_MOST, files)?;
+    said_behind(alloc, names, source, first.items(), behind.items())
 }
 
 /// The bytes that the source of this file says, behind the names of another one if that is named.
@@ -134,8 +139,8 @@ pub(crate) fn read_source<'a, F: Files>(
     names: Option<&'a str>,
     source: &'a str,
     files: &mut F,
-) -> Result<Vec<u8>, CommandError<'a>>
-    ensures ok { IfOk result (λ v. SawSource (name_given names.entry) source.now (F.held files.old) (F.history files.old) (F.history files.new) (Ok v.items)) }
+) -> Result<Vec<u8>, CommandError<'a, Refusal<'a>>>
+    ensures ok { IfOk result (λ v. Assembles (name_given names.entry) source.now (F.held files.old) (F.history files.old) (F.history files.new) v.items) }
     ensures err { IfErr result (NotAssembled (name_given names.entry) source.now (F.held files.old) (F.history files.old) (F.history files.new)) }
     ensures held { F.held files.new ≡ F.held files.old }
 {

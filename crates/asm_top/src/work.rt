@@ -1,26 +1,32 @@
 //! The commands: what follows from the files that were read is put or written.
-ghost use Rattle.std.specs.Prelude.{◌≡◌, IfSome, map, string_bytes};
+ghost use Rattle.std.specs.Prelude.{◌≡◌, IfSome, map, option_map, string_bytes};
 ghost use Rattle.asm_listing.specs.Listing.{listing_of};
 ghost use Rattle.asm_listing.specs.Source.{source_of};
+ghost use Rattle.command_shell.specs.Calls.{ends};
+ghost use Rattle.command_shell.specs.Outcomes.{ComesOf, ComesTo, PutsTo};
 ghost use Rattle.muen_outside.specs.Looks.{HeldAfter, ShowAll, looks_since, writes_since};
 ghost use Rattle.muen_outside.specs.States.{SinkState};
-ghost use Rattle.asm_top.specs.Answers.{hex_text};
-ghost use Rattle.asm_top.specs.Calls.{IsCall, ends};
+ghost use Rattle.asm_top.specs.Answers.{hex_text, plan_of};
+ghost use Rattle.asm_top.specs.Calls.{IsCall, IsComplete};
 ghost use Rattle.asm_top.specs.Commands.{bin, command_of, hex, lines, name_given, text};
-ghost use Rattle.asm_top.specs.Complete.{IsComplete};
-ghost use Rattle.asm_top.specs.Outcomes.{ComesOf, ComesTo, PutsTo, WritesTo};
+ghost use Rattle.asm_top.specs.Refusals.{assembler};
 
-use crate::command::Command;
-use crate::reading::{read, read_source};
-use crate::report::{CommandError, report, status};
+use crate::command::{Command, program};
+use crate::reading::read_source;
+use crate::refusal::Refusal;
 use crate::status::Status;
 use asm_listing::{put_listing, put_source};
+use command_shell::{CommandError, finish, read_file, write_file};
 use muen_num::limits::COMPONENT_FILE_MOST;
-use muen_outside::{Buffer, FileError, Files, Sink, SinkFault, put_pieces};
+use muen_outside::{Buffer, Files, Sink, SinkFault, put_pieces};
 use std::alloc::Global;
 
 // Puts the bytes in hexadecimal digits, and a line feed behind them.
-fn put_hex<'a, S: Sink>(alloc: Global, bytes: &[u8], out: &mut S) -> Result<(), CommandError<'a>>
+fn put_hex<'a, S: Sink>(
+    alloc: Global,
+    bytes: &[u8],
+    out: &mut S,
+) -> Result<(), CommandError<'a, Refusal<'a>>>
     ensures { PutsTo (hex_text bytes.now) (S.state out.old) (S.state out.new) result }
 {
     let Ok(digits) = hex::encode(alloc, bytes) else {
@@ -38,7 +44,7 @@ fn put_lines<'a, S: Sink>(
     base: u64,
     bytes: &[u8],
     out: &mut S,
-) -> Result<(), CommandError<'a>>
+) -> Result<(), CommandError<'a, Refusal<'a>>>
     ensures { PutsTo (listing_of base bytes.now) (S.state out.old) (S.state out.new) result }
 {
     let Ok(mut buffer) = Buffer::make(alloc) else {
@@ -51,7 +57,11 @@ fn put_lines<'a, S: Sink>(
 }
 
 // Puts a source of the bytes.
-fn put_text<'a, S: Sink>(alloc: Global, bytes: &[u8], out: &mut S) -> Result<(), CommandError<'a>>
+fn put_text<'a, S: Sink>(
+    alloc: Global,
+    bytes: &[u8],
+    out: &mut S,
+) -> Result<(), CommandError<'a, Refusal<'a>>>
     ensures { PutsTo (source_of bytes.now) (S.state out.old) (S.state out.new) result }
 {
     let Ok(mut buffer) = Buffer::make(alloc) else {
@@ -63,22 +73,6 @@ fn put_text<'a, S: Sink>(alloc: Global, bytes: &[u8], out: &mut S) -> Result<(),
     }
 }
 
-// Puts the bytes under this name.
-fn write_bytes<'a, F: Files>(
-    alloc: Global,
-    name: &str,
-    bytes: &[u8],
-    files: &mut F,
-) -> Result<(), CommandError<'a>>
-    ensures { WritesTo name.now bytes.now (F.held files.old) (F.held files.new) (F.history files.old) (F.history files.new) result }
-{
-    match files.write(alloc, name, bytes) {
-        Ok(()) => Ok(()),
-        Err(FileError::Failed) => Err(CommandError::FileFault),
-        Err(FileError::NoMemory) => Err(CommandError::NoMemory),
-    }
-}
-
 // Prints a source's bytes in hexadecimal digits.
 fn print_hex<'a, F: Files, S: Sink>(
     alloc: Global,
@@ -86,8 +80,8 @@ fn print_hex<'a, F: Files, S: Sink>(
     source: &'a str,
     files: &mut F,
     out: &mut S,
-) -> Result<(), CommandError<'a>>
-    ensures { ComesTo (hex (name_given names.entry) source.now) (F.held files.old) (F.held files.new) (F.history files.old) (F.history files.new) (S.state out.old) (S.state out.new) result }
+) -> Result<(), CommandError<'a, Refusal<'a>>>
+    ensures { ComesTo assembler (plan_of (hex (name_given names.entry) source.now)) (F.held files.old) (F.held files.new) (F.history files.old) (F.history files.new) (S.state out.old) (S.state out.new) result }
 {
     match read_source(alloc, names, source, files) {
         Ok(bytes) => put_hex(alloc, &bytes, out),
@@ -103,8 +97,8 @@ fn print_lines<'a, F: Files, S: Sink>(
     base: u64,
     files: &mut F,
     out: &mut S,
-) -> Result<(), CommandError<'a>>
-    ensures { ComesTo (lines (name_given names.entry) source.now base) (F.held files.old) (F.held files.new) (F.history files.old) (F.history files.new) (S.state out.old) (S.state out.new) result }
+) -> Result<(), CommandError<'a, Refusal<'a>>>
+    ensures { ComesTo assembler (plan_of (lines (name_given names.entry) source.now base)) (F.held files.old) (F.held files.new) (F.history files.old) (F.history files.new) (S.state out.old) (S.state out.new) result }
 {
     match read_source(alloc, names, source, files) {
         Ok(bytes) => put_lines(alloc, base, &bytes, out),
@@ -119,11 +113,11 @@ fn write_bin<'a, F: Files>(
     source: &'a str,
     file: &'a str,
     files: &mut F,
-) -> Result<(), CommandError<'a>>
-    ensures { (out : SinkState) → ComesTo (bin (name_given names.entry) source.now file.now) (F.held files.old) (F.held files.new) (F.history files.old) (F.history files.new) out out result }
+) -> Result<(), CommandError<'a, Refusal<'a>>>
+    ensures { (out : SinkState) → ComesTo assembler (plan_of (bin (name_given names.entry) source.now file.now)) (F.held files.old) (F.held files.new) (F.history files.old) (F.history files.new) out out result }
 {
     match read_source(alloc, names, source, files) {
-        Ok(bytes) => write_bytes(alloc, file, &bytes, files),
+        Ok(bytes) => write_file(alloc, file, &bytes, files),
         Err(error) => Err(error),
     }
 }
@@ -134,10 +128,10 @@ fn print_text<'a, F: Files, S: Sink>(
     file: &'a str,
     files: &mut F,
     out: &mut S,
-) -> Result<(), CommandError<'a>>
-    ensures { ComesTo (text file.now) (F.held files.old) (F.held files.new) (F.history files.old) (F.history files.new) (S.state out.old) (S.state out.new) result }
+) -> Result<(), CommandError<'a, Refusal<'a>>>
+    ensures { ComesTo assembler (plan_of (text file.now)) (F.held files.old) (F.held files.new) (F.history files.old) (F.history files.new) (S.state out.old) (S.state out.new) result }
 {
-    match read(alloc, file, COMPONENT_FILE_MOST, files) {
+    match read_file(alloc, file, COMPONENT_FILE_MOST, files) {
         Ok(bytes) => put_text(alloc, bytes.items(), out),
         Err(error) => Err(error),
     }
@@ -150,23 +144,27 @@ fn work<'a, F: Files, S: Sink>(
     words: &'a [String],
     files: &mut F,
     out: &mut S,
-) -> Result<(), CommandError<'a>>
-    ensures { ComesOf (command_of (map string_bytes words.now)) (F.held files.old) (F.held files.new) (F.history files.old) (F.history files.new) (S.state out.old) (S.state out.new) result }
+) -> Result<(), CommandError<'a, Refusal<'a>>>
+    ensures { ComesOf assembler (option_map plan_of (command_of (map string_bytes words.now))) (F.held files.old) (F.held files.new) (F.history files.old) (F.history files.new) (S.state out.old) (S.state out.new) result }
 {
     match Command::parse(words) {
-        Command::Usage => Err(CommandError::Usage),
-        Command::Hex { names, source } => print_hex(alloc, names, source, files, out),
-        Command::Lines {
-            names,
-            source,
-            base,
-        } => print_lines(alloc, names, source, base, files, out),
-        Command::Bin {
-            names,
-            source,
-            file,
-        } => write_bin(alloc, names, source, file, files),
-        Command::Text(file) => print_text(alloc, file, files, out),
+        None => Err(CommandError::Usage),
+        Some(Command::Hex { names, source }) => print_hex(alloc, names, source, files, out),
+        Some(
+            Command::Lines {
+                names,
+                source,
+                base,
+            },
+        ) => print_lines(alloc, names, source, base, files, out),
+        Some(
+            Command::Bin {
+                names,
+                source,
+                file,
+            },
+        ) => write_bin(alloc, names, source, file, files),
+        Some(Command::Text(file)) => print_text(alloc, file, files, out),
     }
 }
 
@@ -184,6 +182,5 @@ pub(crate) fn call<F: Files, S: Sink, E: Sink>(
     ensures held { HeldAfter (writes_since (F.history files.old) (F.history files.new)) (F.held files.old) (F.held files.new) }
 {
     let outcome = work(alloc, words, files, out);
-    report(outcome, err);
-    status(outcome)
+    finish(&program(), &outcome, err)
 }

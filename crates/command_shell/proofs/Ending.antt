@@ -1,0 +1,205 @@
+-- What comes of a command whose files were looked at.
+use Rattle.std.proofs.Common.{◌≡◌, inl, inr, ℕ, List, [], ◌∷◌, ◌++◌, Option, Some, None, IfSome, Result, Ok, Err, refl, sym, ap, subst, ◌∙◌, append-nil, append_assoc}
+use Rattle.std.proofs.Math.Seq.{drop-append_seam}
+use Rattle.muen_outside.specs.Looks.{HeldAfter, IsPossibleEnd, ShowAll, WriteLeaves, looks_since, writes_since}
+use Rattle.muen_outside.specs.States.{History, Look, SinkState, Write, look, looked, went, write, written}
+use Rattle.muen_outside.specs.Store.{Reading, Store, absent, long, whole}
+use Rattle.muen_outside.specs.declared.files.FileError.{FileError}
+use Rattle.muen_outside.specs.declared.files.FileError.TheVariants.{Failed as FilesFailed, NoMemory as FilesMemory}
+use Rattle.muen_outside.proofs.Explained.{told_none}
+use Rattle.command_shell.specs.Answers.{Answer, Plan, prints, writes, refuses, answers, looks_at}
+use Rattle.command_shell.specs.Calls.{DoesOrNot, Ends, IsCallOf, Runs, Stops, WriteEnds}
+use Rattle.command_shell.specs.Errors.{Reported, Telling, error_status, error_text, status_of}
+use Rattle.command_shell.specs.Outcomes.{ComesOf, ComesTo, IsUsage, PutsTo, Reaches, StopsAt, ends_with}
+use Rattle.command_shell.specs.Reads.{NotRead, Saw, Wrote, WritesTo}
+use Rattle.command_shell.specs.Texts.{Told, missing_text, too_long_text}
+use Rattle.command_shell.specs.declared.error.CommandError.{CommandError}
+use Rattle.command_shell.specs.declared.error.CommandError.TheVariants.{Usage, Missing, TooLong, FileFault, OutputFault, NoMemory, Own}
+use Rattle.command_shell.specs.declared.status.Status.TheVariants as statuses
+
+-- ---- looks
+
+-- no look
+looked_none : (old : History) → old ≡ looked old []
+looked_none old = ap (λ ls. record { looks = ls; writes = old.writes }) (sym (append-nil old.looks))
+
+-- one look, and then these
+looked_then : (old mid new : History) (l : Look) (looks : List Look) → mid ≡ looked old (l ∷ []) → new ≡ looked mid looks → new ≡ looked old (l ∷ looks)
+looked_then old mid new l looks first more =
+    more ∙ ap (λ h. looked h looks) first ∙ ap (λ ls. record { looks = ls; writes = old.writes }) (append_assoc old.looks (l ∷ []) looks)
+
+told_then : (held : Option Store) (l : Look) (looks : List Look) → IfSome held (λ m. ShowAll m (l ∷ [])) → IfSome held (λ m. ShowAll m looks) → IfSome held (λ m. ShowAll m (l ∷ looks))
+told_then None l looks x y = tt
+told_then (Some m) l looks x y = (x.0, y)
+
+module _ {O : Type 0} (program : List ℕ) (held : Option Store) where
+  -- a plan goes on as itself
+  pub reaches_itself : (plan : Plan O) (old : History) → Reaches program plan plan held old old
+  reaches_itself plan old = record { looks = []; history = looked_none old; told = told_none held; goes = λ e runs. runs }
+
+  module _ (name : List ℕ) (most : ℕ) (next : List ℕ → Plan O) (old mid new : History) (bytes : List ℕ) (saw : Saw name most (Ok (whole bytes)) held old mid) where
+    abbrev this : Look
+    this = look name most (Ok (whole bytes))
+
+    goes_on : (e : Ends O) → Runs program e (next bytes) mid → Runs program e (looks_at name most next) old
+    goes_on e runs = (Ok (whole bytes), saw.possible, subst (λ h. Runs program e (next bytes) h) saw.history runs)
+
+    -- a file was read, and the plan went on behind it
+    pub reaches_then : (rest : Plan O) → Reaches program (next bytes) rest held mid new → Reaches program (looks_at name most next) rest held old new
+    reaches_then rest r = record {
+      looks = this ∷ r.looks;
+      history = looked_then old mid new this r.looks saw.history r.history;
+      told = told_then held this r.looks saw.told r.told;
+      goes = λ e runs. goes_on e (r.goes e runs);
+    }
+
+    -- .. or it ended there
+    pub stops_then : {R : Type 0} (t : Telling R O) → t.name ≡ program → (error : CommandError R) → StopsAt t (next bytes) held mid new error → StopsAt t (looks_at name most next) held old new error
+    stops_then t is error s = record {
+      looks = this ∷ s.looks;
+      history = looked_then old mid new this s.looks saw.history s.history;
+      told = told_then held this s.looks saw.told s.told;
+      comes = λ e after stops.
+          subst (λ p. Runs p e (looks_at name most next) old) (sym is) (goes_on e (subst (λ p. Runs p e (next bytes) mid) is (s.comes e after stops)));
+    }
+
+-- a file was read
+pub reaches_next : {O : Type 0} (program : List ℕ) (held : Option Store) (name : List ℕ) (most : ℕ) (next : List ℕ → Plan O) (old new : History) (bytes : List ℕ)
+    → Saw name most (Ok (whole bytes)) held old new → Reaches program (looks_at name most next) (next bytes) held old new
+reaches_next program held name most next old new bytes saw =
+    reaches_then program held name most next old new new bytes saw (next bytes) (reaches_itself program held (next bytes) new)
+
+-- ---- of a command
+
+module _ {R O : Type 0} (t : Telling R O) where
+  abbrev Outcome : Type 0
+  Outcome = Result (Unit {0}) (CommandError R)
+
+  -- ---- that ends for an error
+
+  module _ (name : List ℕ) (most : ℕ) (next : List ℕ → Plan O) (held : Option Store) (old new : History) where
+    one_look : (got : Result Reading FileError) (error : CommandError R) → Saw name most got held old new
+        → ((e : Ends O) → e.after ≡ looked old (look name most got ∷ []) → Stops t.name e (error_status t.status error) (error_text t error) → Runs t.name e (looks_at name most next) old)
+        → StopsAt t (looks_at name most next) held old new error
+    one_look got error saw comes = record {
+      looks = look name most got ∷ [];
+      history = saw.history;
+      told = saw.told;
+      comes = λ e after stops. comes e (after ∙ saw.history) stops;
+    }
+
+    -- a file isn't read
+    pub not_read : (error : CommandError R) → NotRead name most held old new error → StopsAt t (looks_at name most next) held old new error
+    not_read (Missing n) h =
+        one_look (Ok absent) (Missing n) h.1 (λ e after stops. (Ok absent, h.1.possible, (after, subst (λ x. Stops t.name e statuses.FileMissing (missing_text x)) h.0 stops)))
+    not_read (TooLong n k) h =
+        one_look (Ok (long k)) (TooLong n k) h.1 (λ e after stops. (Ok (long k), h.1.possible, (after, subst (λ x. Stops t.name e statuses.FileMissing (too_long_text x k)) h.0 stops)))
+    not_read FileFault h = one_look (Err FilesFailed) FileFault h (λ e after stops. (Err FilesFailed, h.possible, (after, stops)))
+    not_read NoMemory h = one_look (Err FilesMemory) NoMemory h (λ e after stops. (Err FilesMemory, h.possible, (after, stops)))
+    not_read Usage h = absurd h
+    not_read OutputFault h = absurd h
+    not_read (Own reason) h = absurd h
+
+  module _ (plan : Plan O) (held : Option Store) (old new : History) where
+    -- what was asked for is refused
+    pub refused : (own : O) (text : List ℕ) → Reaches t.name plan (answers (refuses own text)) held old new → (reason : R) → t.status reason ≡ own → t.text reason ≡ text → StopsAt t plan held old new (Own reason)
+    refused own text r reason status says = record {
+      looks = r.looks;
+      history = r.history;
+      told = r.told;
+      comes = λ e after stops.
+          r.goes e (inl (after, subst (λ x. Stops t.name e (statuses.Own own) x) says (subst (λ s. Stops t.name e (statuses.Own s) (t.text reason)) status stops)));
+    }
+
+    -- memory was refused for an answer
+    pub without_memory : (answer : Answer O) → Reaches t.name plan (answers answer) held old new → StopsAt t plan held old new NoMemory
+    without_memory answer r = record { looks = r.looks; history = r.history; told = r.told; comes = λ e after stops. r.goes e (inr (after, stops)) }
+
+    module _ (held' : Option Store) (same : held' ≡ held) (out out' : SinkState) where
+      unwritten : (looks : List Look) → new ≡ looked old looks → new ≡ went old looks []
+      unwritten looks is = is ∙ ap (λ ws. record { looks = old.looks ++ looks; writes = ws }) (sym (append-nil old.writes))
+
+      pub stopped : out' ≡ out → (error : CommandError R) → StopsAt t plan held old new error → ComesTo t plan held held' old new out out' (Err error)
+      stopped quiet error s = record {
+        looks = s.looks;
+        writes = [];
+        history = unwritten s.looks s.history;
+        told = s.told;
+        left = same;
+        comes = λ err err' told. s.comes (ends_with t old new out out' (Err error) err err') refl (record { ended = refl; quiet = quiet; told = told });
+      }
+
+      -- ---- that puts a text
+
+      put_so : (text : List ℕ) (outcome : Outcome) → PutsTo text out out' outcome → (err err' : SinkState) → Reported t err err' outcome
+          → DoesOrNot t.name (ends_with t old new out out' outcome err err') new (prints text)
+      put_so text (Ok u) put err err' told = inl (refl, inl (record { ended = refl; put = put; quiet = told }))
+      put_so text (Err OutputFault) put err err' told = inl (refl, inr (record { ended = refl; put = put; told = told }))
+      put_so text (Err NoMemory) put err err' told = inr (refl, record { ended = refl; quiet = put; told = told })
+      put_so text (Err Usage) put err err' told = absurd put
+      put_so text (Err (Missing n)) put err err' told = absurd put
+      put_so text (Err (TooLong n k)) put err err' told = absurd put
+      put_so text (Err FileFault) put err err' told = absurd put
+      put_so text (Err (Own reason)) put err err' told = absurd put
+
+      pub printed : (text : List ℕ) → Reaches t.name plan (answers (prints text)) held old new → (outcome : Outcome) → PutsTo text out out' outcome → ComesTo t plan held held' old new out out' outcome
+      printed text r outcome put = record {
+        looks = r.looks;
+        writes = [];
+        history = unwritten r.looks r.history;
+        told = r.told;
+        left = same;
+        comes = λ err err' told. r.goes (ends_with t old new out out' outcome err err') (put_so text outcome put err err' told);
+      }
+
+  -- ---- that writes
+
+  module _ (plan : Plan O) (held mid_held held' : Option Store) (old mid new : History) (same : mid_held ≡ held) (out : SinkState) (name bytes : List ℕ) (r : Reaches t.name plan (answers (writes name bytes)) held old mid) where
+    by_write : (end : Result (Unit {0}) FileError) (outcome : Outcome) → Wrote name bytes end mid_held held' mid new
+        → ((err err' : SinkState) → Reported t err err' outcome → WriteEnds t.name (ends_with t old new out out outcome err err') end)
+        → ComesTo t plan held held' old new out out outcome
+    by_write end outcome w ends_so =
+        let one = write name bytes end ∷ [] in
+        record {
+          looks = r.looks;
+          writes = one;
+          history = w.history ∙ ap (λ h. written h one) r.history;
+          told = r.told;
+          left = (held', subst (λ h. WriteLeaves name bytes end h held') same w.left, refl);
+          comes = λ err err' told. r.goes (ends_with t old new out out outcome err err') (inl (end, w.history, ends_so err err' told));
+        }
+
+    pub wrote_so : (outcome : Outcome) → WritesTo name bytes mid_held held' mid new outcome → ComesTo t plan held held' old new out out outcome
+    wrote_so (Ok u) w = by_write (Ok tt) (Ok u) w (λ err err' told. (refl, refl, told))
+    wrote_so (Err FileFault) w = by_write (Err FilesFailed) (Err FileFault) w (λ err err' told. record { ended = refl; quiet = refl; told = told })
+    wrote_so (Err NoMemory) w = by_write (Err FilesMemory) (Err NoMemory) w (λ err err' told. record { ended = refl; quiet = refl; told = told })
+    wrote_so (Err Usage) w = absurd w
+    wrote_so (Err (Missing n)) w = absurd w
+    wrote_so (Err (TooLong n k)) w = absurd w
+    wrote_so (Err OutputFault) w = absurd w
+    wrote_so (Err (Own reason)) w = absurd w
+
+  -- ---- of words
+
+  module _ (held held' : Option Store) (old new : History) (out out' : SinkState) (outcome : Outcome) where
+    pub called : (plan : Option (Plan O)) → ComesOf t plan held held' old new out out' outcome → (err err' : SinkState) → Reported t err err' outcome
+        → IsCallOf t.name t.usage plan (ends_with t old new out out' outcome err err')
+    called None u err err' told = (u.history, record { ended = ap (status_of t.status) u.is; quiet = u.quiet; told = subst (Reported t err err') u.is told })
+    called (Some plan) p err err' told = p.comes err err' told
+
+    looks_are : (looks : List Look) (ws : List Write) → new ≡ went old looks ws → looks_since old new ≡ looks
+    looks_are looks ws is = ap (looks_since old) is ∙ drop-append_seam old.looks looks
+
+    writes_are : (looks : List Look) (ws : List Write) → new ≡ went old looks ws → writes_since old new ≡ ws
+    writes_are looks ws is = ap (writes_since old) is ∙ drop-append_seam old.writes ws
+
+    nothing : new ≡ old → new ≡ went old [] []
+    nothing is = is ∙ looked_none old ∙ ap (λ ws. record { looks = old.looks ++ []; writes = ws }) (sym (append-nil old.writes))
+
+    pub agrees : (plan : Option (Plan O)) → ComesOf t plan held held' old new out out' outcome → IfSome held (λ m. ShowAll m (looks_since old new))
+    agrees None u = subst (λ looks. IfSome held (λ m. ShowAll m looks)) (sym (looks_are [] [] (nothing u.history))) (told_none held)
+    agrees (Some plan) p = subst (λ looks. IfSome held (λ m. ShowAll m looks)) (sym (looks_are p.looks p.writes p.history)) p.told
+
+    pub held_so : (plan : Option (Plan O)) → ComesOf t plan held held' old new out out' outcome → HeldAfter (writes_since old new) held held'
+    held_so None u = subst (λ ws. HeldAfter ws held held') (sym (writes_are [] [] (nothing u.history))) u.left
+    held_so (Some plan) p = subst (λ ws. HeldAfter ws held held') (sym (writes_are p.looks p.writes p.history)) p.left

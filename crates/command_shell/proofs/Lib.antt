@@ -1,0 +1,4 @@
+pub mod Completing
+pub mod Ending
+pub mod FormFound
+pub mod UsagePut

@@ -1,0 +1,9 @@
+pub mod Answers
+pub mod Calls
+pub mod Complete
+pub mod Errors
+pub mod Forms
+pub mod Outcomes
+pub mod Reads
+pub mod Statuses
+pub mod Texts
