@@ -49,14 +49,14 @@ use Rattle.state_page.specs.States.{started}
 abbrev pub ForEachSubject : Source → Image → (Subject → SubjectPart → Type 0) → Type 0
 ForEachSubject p i Holds = All (λ e. Holds e.0 e.1) (zip p.subjects i.subjects)
 
--- ---- files: what contents are of
+-- ---- files: what contents name
 
--- the file that a content is of, if it is of one, is held
+-- the file that a content names, if it does, is held
 abbrev pub is_file_held : Held → Content → Bool
 is_file_held files (File name offset most) = is_some (get files name)
 is_file_held files content = true
 
--- **the files** that the contents of the policy are of are held. So none of these takes a file that isn't there for an empty one
+-- **the files** that the policy's contents name are held. So no content takes a file that isn't there for an empty one
 abbrev pub AreFilesHeld : Source → Held → Type 0
 AreFilesHeld p files = list_all (λ i. is_file_held files i.content) (items_of p) ≡ true
 

@@ -1,5 +1,5 @@
 -- The lines by numbers are the text by names.
-use Rattle.std.proofs.Common.{◌≡◌, ℕ, suc, ◌+◌, true, List, [], ◌∷◌, ◌++◌, length, Some, Ok, refl, sym, ap, ◌∙◌, arith}
+use Rattle.std.proofs.Common.{◌≡◌, ℕ, suc, ◌+◌, true, List, [], ◌∷◌, ◌++◌, length, Some, refl, sym, ap, ◌∙◌, arith}
 use Rattle.std.specs.Prelude.{codes, slice_get}
 use Rattle.std.specs.Option.{option_map_or}
 use Rattle.std.specs.List.{enumerate_from, flat_map}
@@ -24,10 +24,9 @@ use Rattle.policy_lawful.specs.declared.thing.Thing.{Thing as NumberedThing}
 use Rattle.policy_lawful.specs.Thing.{Item, device_items, thing_tag}
 use Rattle.policy_lawful.specs.Things.{AreDeclared, device_things}
 use Rattle.policy_lawful.specs.Windows.{windows_of}
-use Rattle.region_alloc.specs.Placement.{placement_of}
 use Rattle.region_alloc.specs.Placed.{AreInside}
 use Rattle.map_report.specs.ByNumber.{all_granted_lines, granted_line, granted_lines, map_lines, memory_line, tagged_line, windows_at}
-use Rattle.map_report.specs.MapText.{device_line, map_text_at, map_text_of, region_line, region_lines, text_where, window_line, window_lines}
+use Rattle.map_report.specs.MapText.{device_line, map_text_of, region_line, region_lines, window_line, window_lines}
 
 -- ---- windows
 
@@ -72,13 +71,13 @@ devices_named r (i ∷ items) [] h = absurd h
 devices_named r (i ∷ items) (t ∷ ts) h =
     (λ j. option_map_or (λ address. region_line (codes "device") address (h.0.region j).size (h.0.region j).tag) (h.0.region j).fixed [] ++ devices_named r items ts h.1 j)
 
-pub text_is : (r : Resolution) (addresses : List ℕ) (regions : List Region) (gs : List Grants) → IsResolved r → regions ≡ regions_of (source_of r) → placement_of (source_of r) ≡ Ok addresses → AreGrants r gs
-    → map_lines r addresses regions gs ≡ map_text_of (source_of r)
-unfolding map_text_of map_text_at
-text_is r addresses regions gs q is at zip =
+pub text_is : (r : Resolution) (addresses : List ℕ) (regions : List Region) (gs : List Grants) → IsResolved r → regions ≡ regions_of (source_of r) → AreGrants r gs
+    → map_lines r addresses regions gs ≡ map_text_of (source_of r) addresses
+unfolding map_text_of
+text_is r addresses regions gs q is zip =
     let devices = devices_named r (device_items (source_of r)) (device_things r) (devices_by_index r q) in
     let windows = windows_named r q gs zip in
-    (λ i. region_lines addresses (is i) ++ devices i ++ windows i) ∙ sym (ap (text_where (source_of r)) at)
+    (λ i. region_lines addresses (is i) ++ devices i ++ windows i)
 
 -- there is an address for each region
 pub as_many_addresses : (blocks : List Block) (regions : List Region) (addresses : List ℕ) → AreInside blocks regions addresses → length addresses ≡ length regions

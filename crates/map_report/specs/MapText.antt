@@ -1,5 +1,5 @@
 -- What `map` prints (this project's own).
-use Rattle.std.specs.Prelude.{ℕ, List, [], ◌++◌, codes, nat_le, Result, Ok, Err, slice_index}
+use Rattle.std.specs.Prelude.{ℕ, List, [], ◌++◌, codes, nat_le, slice_index}
 use Rattle.std.specs.List.{enumerate_from, flat_map}
 use Rattle.std.specs.Option.{option_map_or}
 use Rattle.expand_kernel.specs.Ordered.{in_order}
@@ -14,7 +14,6 @@ use Rattle.policy_lawful.specs.rights.Rights.{Rights}
 use Rattle.policy_lawful.specs.rights.Rights.TheVariants.{R, Rw, Rx, Rwx}
 use Rattle.policy_lawful.specs.source.Source.{Source}
 use Rattle.policy_lawful.specs.source.Subject.{Subject}
-use Rattle.region_alloc.specs.Placement.{placement_of}
 
 -- ---- rights
 
@@ -53,16 +52,7 @@ window_lines p s =
     flat_map (λ w. window_line s.name w.guest w.size w.rights (thing_tag w.thing))
     (in_order (λ v w. nat_le v.guest w.guest) (windows_of p s))
 
--- where the regions are at these addresses
-unfoldable pub map_text_at : Source → List ℕ → List ℕ
-map_text_at p addresses =
+-- the text of a policy whose regions lie at these addresses, by number
+unfoldable pub map_text_of : Source → List ℕ → List ℕ
+map_text_of p addresses =
     region_lines addresses (regions_of p) ++ flat_map device_line (device_items p) ++ flat_map (window_lines p) p.subjects
-
--- .. and none where a region has no place; such a policy is refused before its text is asked for
-abbrev pub text_where : Source → Result (List ℕ) Region → List ℕ
-text_where p (Ok addresses) = map_text_at p addresses
-text_where p (Err r) = []
-
--- the text of a policy whose regions can be placed
-unfoldable pub map_text_of : Source → List ℕ
-map_text_of p = text_where p (placement_of p)

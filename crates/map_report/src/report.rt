@@ -6,6 +6,7 @@ ghost use Rattle.muen_outside.specs.Puts.{Puts};
 ghost use Rattle.policy_lawful.specs.Resolution.{IsResolved, source_of};
 ghost use Rattle.map_report.specs.ByNumber.{all_granted_lines, granted_line, granted_lines, map_lines, memory_line, windows_at};
 ghost use Rattle.map_report.specs.MapText.{map_text_of, region_lines};
+ghost use Rattle.region_alloc.specs.Placed.{IsPlacement};
 
 use crate::lines::{Laid, RegionLine, WindowLine};
 use crate::shown::tag;
@@ -171,12 +172,13 @@ fn print_map<S: Sink>(
 
 /// Puts the map of a policy: `region ADDRESS SIZE NAME` for each region by number, `device ADDRESS
 /// SIZE NAME` for each device's memory, then for each subject, by guest address, `window SUBJECT
-/// GUEST SIZE RIGHTS NAME`. Addresses and sizes have sixteen hexadecimal digits. The text goes
+/// GUEST SIZE RIGHTS NAME`. The regions lie where the policy's placement has them. Addresses and sizes have sixteen hexadecimal digits. The text goes
 /// through the buffer, in which nothing may wait before, and takes no memory. Where the sink fails
 /// it has a front of the text.
 pub fn map_text<S: Sink>(placed: &Placed, buffer: &mut Buffer, out: &mut S) -> Result<(), SinkFault>
     requires { buffer.old ≡ [] }
-    ensures { Puts (map_text_of (source_of placed.now.expanded.lawful)) (S.state out.old) (S.state out.new) result }
+    ensures text { Puts (map_text_of (source_of placed.now.expanded.lawful) placed.now.addresses) (S.state out.old) (S.state out.new) result }
+    ensures placement { IsPlacement placed.now }
 {
     let expanded = placed.expanded();
     let policy = expanded.lawful().resolved();

@@ -142,15 +142,31 @@ laid_not : (answer : Result Source Refusal) (r : Refusal) → lawful_alone answe
 laid_not (Ok p) r e = first_stays p (unlawful p) (no_room p) r e
 laid_not (Err x) r e = e
 
+pub unlawful_laid : (bytes : List ℕ) (r : Refusal) → lawful_policy_of bytes ≡ Err r → laid_policy_of bytes ≡ Err r
+unfolding lawful_policy_of laid_policy_of
+unlawful_laid bytes r e = laid_not (policy_of bytes) r e
+
 -- it isn't lawful
 pub not_laid : (bytes : List ℕ) (r : Refusal) → Answers NoMemory (lawful_policy_of bytes) (Err r) → Answers NoMemory (laid_policy_of bytes) (Err r)
 unfolding lawful_policy_of laid_policy_of
-not_laid bytes r h = refused_for (lawful_policy_of bytes) (laid_policy_of bytes) r (laid_not (policy_of bytes) r) h
+not_laid bytes r h = refused_for (lawful_policy_of bytes) (laid_policy_of bytes) r (unlawful_laid bytes r) h
 
 -- where it is, its room decides
 pub room_decides : (bytes : List ℕ) (q : Source) → lawful_policy_of bytes ≡ Ok q → laid_policy_of bytes ≡ kept_or q (no_room q)
 unfolding lawful_policy_of laid_policy_of
 room_decides bytes q e = laid_then (policy_of bytes) q e
+
+laid_reads : (answer : Result Source Refusal) (q : Source) → laid answer ≡ Ok q → (lawful_alone answer ≡ Ok q) × (no_room q ≡ None)
+laid_reads (Err r) q e = absurd (cc)
+laid_reads (Ok p) q e =
+    let k = kept_is p q (first_of (unlawful p ∷ no_room p ∷ [])) e in
+    let none = none_both (unlawful p) (option_or (no_room p) None) k.0 in
+    (ap (kept_or p) none.0 ∙ ap Ok k.1, ap no_room (sym k.1) ∙ (none_both (no_room p) None none.1).0)
+
+-- a policy that is laid out is lawful, and there is room for its regions
+pub laid_is : (bytes : List ℕ) (q : Source) → laid_policy_of bytes ≡ Ok q → (lawful_policy_of bytes ≡ Ok q) × (no_room q ≡ None)
+unfolding lawful_policy_of laid_policy_of
+laid_is bytes q e = laid_reads (policy_of bytes) q e
 
 -- ---- the contents alone
 

@@ -3,13 +3,15 @@ use Rattle.std.proofs.Common.{◌≡◌, ℕ, List, Option, Some, None, Result, 
 use Rattle.std.specs.FinMap.{get}
 use Rattle.dma_tables.specs.DmaFile.{dma_file}
 use Rattle.dma_tables.specs.declared.file.DmaFile.{DmaFile}
+use Rattle.expand_kernel.specs.thing.Region.{Region}
 use Rattle.image_load.specs.Resolving.{image_bench}
 use Rattle.image_pack.specs.Faults.{unpacked}
 use Rattle.image_pack.specs.Image.{image as image_form}
 use Rattle.image_pack.specs.declared.parts.Image.{Image}
 use Rattle.image_pack.specs.fault.ImageFault.{ImageFault}
 use Rattle.image_soundness.specs.Bench.{devices_of}
-use Rattle.muen_build.specs.Refusals.{accepted_policy_of, fitting_policy_of, laid_policy_of, lawful_policy_of}
+use Rattle.map_report.specs.Placement.{placement_of}
+use Rattle.muen_build.specs.Refusals.{accepted_policy_of, fitting_policy_of, lawful_policy_of}
 use Rattle.muen_num.specs.declared.limits.TheConstants.{POLICY_MOST, RECORD_MOST}
 use Rattle.muen_outside.specs.Store.{Store, Reading, whole, absent, long, reading_of}
 use Rattle.policy_lawful.specs.refusal.Refusal.{Refusal}
@@ -17,7 +19,7 @@ use Rattle.policy_lawful.specs.source.Source.{Source}
 use Rattle.record_text.specs.DeviceRecord.{DeviceRecord}
 use Rattle.record_text.specs.Reading.{record_of}
 use Rattle.record_text.specs.declared.fault.RecordFault.{RecordFault}
-use Rattle.muen_top.specs.Answers.{usage, Answer, stops, of_file, image_answer, build_answer, trace_answer, policy_answer, boot_answer, named_answer, dma_answer, tables_answer, input_answer, unpacked_answer, run_answer, map_answer, map_policy_answer, flows_answer, flows_policy_answer, judged_answer, verified_answer, verify_answer, answer_of}
+use Rattle.muen_top.specs.Answers.{usage, Answer, stops, of_file, image_answer, build_answer, trace_answer, policy_answer, boot_answer, named_answer, dma_answer, tables_answer, input_answer, unpacked_answer, run_answer, map_answer, map_policy_answer, placed_answer, flows_answer, flows_policy_answer, judged_answer, verified_answer, verify_answer, answer_of}
 use Rattle.muen_top.specs.Commands.{Command, build, boot, run, map, flows, verify, load}
 use Rattle.muen_top.specs.declared.limits.TheConstants.{DMA_MOST}
 
@@ -78,8 +80,12 @@ of_unpacked files name dma (Ok i) = of_tables files name dma i
 of_unpacked files name dma (Err fault) = tt
 
 -- `map`, of its policy
+of_placed : (p : Source) (a : Result (List ℕ) Region) → IsOfCommand (placed_answer p a)
+of_placed p (Ok addresses) = tt
+of_placed p (Err r) = tt
+
 of_map : (r : Result Source Refusal) → IsOfCommand (map_policy_answer r)
-of_map (Ok p) = tt
+of_map (Ok p) = of_placed p (placement_of p)
 of_map (Err refusal) = tt
 
 -- `flows`, of its policy
@@ -105,7 +111,7 @@ unfolding build_answer boot_answer run_answer map_answer flows_answer verify_ans
 of_command files (build policy image dma) = of_read policy _ _ (λ bytes. of_image files image dma (accepted_policy_of files bytes))
 of_command files (boot policy name) = of_read policy _ _ (λ bytes. of_policy files name (accepted_policy_of files bytes))
 of_command files (run image name dma) = of_read image _ _ (λ bytes. of_unpacked files name dma (unpacked image_form bytes))
-of_command files (map policy) = of_read policy _ _ (λ bytes. of_map (laid_policy_of bytes))
+of_command files (map policy) = of_read policy _ _ (λ bytes. of_map (lawful_policy_of bytes))
 of_command files (flows policy) = of_read policy _ _ (λ bytes. of_flows (lawful_policy_of bytes))
 of_command files (verify image policy) = of_read image _ _ (λ bytes. of_verified files policy bytes (unpacked image_form bytes))
 of_command files (load number) = tt

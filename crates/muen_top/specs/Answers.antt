@@ -8,11 +8,14 @@ use Rattle.dma_tables.specs.declared.file.DmaFile.{DmaFile}
 use Rattle.image_load.specs.Resolving.{image_bench, image_record}
 use Rattle.image_pack.specs.Image.{image as image_form}
 use Rattle.image_pack.specs.declared.parts.Image.{Image}
+use Rattle.expand_kernel.specs.thing.Region.{Region}
 use Rattle.map_report.specs.MapText.{map_text_of}
+use Rattle.map_report.specs.Placement.{placement_of}
 use Rattle.muen_num.specs.declared.limits.TheConstants.{IMAGE_MOST, POLICY_MOST, RECORD_MOST}
 use Rattle.muen_outside.specs.Store.{Reading, whole, absent, long, reading_of}
 use Rattle.policy_lawful.specs.Contents.{Held}
 use Rattle.policy_lawful.specs.refusal.Refusal.{Refusal}
+use Rattle.policy_lawful.specs.refusal.Refusal.TheVariants.{NoRoom}
 use Rattle.policy_lawful.specs.source.Source.{Source}
 use Rattle.record_text.specs.DeviceRecord.{DeviceRecord}
 use Rattle.subject_model.specs.Trace.{trace_of}
@@ -21,7 +24,7 @@ use Rattle.muen_top.specs.Commands.{Command, build, boot, run, map, flows, verif
 use Rattle.muen_top.specs.LoadText.{load_text}
 use Rattle.record_text.specs.Reading.{record_of}
 use Rattle.image_soundness.specs.Bench.{devices_of}
-use Rattle.muen_build.specs.Refusals.{accepted_policy_of, fitting_policy_of, laid_policy_of, lawful_policy_of}
+use Rattle.muen_build.specs.Refusals.{accepted_policy_of, fitting_policy_of, lawful_policy_of}
 use Rattle.image_pack.specs.fault.ImageFault.{ImageFault}
 use Rattle.record_text.specs.declared.fault.RecordFault.{RecordFault}
 use Rattle.muen_top.specs.declared.limits.TheConstants.{DMA_MOST}
@@ -116,14 +119,19 @@ unfoldable pub run_answer : Held → List ℕ → List ℕ → Option (List ℕ)
 run_answer files image name dma =
     of_file image (λ bytes. unpacked_answer files name dma (unpacked image_form bytes)) (reading_of (get files image) IMAGE_MOST)
 
--- ---- `map`: the policy's file, the policy and its room, the text
+-- ---- `map`: the policy's file, the policy, the places of its regions, the text
+
+-- with the addresses of its regions, or the first region that has none
+abbrev pub placed_answer : Source → Result (List ℕ) Region → Answer
+placed_answer p (Ok addresses) = prints (map_text_of p addresses)
+placed_answer p (Err r) = stops (refused (NoRoom r.tag r.size))
 
 abbrev pub map_policy_answer : Result Source Refusal → Answer
-map_policy_answer (Ok p) = prints (map_text_of p)
+map_policy_answer (Ok p) = placed_answer p (placement_of p)
 map_policy_answer (Err refusal) = stops (refused refusal)
 
 unfoldable pub map_answer : Held → List ℕ → Answer
-map_answer files policy = of_file policy (λ bytes. map_policy_answer (laid_policy_of bytes)) (reading_of (get files policy) POLICY_MOST)
+map_answer files policy = of_file policy (λ bytes. map_policy_answer (lawful_policy_of bytes)) (reading_of (get files policy) POLICY_MOST)
 
 -- ---- `flows`: the policy's file, the policy, the text
 

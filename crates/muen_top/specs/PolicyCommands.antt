@@ -1,12 +1,14 @@
 -- What a command that reads files comes to.
-use Rattle.std.specs.Prelude.{◌≡◌, ℕ, List, [], Option, Some}
+use Rattle.std.specs.Prelude.{◌≡◌, ℕ, List, [], Option, Some, Ok}
 use Rattle.dma_emit.specs.Placed.{Placement}
 use Rattle.flow_report.specs.FlowText.{flow_text_of}
 use Rattle.map_report.specs.MapText.{map_text_of}
+use Rattle.map_report.specs.Placement.{placement_of}
 use Rattle.muen_outside.specs.States.{History, Look}
 use Rattle.muen_outside.specs.Store.{Store}
 use Rattle.muen_run.specs.RunText.{run_text}
 use Rattle.policy_lawful.specs.Resolution.{Resolution, source_of}
+use Rattle.policy_lawful.specs.source.Source.{Source}
 use Rattle.muen_top.specs.Answers.{Answer, answer_of, prints}
 use Rattle.muen_top.specs.Asked.{Asks}
 use Rattle.muen_top.specs.Calls.{StopsFor}
@@ -30,9 +32,15 @@ IsAnswered command held old new answer = HasRead command held old new (λ looks.
 abbrev pub IsAnsweredByRun : Command → Option Store → History → History → Loaded → Type 0
 IsAnsweredByRun command held old new x = IsAnswered command held old new (prints (run_text x.tables x.parts x.input))
 
--- .. the map of a policy that was placed so
+-- .. the map of this policy, whose regions lie where its placement has them
+pub record IsMapOf (policy : List ℕ) (held : Option Store) (old new : History) (p : Source) : Type 0 where
+  pub addresses : List ℕ
+  pub placement : placement_of p ≡ Ok addresses
+  pub answered : IsAnswered (map policy) held old new (prints (map_text_of p addresses))
+
+-- .. of a policy that was placed
 abbrev pub IsAnsweredByMap : List ℕ → Option Store → History → History → Placement → Type 0
-IsAnsweredByMap policy held old new x = IsAnswered (map policy) held old new (prints (map_text_of (source_of x.expanded.lawful)))
+IsAnsweredByMap policy held old new x = IsMapOf policy held old new (source_of x.expanded.lawful)
 
 -- .. the flows of this policy
 abbrev pub IsAnsweredByFlows : List ℕ → Option Store → History → History → Resolution → Type 0

@@ -1,12 +1,11 @@
 // The commands `map` and `flows`: a policy is read, and what follows from it is printed.
 ghost use Rattle.std.specs.Prelude.{◌≡◌, Some, IfOk, IfErr};
 ghost use Rattle.flow_report.specs.FlowText.{flow_text_of};
-ghost use Rattle.map_report.specs.MapText.{map_text_of};
 ghost use Rattle.policy_lawful.specs.Resolution.{source_of};
 ghost use Rattle.muen_top.specs.Calls.{ComesOfCommand};
 ghost use Rattle.muen_top.specs.Commands.{flows as flows_command, map as map_command};
 ghost use Rattle.muen_top.specs.PolicyCommands.{IsAnsweredByFlows, IsAnsweredByMap, StopsCommand};
-ghost use Rattle.muen_top.specs.Runs.{RunsTo};
+ghost use Rattle.muen_top.specs.Runs.{RunsTo, RunsToMap};
 
 use crate::loading::load;
 use crate::outcome::{CommandError, Outcome};
@@ -34,7 +33,7 @@ fn read_placed<'a, F: Files>(
 }
 
 fn print_map<'a, S: Sink>(alloc: Global, placed: &Placed, out: &mut S) -> Outcome<'a>
-    ensures { RunsTo (map_text_of (source_of placed.now.expanded.lawful)) (S.state out.old) (S.state out.new) result }
+    ensures { RunsToMap (source_of placed.now.expanded.lawful) (S.state out.old) (S.state out.new) result }
 {
     let mut buffer = match Buffer::make(alloc) {
         Ok(buffer) => buffer,
