@@ -1,4 +1,0 @@
-pub mod All
-pub mod Contents
-pub mod Linting
-pub mod Seen

@@ -1,3 +1,0 @@
-pub mod All
-pub mod Linting
-pub mod Seen
