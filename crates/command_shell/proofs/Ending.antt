@@ -7,6 +7,7 @@ use Rattle.muen_outside.specs.Store.{Reading, Store, absent, long, whole}
 use Rattle.muen_outside.specs.declared.files.FileError.{FileError}
 use Rattle.muen_outside.specs.declared.files.FileError.TheVariants.{Failed as FilesFailed, NoMemory as FilesMemory}
 use Rattle.muen_outside.proofs.Explained.{told_none}
+use Rattle.muen_outside.proofs.Histories.{looked_alone, no_look}
 use Rattle.command_shell.specs.Answers.{Answer, Plan, prints, writes, refuses, answers, looks_at}
 use Rattle.command_shell.specs.Calls.{DoesOrNot, Ends, IsCallOf, Runs, Stops, WriteEnds}
 use Rattle.command_shell.specs.Errors.{Reported, Telling, error_status, error_text, status_of}
@@ -18,10 +19,6 @@ use Rattle.command_shell.specs.declared.error.CommandError.TheVariants.{Usage, M
 use Rattle.command_shell.specs.declared.status.Status.TheVariants as statuses
 
 -- ---- looks
-
--- no look
-looked_none : (old : History) → old ≡ looked old []
-looked_none old = ap (λ ls. record { looks = ls; writes = old.writes }) (sym (append-nil old.looks))
 
 -- one look, and then these
 looked_then : (old mid new : History) (l : Look) (looks : List Look) → mid ≡ looked old (l ∷ []) → new ≡ looked mid looks → new ≡ looked old (l ∷ looks)
@@ -35,7 +32,7 @@ told_then (Some m) l looks x y = (x.0, y)
 module _ {O : Type 0} (program : List ℕ) (held : Option Store) where
   -- a plan goes on as itself
   pub reaches_itself : (plan : Plan O) (old : History) → Reaches program plan plan held old old
-  reaches_itself plan old = record { looks = []; history = looked_none old; told = told_none held; goes = λ e runs. runs }
+  reaches_itself plan old = record { looks = []; history = no_look old; told = told_none held; goes = λ e runs. runs }
 
   module _ (name : List ℕ) (most : ℕ) (next : List ℕ → Plan O) (old mid new : History) (bytes : List ℕ) (saw : Saw name most (Ok (whole bytes)) held old mid) where
     abbrev this : Look
@@ -116,14 +113,11 @@ module _ {R O : Type 0} (t : Telling R O) where
     without_memory answer r = record { looks = r.looks; history = r.history; told = r.told; comes = λ e after stops. r.goes e (inr (after, stops)) }
 
     module _ (held' : Option Store) (same : held' ≡ held) (out out' : SinkState) where
-      unwritten : (looks : List Look) → new ≡ looked old looks → new ≡ went old looks []
-      unwritten looks is = is ∙ ap (λ ws. record { looks = old.looks ++ looks; writes = ws }) (sym (append-nil old.writes))
-
       pub stopped : out' ≡ out → (error : CommandError R) → StopsAt t plan held old new error → ComesTo t plan held held' old new out out' (Err error)
       stopped quiet error s = record {
         looks = s.looks;
         writes = [];
-        history = unwritten s.looks s.history;
+        history = looked_alone old new s.looks s.history;
         told = s.told;
         left = same;
         comes = λ err err' told. s.comes (ends_with t old new out out' (Err error) err err') refl (record { ended = refl; quiet = quiet; told = told });
@@ -146,7 +140,7 @@ module _ {R O : Type 0} (t : Telling R O) where
       printed text r outcome put = record {
         looks = r.looks;
         writes = [];
-        history = unwritten r.looks r.history;
+        history = looked_alone old new r.looks r.history;
         told = r.told;
         left = same;
         comes = λ err err' told. r.goes (ends_with t old new out out' outcome err err') (put_so text outcome put err err' told);
@@ -194,7 +188,7 @@ module _ {R O : Type 0} (t : Telling R O) where
     writes_are looks ws is = ap (writes_since old) is ∙ drop-append_seam old.writes ws
 
     nothing : new ≡ old → new ≡ went old [] []
-    nothing is = is ∙ looked_none old ∙ ap (λ ws. record { looks = old.looks ++ []; writes = ws }) (sym (append-nil old.writes))
+    nothing is = is ∙ no_look old ∙ ap (λ ws. record { looks = old.looks ++ []; writes = ws }) (sym (append-nil old.writes))
 
     pub agrees : (plan : Option (Plan O)) → ComesOf t plan held held' old new out out' outcome → IfSome held (λ m. ShowAll m (looks_since old new))
     agrees None u = subst (λ looks. IfSome held (λ m. ShowAll m looks)) (sym (looks_are [] [] (nothing u.history))) (told_none held)
