@@ -1,20 +1,23 @@
 -- **The verdict** on tables, for a policy and an image: the first fault of the file's list of devices, or else of its tables (this
 -- project's own).
-use Rattle.std.specs.Prelude.{◌≡◌, ℕ, ◌+◌, ◌*◌, ◌==◌, ◌||◌, not, Bool, false, List, [], ◌∷◌, Option, Some, is_some, option_map}
-use Rattle.std.specs.List.{find}
+use Rattle.std.specs.Prelude.{◌≡◌, ℕ, ◌+◌, ◌*◌, ◌==◌, ◌||◌, not, Bool, false, if◌then◌else◌, List, [], ◌∷◌, Option, Some, is_some, option_map}
+use Rattle.std.specs.List.{All, find}
 use Rattle.std.specs.Option.{option_map_or}
 use Rattle.std.specs.Str.{bytes_eq}
 use Rattle.dma_check.specs.Faults.{table_fault}
-use Rattle.dma_check.specs.Sources.{device_of, is_source}
+use Rattle.dma_check.specs.Sources.{comes_to, device_of}
 use Rattle.dma_check.specs.Views.{view_of}
 use Rattle.dma_check.specs.declared.fault.DmaFault.{DmaFault}
 use Rattle.dma_check.specs.declared.fault.DmaFault.TheVariants.{Listing, Tables}
 use Rattle.dma_check.specs.declared.fault.TableFault.{TableFault}
+use Rattle.dma_tables.specs.DmaWalk.{dma_walk}
 use Rattle.dma_tables.specs.declared.file.DmaDevice.{DmaDevice}
 use Rattle.dma_tables.specs.declared.file.DmaFile.{DmaFile}
 use Rattle.image_pack.specs.declared.parts.Image.{Image}
+use Rattle.image_soundness.specs.Sound.{address_of, led}
 use Rattle.muen_num.specs.Search.{first_in, first_of, unless}
-use Rattle.policy_lawful.specs.Dma.{domain_of}
+use Rattle.muen_num.specs.declared.access.AccessKind.TheVariants.{Read, Write}
+use Rattle.policy_lawful.specs.Dma.{dma_access, domain_of}
 use Rattle.policy_lawful.specs.source.Device.{Device}
 use Rattle.policy_lawful.specs.source.Source.{Source}
 
@@ -51,3 +54,14 @@ of_tables fault = Tables fault
 
 abbrev pub verdict : Source → Image → DmaFile → Option DmaFault
 verdict p i t = first_of (option_map of_listing (listing_fault p t) ∷ option_map of_tables (table_fault (view_of p i t)) ∷ [])
+
+-- ---- what it is for
+
+-- where the policy declares the byte that a device of this name reads, or writes, by an address
+abbrev pub access_declared : Source → Image → List ℕ → ℕ → Bool → Option ℕ
+access_declared p i device addr write = comes_to (led (address_of p i) (dma_access p device addr (if write then Write else Read)))
+
+-- by the walk of its name, as a run takes it, each device of the policy reads and writes where it is declared, and nowhere else
+abbrev pub ReachAsDeclared : Source → Image → DmaFile → Type 0
+ReachAsDeclared p i t =
+    All (λ d. (addr : ℕ) (write : Bool) → dma_walk t d.name addr write ≡ access_declared p i d.name addr write) p.devices

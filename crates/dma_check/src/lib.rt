@@ -4,7 +4,9 @@
 #![tactic(auto)]
 
 mod fault;
+mod laws;
 mod listing;
 
 pub use fault::{DmaFault, FaultKind, TableFault};
-
+pub use laws::verdicts_tell;
+pub use listing::listing_fault;
