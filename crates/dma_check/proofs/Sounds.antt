@@ -13,6 +13,7 @@ use Rattle.dma_check.specs.declared.fault.FaultKind.TheVariants.{Leak, Lacks, Ou
 use Rattle.dma_check.specs.declared.fault.TableFault.{TableFault}
 use Rattle.ept_check.proofs.Anys.{none_below}
 use Rattle.ept_check.proofs.Firsts.{found_at, in_below, none_at, none_from}
+use Rattle.ept_check.proofs.Knowns.{and_false}
 use Rattle.ept_check.specs.Faults.{same_table}
 use Rattle.ept_check.specs.Search.{first_from, when}
 use Rattle.machine_layout.specs.Walks.{entry_size}
@@ -260,7 +261,7 @@ one_path v h p m q n t a b r s = elim (cases_lt p q) [
 -- tables of which one is read on one path alone don't clash
 apart : (v : View) (p m q n : ℕ) → ((t : ℕ) → table_at v p m ≡ Some t → table_at v q n ≡ Some t → same_path v p m q n ≡ true) → is_clash v q n p m ≡ false
 apart v p m q n h = elim (cases_Bool (same_path v p m q n)) [
-  | inl e ↦ rw e (never (same_table (table_at v p m) (table_at v q n)))
+  | inl e ↦ rw e (and_false (same_table (table_at v p m) (table_at v q n)))
   | inr e ↦
       elim (table_at v p m) as (λ o. table_at v p m ≡ o → (same_table o (table_at v q n) && not (same_path v p m q n)) ≡ false) [
         | None ↦ λ x. refl
@@ -273,10 +274,6 @@ apart v p m q n h = elim (cases_Bool (same_path v p m q n)) [
         ] refl
       ] refl
 ]
-  where
-    never : (b : Bool) → (b && not true) ≡ false
-    never true = refl
-    never false = refl
 
 twice_none : (v : View) (q : ℕ) → q < positions → HasOnePathPerTable v → is_twice v q ≡ false
 unfolding is_twice
