@@ -37,14 +37,16 @@ class Crates(Case):
         for room, names in rows:
             self.want(found.get(room), set(re.findall(r"\w+", names)), f"the crates of the room {room}")
 
-    def test_checker_apart(self):
-        """The checker stands on no crate that builds an image, runs one or proves what holds of either, but on three that go from a policy to what an image has to have."""
+    def test_checkers_apart(self):
+        """The checkers stand on no crate that builds an image, runs one or proves what holds of either, but on three that go from a policy to what an image has to have, and that of tables for devices on these."""
         rooms = {name: room for room, names in self.rooms().items() for name in names}
         apart = {"the abstract system", "proofs", "reports", "the program"}
         writers = {"ept_emit", "event_emit", "plan_emit"}
-        machine = {"device_bench", "dma_tables", "event_router", "image_emit", "image_load", "kernel_core", "muen_build", "muen_run", "region_alloc", "view_text", "vmx_machine"}
-        found = {one for one in below("image_verify") if rooms[one] in apart or one in machine or rooms[one] == "who writes it" and one not in writers}
-        self.want(found, set(), "what image_verify stands on")
+        tables = {"device_bench", "dma_tables"}
+        machine = {"event_router", "image_emit", "image_load", "kernel_core", "muen_build", "muen_run", "region_alloc", "view_text", "vmx_machine"}
+        for checker, more in (("image_verify", machine | tables), ("dma_check", machine)):
+            found = {one for one in below(checker) if rooms[one] in apart or one in more or rooms[one] == "who writes it" and one not in writers}
+            self.want(found, set(), f"what {checker} stands on")
 
     def test_twins(self):
         """No statement is proved in several files, and no definition stands twice, but for those that share/twins has a reason for."""

@@ -1,0 +1,3 @@
+mod Examples
+pub mod Listings
+pub mod Sounds

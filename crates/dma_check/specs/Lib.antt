@@ -1,0 +1,5 @@
+pub mod Sources
+pub mod Views
+pub mod Faults
+pub mod Sound
+pub mod Verdict

@@ -1,0 +1,12 @@
+//! The verdict on tables for direct memory access (Intel VT-d, legacy mode), whoever made them: whether
+//! they lead each source of requests where a policy and an image declare it, or what is the first that is
+//! wrong with them.
+#![tactic(auto)]
+
+mod fault;
+mod laws;
+mod listing;
+
+pub use fault::{DmaFault, FaultKind, TableFault};
+pub use laws::verdicts_tell;
+pub use listing::listing_fault;
