@@ -1,19 +1,18 @@
 -- What comes of a command whose files were looked at.
 use Rattle.std.proofs.Common.{◌≡◌, inl, inr, ℕ, List, [], ◌∷◌, ◌++◌, Option, Some, None, IfSome, Result, Ok, Err, refl, sym, ap, subst, ◌∙◌, append-nil, append_assoc}
 use Rattle.std.proofs.Math.Seq.{drop-append_seam}
-use Rattle.muen_outside.specs.Looks.{HeldAfter, IsPossibleEnd, ShowAll, WriteLeaves, looks_since, writes_since}
+use Rattle.muen_outside.specs.Looks.{HeldAfter, ShowAll, WriteLeaves, looks_since, writes_since}
 use Rattle.muen_outside.specs.States.{History, Look, SinkState, Write, look, looked, went, write, written}
 use Rattle.muen_outside.specs.Store.{Reading, Store, absent, long, whole}
 use Rattle.muen_outside.specs.declared.files.FileError.{FileError}
 use Rattle.muen_outside.specs.declared.files.FileError.TheVariants.{Failed as FilesFailed, NoMemory as FilesMemory}
 use Rattle.muen_outside.proofs.Explained.{told_none}
-use Rattle.muen_outside.proofs.Histories.{looked_alone, no_look}
 use Rattle.command_shell.specs.Answers.{Answer, Plan, prints, writes, refuses, answers, looks_at}
 use Rattle.command_shell.specs.Calls.{DoesOrNot, Ends, IsCallOf, Runs, Stops, WriteEnds}
 use Rattle.command_shell.specs.Errors.{Reported, Telling, error_status, error_text, status_of}
-use Rattle.command_shell.specs.Outcomes.{ComesOf, ComesTo, IsUsage, PutsTo, Reaches, StopsAt, ends_with}
+use Rattle.command_shell.specs.Outcomes.{ComesOf, ComesTo, PutsTo, Reaches, StopsAt, ends_with}
 use Rattle.command_shell.specs.Reads.{NotRead, Saw, Wrote, WritesTo}
-use Rattle.command_shell.specs.Texts.{Told, missing_text, too_long_text}
+use Rattle.command_shell.specs.Texts.{missing_text, too_long_text}
 use Rattle.command_shell.specs.declared.error.CommandError.{CommandError}
 use Rattle.command_shell.specs.declared.error.CommandError.TheVariants.{Usage, Missing, TooLong, FileFault, OutputFault, NoMemory, Own}
 use Rattle.command_shell.specs.declared.status.Status.TheVariants as statuses
@@ -32,7 +31,7 @@ told_then (Some m) l looks x y = (x.0, y)
 module _ {O : Type 0} (program : List ℕ) (held : Option Store) where
   -- a plan goes on as itself
   pub reaches_itself : (plan : Plan O) (old : History) → Reaches program plan plan held old old
-  reaches_itself plan old = record { looks = []; history = no_look old; told = told_none held; goes = λ e runs. runs }
+  reaches_itself plan old = record { looks = []; history = ap (λ ls. record { looks = ls; writes = old.writes }) (sym (append-nil old.looks)); told = told_none held; goes = λ e runs. runs }
 
   module _ (name : List ℕ) (most : ℕ) (next : List ℕ → Plan O) (old mid new : History) (bytes : List ℕ) (saw : Saw name most (Ok (whole bytes)) held old mid) where
     abbrev this : Look
@@ -113,15 +112,22 @@ module _ {R O : Type 0} (t : Telling R O) where
     without_memory answer r = record { looks = r.looks; history = r.history; told = r.told; comes = λ e after stops. r.goes e (inr (after, stops)) }
 
     module _ (held' : Option Store) (same : held' ≡ held) (out out' : SinkState) where
-      pub stopped : out' ≡ out → (error : CommandError R) → StopsAt t plan held old new error → ComesTo t plan held held' old new out out' (Err error)
-      stopped quiet error s = record {
-        looks = s.looks;
+      -- nothing is written
+      quietly : (looks : List Look) → new ≡ looked old looks → IfSome held (λ m. ShowAll m looks) → (outcome : Outcome)
+          → ((err err' : SinkState) → Reported t err err' outcome → Runs t.name (ends_with t old new out out' outcome err err') plan old) → ComesTo t plan held held' old new out out' outcome
+      quietly looks is told outcome comes = record {
+        looks = looks;
         writes = [];
-        history = looked_alone old new s.looks s.history;
-        told = s.told;
+        history = is ∙ ap (λ ws. record { looks = old.looks ++ looks; writes = ws }) (sym (append-nil old.writes));
+        told = told;
         left = same;
-        comes = λ err err' told. s.comes (ends_with t old new out out' (Err error) err err') refl (record { ended = refl; quiet = quiet; told = told });
+        comes = comes;
       }
+
+      pub stopped : out' ≡ out → (error : CommandError R) → StopsAt t plan held old new error → ComesTo t plan held held' old new out out' (Err error)
+      stopped quiet error s =
+          quietly s.looks s.history s.told (Err error)
+          (λ err err' told. s.comes (ends_with t old new out out' (Err error) err err') refl (record { ended = refl; quiet = quiet; told = told }))
 
       -- ---- that puts a text
 
@@ -137,14 +143,8 @@ module _ {R O : Type 0} (t : Telling R O) where
       put_so text (Err (Own reason)) put err err' told = absurd put
 
       pub printed : (text : List ℕ) → Reaches t.name plan (answers (prints text)) held old new → (outcome : Outcome) → PutsTo text out out' outcome → ComesTo t plan held held' old new out out' outcome
-      printed text r outcome put = record {
-        looks = r.looks;
-        writes = [];
-        history = looked_alone old new r.looks r.history;
-        told = r.told;
-        left = same;
-        comes = λ err err' told. r.goes (ends_with t old new out out' outcome err err') (put_so text outcome put err err' told);
-      }
+      printed text r outcome put =
+          quietly r.looks r.history r.told outcome (λ err err' told. r.goes (ends_with t old new out out' outcome err err') (put_so text outcome put err err' told))
 
   -- ---- that writes
 
@@ -188,7 +188,7 @@ module _ {R O : Type 0} (t : Telling R O) where
     writes_are looks ws is = ap (writes_since old) is ∙ drop-append_seam old.writes ws
 
     nothing : new ≡ old → new ≡ went old [] []
-    nothing is = is ∙ no_look old ∙ ap (λ ws. record { looks = old.looks ++ []; writes = ws }) (sym (append-nil old.writes))
+    nothing is = is ∙ ap (λ ls. record { looks = ls; writes = old.writes }) (sym (append-nil old.looks)) ∙ ap (λ ws. record { looks = old.looks ++ []; writes = ws }) (sym (append-nil old.writes))
 
     pub agrees : (plan : Option (Plan O)) → ComesOf t plan held held' old new out out' outcome → IfSome held (λ m. ShowAll m (looks_since old new))
     agrees None u = subst (λ looks. IfSome held (λ m. ShowAll m looks)) (sym (looks_are [] [] (nothing u.history))) (told_none held)

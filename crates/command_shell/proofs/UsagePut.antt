@@ -1,12 +1,12 @@
 -- The forms of a program's commands, put piece by piece.
-use Rattle.std.proofs.Common.{◌≡◌, ℕ, List, [], ◌∷◌, ◌++◌, arith, length, map, refl, Result, Ok, Err, IsErr, sym, ap, subst, ◌∙◌, append_assoc, append-nil}
+use Rattle.std.proofs.Common.{◌≡◌, ℕ, List, [], ◌∷◌, ◌++◌, arith, length, map, refl, Result, IsErr, sym, ap, subst, ◌∙◌, append_assoc, append-nil}
 use Rattle.std.proofs.lemmas.List.Folds.{flat_map-map}
 use Rattle.std.specs.Borrow.{Bor}
 use Rattle.std.specs.List.{flat_map}
 use Rattle.std.specs.Prelude.{codes}
 use Rattle.muen_outside.specs.States.{SinkState}
 use Rattle.muen_outside.specs.Puts.{Appended, Failed, Puts}
-use Rattle.muen_outside.proofs.Puts.{appended_then, failed_after, failed_as, failed_first, failed_then, puts_exit, puts_then}
+use Rattle.muen_outside.proofs.Puts.{failed_as, failed_first, failed_then, puts_exit, puts_then}
 use Rattle.command_shell.specs.Forms.{form_shown, form_text, other_forms_text, parameter_text, usage_text}
 use Rattle.command_shell.specs.Texts.{error_line}
 use Rattle.command_shell.specs.declared.form.Form.{Form}
