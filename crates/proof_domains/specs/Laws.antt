@@ -1,18 +1,15 @@
 -- The laws: tables that are emitted for the domains of devices fit the images that are built; and they are one.
-use Rattle.std.specs.Prelude.{◌≡◌, ℕ, List, length, None, Some, true}
-use Rattle.dma_check.specs.Verdict.{verdict}
+use Rattle.std.specs.Prelude.{◌≡◌, ℕ, List, length, Some, true}
 use Rattle.dma_emit.specs.Base.{IsBase}
 use Rattle.dma_emit.specs.Domains.{domains_of}
 use Rattle.dma_emit.specs.Emitted.{IsFileOf}
 use Rattle.dma_emit.specs.Placed.{IsPlaced, Placement}
 use Rattle.dma_emit.specs.Reached.{device_access_kind, placed_at}
-use Rattle.dma_tables.specs.DmaConditions.{KeepsConditions}
 use Rattle.dma_tables.specs.DmaWalk.{dma_walk}
 use Rattle.dma_tables.specs.Tables.{IsDmaFile}
 use Rattle.dma_tables.specs.declared.file.DmaFile.{DmaFile}
 use Rattle.dma_tables.specs.parts.Image.{Image}
 use Rattle.policy_lawful.specs.Contents.{Held}
-use Rattle.policy_lawful.specs.Lawful.{IsLawful}
 use Rattle.policy_lawful.specs.source.Source.{Source}
 use Rattle.policy_lawful.specs.Dma.{dma_access}
 use Rattle.policy_lawful.specs.Resolution.{source_of}
@@ -44,7 +41,3 @@ pub record AreFileOfTables (p : Source) (bytes : List ℕ) : Type 0 where
 -- no two files are
 abbrev pub DomainTablesAreOne : Type 0
 DomainTablesAreOne = (p : Source) (a b : List ℕ) → AreFileOfTables p a → AreFileOfTables p b → a ≡ b
-
--- tables, whoever made them, whose verdict has no fault fit
-abbrev pub FaultlessTablesFit : Type 0
-FaultlessTablesFit = (p : Source) (i : Image) (t : DmaFile) → IsLawful p → KeepsConditions t → verdict p i t ≡ None → Fit p i (Some t)

@@ -1,10 +1,10 @@
 //! The tables that are emitted for the domains of devices of a policy fit the images that are built for it,
-//! and are one file; and tables whose verdict has no fault fit.
+//! and are one file.
 //!
 //! The functions here carry these laws; no command calls them.
 #![tactic(auto)]
 
-ghost use Rattle.proof_domains.specs.Laws.{DomainTablesAreOne, EmittedTablesFit, FaultlessTablesFit};
+ghost use Rattle.proof_domains.specs.Laws.{DomainTablesAreOne, EmittedTablesFit};
 
 /// Tables that lead each write of a device where a placed policy declares it, as `emit` of `dma_emit`
 /// makes them, fit (`Fit`) each image that is sound for the policy and has the policy's regions where
@@ -17,10 +17,4 @@ pub fn emitted_tables_fit()
 /// tables, each domain's tables, the list of devices, and where they lie. So two builds write the same.
 pub fn domain_tables_are_one()
     ensures { DomainTablesAreOne }
-{}
-
-/// Tables, whoever made them, of which the verdict for a lawful policy and an image has no fault
-/// (`verdict` of `dma_check`), fit them (`Fit`).
-pub fn faultless_tables_fit()
-    ensures { FaultlessTablesFit }
 {}

@@ -2,12 +2,12 @@
 use Rattle.std.proofs.Common.{◌≡◌, ◌∙◌, ℕ, true, refl}
 use Rattle.dma_check.proofs.Listings.{reaches}
 use Rattle.dma_check.specs.Sources.{comes_to}
-use Rattle.dma_emit.specs.access.AccessKind.TheVariants.{Write}
+use Rattle.image_soundness.specs.Sound.{address_of, led}
+use Rattle.muen_num.specs.declared.access.AccessKind.TheVariants.{Write}
 use Rattle.policy_lawful.specs.Dma.{dma_access}
 use Rattle.policy_lawful.specs.Thing.{Thing}
 use Rattle.policy_lawful.specs.Windows.{Access, byte, violation}
-use Rattle.proof_build.specs.Sound.{address_of, led}
-use Rattle.proof_domains.specs.Laws.{FaultlessTablesFit}
+use Rattle.proof_dma.specs.Laws.{FaultlessTablesFit}
 use Rattle.proof_runs.specs.Fit.{access_address_of}
 
 comes_there : (address : Thing → ℕ) (a : Access Thing) → comes_to (led address a) ≡ access_address_of address a

@@ -1,5 +1,0 @@
-use Rattle.proof_domains.proofs.Faultless.{faultless_fit}
-use Rattle.proof_domains.proofs.faultless_tables_fit.Goals as goal
-
-pub returns : goal.returns
-returns c = faultless_fit
