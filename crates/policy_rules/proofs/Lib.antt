@@ -5,6 +5,5 @@ pub mod MajorsByIndex
 pub mod NamesAdded
 pub mod Parted
 pub mod RulesJoined
-pub mod RulesTold
 pub mod Tau0ByIndex
 pub mod WritersByIndex

@@ -1,4 +1,3 @@
-pub mod Broken
 pub mod Cpus
 pub mod Groups
 pub mod InTurn

@@ -10,4 +10,4 @@ mod rules;
 mod tau0;
 mod writers;
 
-pub use rules::{broken_rules, check, check_all};
+pub use rules::check;
