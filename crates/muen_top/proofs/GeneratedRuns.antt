@@ -44,7 +44,7 @@ use Rattle.record_text.specs.declared.record.Record.{Record}
 use Rattle.subject_model.specs.Clock.{run_of}
 use Rattle.subject_model.specs.System.{first_page, start_of}
 use Rattle.subject_model.specs.Trace.{trace_of}
-use Rattle.muen_top.specs.CommandErrors.{error_of_build}
+use Rattle.muen_top.specs.CommandErrors.{error_of_build, error_of_record_fault}
 use Rattle.muen_top.specs.LoadText.{summary}
 use Rattle.muen_top.specs.Loads.{HasMade, IsMadeOf, NotMade, refused, unmade}
 use Rattle.muen_top.specs.Runs.{OnlyMemory}
@@ -186,9 +186,9 @@ module _ (n : ℕ) (m : Made) (made : IsMadeOf (generated_system n) m) (text : L
   reads_so = ap (mapped (image_record m.parts)) named
 
   -- it is read, unless memory was refused
-  pub record_only_memory : (fault : RecordFault) → Answers NoMemoryForRecord reads (Err fault) → fault ≡ NoMemoryForRecord
-  record_only_memory fault (inl memory) = memory
-  record_only_memory fault (inr refused) = absurd (cc (sym reads_so ∙ refused))
+  pub record_only_memory : (fault : RecordFault) → Answers NoMemoryForRecord reads (Err fault) → OnlyMemory (error_of_record_fault fault)
+  record_only_memory fault (inl memory) = subst (λ f. OnlyMemory (error_of_record_fault f)) (sym memory) tt
+  record_only_memory fault (inr h) = absurd (cc (sym reads_so ∙ h))
 
   -- .. and its run prints the text of that system's
   pub runs_so : (input : Record Input) → reads ≡ Ok input → run_text (Some m.tables) m.parts input ≡ trace_of (generated_system n) no_files (generated_record n)

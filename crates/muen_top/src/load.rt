@@ -23,7 +23,6 @@ use image_load::read_record;
 use itoa::Buffer;
 use muen_num::NoMemory;
 use muen_outside::{GrowingSink, MemFiles, Sink, SinkFault, put_pieces};
-use record_text::RecordFault;
 use sha2::{Digest, Sha256};
 use std::alloc::Global;
 
@@ -69,8 +68,7 @@ fn loaded(alloc: Global, number: u16) -> Result<Loaded, NoMemory>
             input,
             tables: Some(tables),
         }),
-        Err(RecordFault::NoMemory) => Err(NoMemory),
-        Err(_) => unreachable!(),
+        Err(fault) => Err(only_memory(CommandError::from(fault))),
     }
 }
 
