@@ -226,6 +226,7 @@ pub fn broken_rules(alloc: Global, policy: &Linked) -> Result<Seq<Refusal>, NoMe
 /// refused policy is dropped.
 ///
 /// Answers `NoMemory` where memory was refused.
+#[tactic(auto, using(crate::proofs::RulesTold::none_found, crate::proofs::RulesTold::kept_where_none, crate::proofs::RulesTold::told_where_some))]
 pub fn check_all(alloc: Global, policy: Linked) -> Result<Result<Lawful, Seq<Refusal>>, NoMemory>
     ensures { IfOk result (λ told. all_kept told ≡ all_kept_or (source_of policy) (broken_rules (source_of policy))) }
 {

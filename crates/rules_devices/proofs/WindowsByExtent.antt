@@ -1,24 +1,16 @@
 -- The windows of domains, as ranges of the devices' addresses.
-use Rattle.std.proofs.Common.{◌≡◌, ℕ, Bool, true, false, List, [], ◌∷◌, ◌++◌, map, Option, Some, None, refl, sym, ap, ◌∙◌}
-use Rattle.std.specs.Prelude.{nat_lt, option_map}
-use Rattle.std.specs.Option.{option_map_or, option_or}
-use Rattle.std.specs.List.{list_all}
-use Rattle.std.specs.Str.{bytes_eq}
-use Rattle.std.proofs.lemmas.List.Folds.{list_all-map}
+use Rattle.std.proofs.Common.{◌≡◌, ℕ, Bool, true, false, List, [], ◌∷◌, ◌++◌, Option, Some, None, refl, sym, ap, ◌∙◌}
+use Rattle.std.specs.Prelude.{option_map}
+use Rattle.std.specs.Option.{option_or}
 use Rattle.muen_num.specs.Search.{first_after, first_in, first_pair, unless}
-use Rattle.muen_num.proofs.Lists.{each_from, found, list_any-map}
-use Rattle.muen_num.proofs.SearchLaws.{all_pass, option_or-None}
+use Rattle.muen_num.proofs.SearchLaws.{option_or-None}
 use Rattle.policy_lawful.specs.Domains.{domain_overlap, offence_22}
 use Rattle.policy_lawful.specs.Offences.{two}
 use Rattle.policy_lawful.specs.Resolution.{Resolution, source_of}
-use Rattle.policy_lawful.specs.Rules.{are_apart, is_declared, is_laid, first_overlap, offence_4, overlapping}
+use Rattle.policy_lawful.specs.Rules.{are_apart, first_overlap, overlapping}
 use Rattle.policy_lawful.specs.declared.offence.Extent.{Extent}
 use Rattle.policy_lawful.specs.declared.offence.Offence.{Offence}
-use Rattle.policy_lawful.proofs.KeptAddresses.{addresses_kept}
-use Rattle.policy_lawful.specs.source.Domain.{Domain}
-use Rattle.policy_lawful.specs.source.Region.{Region}
-use Rattle.rules_extents.proofs.FixedByExtent.{one_sized}
-use Rattle.rules_devices.specs.Windows.{size_among, undeclared_in, mapping_extent, domain_windows_offence}
+use Rattle.rules_devices.specs.Windows.{domain_windows_offence}
 
 -- ---- the later one of a pair is named
 
