@@ -48,7 +48,7 @@ class Memory:
         content = b""
         while len(content) < size:
             at = address + len(content)
-            place = self.inputs.led(device, at, "r")
+            place, _ = self.inputs.led(device, at, "r")
             if place is None:
                 return None
             content += self.read(device, place, min(size - len(content), PAGE - at % PAGE))

@@ -51,26 +51,6 @@ CONTENTS = [
     ("/memory/4/size", 2**25, "no room for buf of 33554432 bytes"),
 ]
 
-# a subject more in the policy of docs/rules.md, whose group has no ticks
-IDLE = [
-    ("/devices/1/irqs", [{"name": "late"}]),
-    ("/subjects/3", {"name": "d", "cpu": 1, "entry": 0, "devices": [{"device": "disk", "irqs": [{"irq": "late", "vector": 50}]}]}),
-    ("/scheduling/groups/2", {"name": "g2", "cpu": 1, "subjects": ["d"]}),
-]
-
-# what may stand there, and of what `look lint` warns then
-WARNINGS = [
-    ("/subjects/0/entry", 0, "the entry of a lies in no window with the right to execute"),
-    ("/memory/0/content", {"hex": "00"}, "the code has 1 byte, no multiple of 8"),
-    ("/memory/5", {"name": "spare", "size": 4096}, "the region spare: nobody has a window on it"),
-    ("/components/1", {"name": "idle", "provides": [{"logical": "text", "virtualAddress": 0, "size": 4096, "rights": "r", "content": {"hex": 4097 * "00"}}]},
-     "no subject uses the component idle"),
-    ("/subjects/0/sources/1", {"event": "turn", "trap": 5}, "no exit with the reason 5 can be trapped"),
-    ("/scheduling/groups/2", {"name": "g2", "cpu": 1, "subjects": ["d"]}, "the group g2 has no ticks, so no member runs"),
-    ("/subjects/3/devices/0/irqs/0", {"irq": "late", "vector": 51}, "d never takes the interrupt late of disk: its group g2 has no ticks"),
-]
-
-
 @with_program
 class Refusal(Case):
     """`look refusal`: the line of the program, and where the fault is."""
@@ -101,35 +81,6 @@ class Refusal(Case):
         """`look refusal` points to what stands between the marks."""
         begin, text = marked.index("<"), marked.replace("<", "").replace(">", "")
         self.explained(text, f"muen: {line}", begin, marked.index(">") - 2)
-
-
-class Lint(Case):
-    """`look lint`: faults and warnings."""
-
-    # that there is no room, lint doesn't tell
-    @each((f"look lint of examples/{name}", name, line) for name, line in [*((name, None) for name in RUNNING), *REFUSED]
-          if not (line and "no room" in line))
-    def test_lint(self, name, line):
-        """`look lint` finds no fault, or first the one of muen's line."""
-        status, lines = told_by_look("lint", EXAMPLES / name)
-        told = [one for one in lines if ": fault: " in one]
-        want((status, len(told) > 0), (1, True) if line else (0, False), f"look lint: {lines}")
-        want(not line or line.removeprefix("muen: ") in told[0], True, f"the first fault of look lint: {lines}")
-
-    @each((f"look lint: {warning}", at, value, warning) for at, value, warning in WARNINGS)
-    def test_warning(self, at, value, warning):
-        """`look lint` finds no fault in the changed policy, and warns of it so."""
-        policy = POLICY
-        for place, stands in IDLE:
-            policy = changed(policy, place, stands)
-        text, begin, end = spread(policy, at, value)
-        with tempfile.TemporaryDirectory() as folder:
-            file = pathlib.Path(folder, "policy.json")
-            file.write_text(text, encoding="utf-8")
-            status, lines = told_by_look("lint", file)
-        told = [line for line in lines if line.endswith(f": warning: {warning}")]
-        want((status, len(told)), (0, 1), f"look lint: {lines}")
-        want(begin <= next(offsets(text, told)) <= end, True, "its place")
 
 
 class Ways(Case):

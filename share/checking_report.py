@@ -203,7 +203,7 @@ class Held(Case):
             page = looked("report", policy, "--record", record)
         data = json.loads(zlib.decompress(base64.b64decode(re.search(r'id="data">([^<]*)<', page)[1])))
         want(data["inputs"], [[0, "dma", "nic", "dma at 1008 = 0700 into buf+8", "1008 is 4104"],
-                              [1, "dma", "nic", "dma at 1fff = 0707: dropped, 2000 leads nowhere", "1fff is 8191, 2000 is 8192"]], "the inputs")
+                              [1, "dma", "nic", "dma at 1fff = 0707: dropped at 2000, no right", "1fff is 8191, 2000 is 8192"]], "the inputs")
         want(data["reads"], [], "nobody reads what is written")
         want("digests are those that muen printed" in page, True, "the digests")
 

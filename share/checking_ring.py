@@ -1,7 +1,8 @@
 """A system of many subjects on many CPUs, which pass a number round a ring of channels with events, for pages and pictures."""
 import json
 
-OPCODES = {"LI": 0x01, "ADD": 0x04, "LOAD": 0x0b, "STORE": 0x0c, "JMP": 0x0d, "VMCALL": 0x16, "HLT": 0x17, "STI": 0x18, "SETV": 0x1a, "RETI": 0x1b}
+OPCODES = {"LI": 0x01, "ADD": 0x04, "LOAD": 0x0b, "STORE": 0x0c, "JMP": 0x0d, "JZ": 0x0e, "IN": 0x11, "OUT": 0x12, "VMCALL": 0x16, "HLT": 0x17,
+           "STI": 0x18, "SETV": 0x1a, "RETI": 0x1b}
 CODE, OUT, IN, BUS = 0x400000, 0x600000, 0x601000, 0x700000
 VECTOR, CLOCK, HANDLER = 40, 41, 0x200
 

@@ -54,7 +54,7 @@ def claim_of(words):
 
 def want_tables(arguments, scene):
     """What devices write has to be known, or Wrong."""
-    if scene.spans and scene.bodies and arguments.dma is None:
+    if not scene.knows_dma:
         raise Wrong(f"{arguments.system}: what its devices write by themselves isn't known without --dma")
 
 

@@ -3,12 +3,15 @@ import struct
 from dataclasses import dataclass
 
 from looking.files import MEBIBYTE, read_bytes
+from looking.guest import ADDRESSES_END
 from looking.image_file import MEMORY_END, PAGE, Bytes
 from looking.walk import ENTRIES, MOST_ENTRIES
 from looking.wrong import Wrong
 
 ADDRESS_BITS = MEMORY_END - PAGE
 RIGHTS = {1: "r", 2: "w", 3: "rw"}
+# what is said of an image with devices without its file of tables
+NO_TABLES = "DMA tables not given: devices' windows aren't shown"
 WIDE_ENTRIES = struct.Struct("<QQ")
 
 
@@ -69,16 +72,20 @@ def read_dma(name):
     return DmaFile(base, pages, masters)
 
 
+def context_table(file, bus):
+    """The context table of a bus, or None."""
+    low, high = WIDE_ENTRIES.unpack_from(file.page(file.base), 16 * bus)
+    return file.page(low & ADDRESS_BITS) if low & 1 and not low & ~(ADDRESS_BITS | 1) and not high else None
+
+
 def context_entries(file):
     """Of each bus and function that has a context entry: the entry's two halves."""
     for bus in range(256):
-        low, high = WIDE_ENTRIES.unpack_from(file.page(file.base), 16 * bus)
-        if low & 1 and not low & ~(ADDRESS_BITS | 1) and not high:
-            context = file.page(low & ADDRESS_BITS)
-            for function in range(256 if context else 0):
-                entry = WIDE_ENTRIES.unpack_from(context, 16 * function)
-                if entry[0] & 1:
-                    yield (bus, function), entry
+        context = context_table(file, bus)
+        for function in range(256 if context else 0):
+            entry = WIDE_ENTRIES.unpack_from(context, 16 * function)
+            if entry[0] & 1:
+                yield (bus, function), entry
 
 
 def domain_of(entry):
@@ -88,6 +95,35 @@ def domain_of(entry):
     if low & ~(ADDRESS_BITS | 1) or high & ~0xffff07 or high & 7 != 2:
         return None
     return (high >> 8 & 0xffff) - 1, low & ADDRESS_BITS
+
+
+def led(file, name, address, right="w"):
+    """Where a write of the device of this name, or with `r` a read, comes to by an address of its own, and None; or None,
+    and why it comes nowhere."""
+    if file is None:
+        return None, "no tables"
+    if address >= ADDRESSES_END:
+        return None, "too high"
+    master = next((one for one in file.masters if one.name == name), None)
+    if master is None:
+        return None, "no device"
+    context = context_table(file, master.bus)
+    low, high = WIDE_ENTRIES.unpack_from(context, 16 * master.function) if context else (0, 0)
+    domain = domain_of((low, high)) if low & 1 else None
+    if domain is None:
+        return None, "no table"
+    table = domain[1]
+    for level in (3, 2, 1, 0):
+        page = file.page(table)
+        if page is None:
+            return None, "no table"
+        entry = ENTRIES.unpack(page)[address // (PAGE << 9 * level) % 512]
+        if not entry & 3 or entry & ~(ADDRESS_BITS | 3):
+            return None, "not present"
+        if right not in RIGHTS[entry & 3]:
+            return None, "no right"
+        table = entry & ADDRESS_BITS
+    return table + address % PAGE, None
 
 
 def domains_of(file):

@@ -2,6 +2,7 @@
 from dataclasses import dataclass, field
 from itertools import accumulate, groupby
 
+from looking.dma_file import NO_TABLES
 from looking.image import spread
 from looking.scene import MANY, add_system, scene_of
 from looking.svg import Picture, widest
@@ -70,6 +71,9 @@ def drawn(scene, whole=False):
     picture.text(12, 19, title, room=800, bold=True, size=12)
     picture.text(12, 40, "bold: several see it", bold=True)
     y = picture.legend(160, 40, 700, marks) + 12
+    if not scene.knows_dma:
+        picture.text(12, y + 2, NO_TABLES, fill="#a4241c")
+        y += 18
     parts = [list(range(len(columns)))] if whole or len(scene.subjects) < MANY else frame.parts()
     for part in parts:
         # what nobody sees stands in the last part

@@ -3,11 +3,12 @@ import pathlib
 from bisect import bisect_right
 from collections import Counter
 from dataclasses import dataclass
-from itertools import accumulate
+from itertools import accumulate, groupby
 
 from looking.draw_plan import draw_ticks
 from looking.files import read_text
 from looking.image_file import STATE, SWITCH
+from looking.inputs import add_record, inputs_of
 from looking.svg import Picture, shortened, widest, width
 from looking.system import System
 from looking.trace import Teller
@@ -22,7 +23,8 @@ there is room. Behind it is grey in the ticks that its group has. An arrow leads
 an event first to the event's delivery, a dashed one from a handover to the first turn of the
 subject that gets the CPU, and a dotted one from a monitor's last store into a state to the
 next turn of the subject whose state it is. Above stand the value of an output, hexadecimal,
-and the name of a device's interrupt. What the text doesn't tell is left out. More than 400
+and the name of a device's interrupt. What the text doesn't tell is left out. With the record
+of the run a lane on top has what its lines did, and what was dropped. More than 400
 ticks are summed up: how many turns of each kind there are in so many ticks."""
 # the kinds of lines, each with its colour; each is of another lightness, so that they print in black and white; halts and
 # outputs are hatched, and all but the two that are most have a letter
@@ -36,7 +38,9 @@ SLOT = "#ececec"
 ARROWS = {"arrow": ("#2c7a3f", "", "from the call or trap that raised an event to its delivery"),
           "handover": ("#5a3322", "4 2", "dashed: to the first turn after a handover"),
           "monitor": ("#8a2b6b", "1.5 2", "dotted: from a monitor's last store into a state to the subject's next turn")}
-SHOWN, MOST_EACH, MOST = 150, 400, 10_000
+# the lane of a record: the colours of ticks with lines, of which none or one was dropped
+GIVEN, DROPPED, RECORD = "#8c7a3d", "#dc4136", "record"
+SHOWN, MOST_EACH, MOST, MOST_TOLD = 150, 400, 10_000, 12
 COLUMNS, LEAST_COLUMNS = 300, 40
 HIGH, HIGH_SUMS, GAP, WIDE = 19, 44, 13, 1200
 
@@ -66,11 +70,13 @@ def add_arguments(parser):
     parser.add_argument("--from", metavar="TICK", dest="first", type=int, help="the first tick that is drawn; without it, that of the text")
     parser.add_argument("--until", metavar="TICK", dest="end", type=int,
                         help=f"the tick behind the last; at most {MOST} are drawn, and {SHOWN} without it")
+    add_record(parser)
 
 
 def draw(arguments):
     """The picture."""
     system, text = System(arguments.image), read_text(arguments.trace, 1 << 30)
+    inputs = inputs_of(arguments, system)
     teller = Teller(system, lines_of(text, arguments.trace), arguments.trace)
     first = teller.ticks.start if arguments.first is None else arguments.first
     if first >= teller.ticks.stop:
@@ -78,15 +84,16 @@ def draw(arguments):
     end = min(first + SHOWN, teller.ticks.stop) if arguments.end is None else arguments.end
     if not 0 <= first < end <= first + MOST:
         raise Wrong(f"from {first} until {end}: want 1 to {MOST} ticks")
-    run = Run(teller, lines_of(text, arguments.trace), first, end)
+    run = Run(teller, lines_of(text, arguments.trace), first, end, inputs)
     return drawn(run, first, end, f"{pathlib.Path(arguments.image).name}, {pathlib.Path(arguments.trace).name}: ticks {first} to {end - 1}")
 
 
 class Run:
-    """Goes through lines: the cells and slots of a window of ticks, and the arrows that end in it."""
+    """Goes through lines, and those of a record: the cells and slots of a window of ticks, and the arrows that end in it."""
 
-    def __init__(self, teller, lines, first, end):
+    def __init__(self, teller, lines, first, end, inputs=None):
         self.teller, self.system, self.replay, self.first = teller, teller.system, teller.replay, first
+        self.inputs, self.given = inputs, []
         self.plan = Plan(self.system, self.replay.complete)
         # of a subject the turn that handed it the CPU, and the monitor's last store into its state
         self.cells, self.arrows, self.handed, self.stored = [], [], {}, {}
@@ -95,9 +102,21 @@ class Run:
                 break
             self.take(turn, teller.numbers[turn.subject, turn.cpu])
         self.plan.go_to(end - 1)
+        self.read(end - 1)
+
+    def read(self, tick):
+        """The lines of the record up to those of a tick, which come before its turns."""
+        for number in self.inputs.go_to(tick) if self.inputs else ():
+            self.meet_input(number, self.inputs.lines[number])
+
+    def meet_input(self, _, line):
+        """A line of the record that is drawn."""
+        if line.tick >= self.first:
+            self.given.append(line)
 
     def take(self, turn, who):
-        """A turn: its cell, and the arrows that end in it."""
+        """A turn, behind the inputs of its tick: its cell, and the arrows that end in it."""
+        self.read(turn.tick)
         self.plan.go_to(turn.tick)
         self.plan.agree(self.system.image.subjects[who].group)
         ends = {kept.pop(who): kind for kind, kept in (("handover", self.handed), ("monitor", self.stored)) if who in kept}
@@ -228,7 +247,9 @@ def drawn(run, first, end, title):
     right = max(lanes.x(end), 900)
     picture.text(12, 19, title, room=right - 12, bold=True, size=12)
     used = {cell.kind for cell in run.cells}
-    y = draw_key(picture, lanes, [kind for kind in KINDS if kind in used], right)
+    given = [(colour, text) for colour, text, is_dropped in ((GIVEN, "lines of the record", False), (DROPPED, "of which one was dropped", True))
+             if any(line.is_dropped == is_dropped for line in run.given)]
+    y = draw_key(picture, lanes, [kind for kind in KINDS if kind in used], given, right)
     if lanes.step > 1:
         picture.text(12, y, f"how many turns of each kind there are in {lanes.step} ticks, on top of one another", size=10, fill="#444")
         y += 16
@@ -237,6 +258,9 @@ def drawn(run, first, end, title):
         picture.text(12, y, "arrow: " + "; ".join(text for kind, (_, _, text) in ARROWS.items() if kind in there), size=10, fill="#444")
         y += 16
     lanes.top = y + 18
+    if run.inputs:
+        draw_given(picture, lanes, run.given)
+        lanes.top += HIGH + GAP
     draw_names(picture, lanes)
     bottom = lanes.top + len(subjects) * (lanes.high + GAP)
     if lanes.step > 1:
@@ -263,11 +287,12 @@ def definitions(kinds):
     return f"<defs>{''.join((*heads, *hatches))}</defs>"
 
 
-def draw_key(picture, lanes, kinds, right):
-    """What colours, hatches and letters mean; where the next line would be."""
+def draw_key(picture, lanes, kinds, given, right):
+    """What colours, hatches and letters mean, those of a record's lines too; where the next line would be."""
     picture.parts.append(definitions([] if lanes.lettered else kinds))
     marks = [(lanes.fill(kind), f"{kind} ({LETTERS[kind]})" if kind in LETTERS and lanes.lettered else kind) for kind in kinds]
-    return picture.legend(12, 40, right, marks + ([(SLOT, "its group's ticks")] if lanes.step == 1 else []))
+    marks += [(SLOT, "its group's ticks")] if lanes.step == 1 else []
+    return picture.legend(12, 40, right, marks + given)
 
 
 def draw_sums(picture, lanes, cells):
@@ -289,6 +314,19 @@ def draw_slots(picture, lanes, plan):
     for who, subject in enumerate(lanes.subjects):
         for start, behind in plan.slots(subject.group, lanes.first, lanes.end):
             picture.rect(lanes.x(start), lanes.y(who) - 3, (behind - start) * lanes.cell, lanes.high + 6, fill=SLOT)
+
+
+def draw_given(picture, lanes, lines):
+    """The lane of a record: of each column of ticks its lines."""
+    picture.text(lanes.left - 10, lanes.top + HIGH / 2 + 4, RECORD, room=lanes.name_room, text_anchor="end")
+    for column, group in groupby(lines, key=lambda line: (line.tick - lanes.first) // lanes.step):
+        group = list(group)
+        first = lanes.first + column * lanes.step
+        behind = min(first + lanes.step, lanes.end)
+        told = [" ".join(f"{line.tick} {line.device} {line.text}".split()) for line in group[:MOST_TOLD]]
+        more = [f"and {len(group) - MOST_TOLD} more"] if len(group) > MOST_TOLD else []
+        picture.rect(lanes.x(first), lanes.top, (behind - first) * lanes.cell - .5, HIGH, title="\n".join(told + more),
+                     fill=DROPPED if any(line.is_dropped for line in group) else GIVEN)
 
 
 def draw_names(picture, lanes):

@@ -2,7 +2,7 @@
 import hashlib
 
 from looking import bitmaps, guest
-from looking.dma_file import Reaches, context_entries, domain_of, read_dma
+from looking.dma_file import NO_TABLES, Reaches, context_entries, domain_of, read_dma
 from looking.image_file import DEVICE, KINDS, PAGE
 from looking.system import System, size_text, span_part
 from looking.words import counted
@@ -48,6 +48,8 @@ def sections_of(name, dma, code):
         sections += code_sections(system)
     if dma is not None:
         sections += dma_sections(system, read_dma(dma))
+    elif system.image.devices:
+        sections.append(("DMA tables", [NO_TABLES]))
     return sections
 
 

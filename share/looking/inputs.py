@@ -2,7 +2,8 @@
 import hashlib
 from dataclasses import dataclass, field
 
-from looking.dma_file import domains_of
+from looking import dma_file
+from looking.files import read_text
 from looking.image_file import CHANNEL, DEVICE, OWN, PAGE, PROVIDED
 from looking.words import decimals
 from looking.wrong import Wrong
@@ -21,26 +22,33 @@ class Input:
     writes: list[tuple[int, bytes]] = field(default_factory=list)
 
     @property
+    def is_dropped(self):
+        """Whether a device would have written by itself, and nothing was written."""
+        return self.kind == "dma" and not self.writes
+
+    @property
     def decimals(self):
         """Its numbers in decimal; bytes that are written are none."""
         return decimals(self.text if self.kind == "port" else self.text.replace(" = ", " is "))
 
 
 class Inputs:
-    """The lines of a record by tick, for an image and its DMA tables; `ticks` is how many the run has."""
+    """The lines of a record by tick, for an image and the DMA tables of the run, or None; `ticks` is how many the run has."""
 
     def __init__(self, system, tables, text, source):
-        self.system, self.lines, self.ticks, self.done = system, [], 0, 0
-        self.reaches = {name: reaches for _, names, reaches in domains_of(tables) for name in names}
+        self.system, self.tables, self.lines, self.ticks, self.done = system, tables, [], 0, 0
         self.devices = {device.name: device for device in system.image.devices}
         for number, line in enumerate(text.splitlines(), 1):
             kind, *words = line.split(" ")
             if kind not in WORDS or WORDS[kind] not in (None, len(words) + 1):
                 raise Wrong(f"{source}: line {number}: no line of a record: {line[:60]!r}")
-            if kind == "end":
-                self.ticks = int(words[0])
-            else:
-                self.lines.append(getattr(self, kind)(int(words[0]), *words[1:]))
+            try:
+                if kind == "end":
+                    self.ticks = int(words[0])
+                else:
+                    self.lines.append(getattr(self, kind)(int(words[0]), *words[1:]))
+            except (KeyError, StopIteration, ValueError):
+                raise Wrong(f"{source}: line {number}: `muen run` takes no such line: {line[:60]!r}") from None
 
     def go_to(self, tick):
         """Writes what is written before the turns of this tick; the numbers of the lines that do."""
@@ -75,20 +83,17 @@ class Inputs:
         """Bytes that a device writes by itself: all of them, or none where one is led nowhere (docs/dma.md)."""
         content, writes = bytes.fromhex(digits), []
         for at, part in by_page(int(address), content):
-            place = self.led(device, at)
+            place, why = self.led(device, at)
             if place is None:
-                return Input(tick, "dma", device, f"dma at {int(address):x} = {digits.lower()}: dropped, {at:x} leads nowhere")
+                return Input(tick, "dma", device, f"dma at {int(address):x} = {digits.lower()}: dropped at {at:x}, {why}")
             writes.append((place, part))
         names = " and ".join(self.where(place) for place, _ in writes)
         return Input(tick, "dma", device, f"dma at {int(address):x} = {digits.lower()} into {names}", writes)
 
     def led(self, device, address, right="w"):
-        """The place to which a device's address leads for a write, or with `r` for a read, or none."""
-        for reach in self.reaches.get(device, ()):
-            if reach.address <= address < reach.address + reach.size and right in reach.rights:
-                place = reach.place + address - reach.address
-                return place if self.system.memory.span_at(place) else None
-        return None
+        """Where a device's address leads for a write, or with `r` for a read, and None; or None, and why nowhere."""
+        place, why = dma_file.led(self.tables, device, address, right)
+        return (place, why) if place is None or self.system.memory.span_at(place) else (None, "outside")
 
     def where(self, place):
         """A place as the span that has it, with the offset."""
@@ -131,3 +136,21 @@ def held(system, lines):
         if span.kind in PRINTED:
             pages = range(span.place // PAGE, span.end // PAGE)
             yield Held(span, b"".join(bytes(system.memory.page(page)) for page in pages), printed.get(span.name))
+
+
+# ---- those of a run that is looked at
+
+def add_record(parser):
+    """The words that name the record of a run, and its tables."""
+    parser.add_argument("--record", metavar="RECORD", help="the device record of the run: what each of its lines did is told before the turns of its tick")
+    parser.add_argument("--dma", metavar="DMA", help="the file of DMA tables that the run was given, if it was; without tables all `dma` lines are dropped")
+
+
+def inputs_of(arguments, system):
+    """The inputs of the record that the words name, or None."""
+    if arguments.record is None:
+        if arguments.dma is not None:
+            raise Wrong("--dma wants --record: the tables say what the record's dma lines did")
+        return None
+    tables = None if arguments.dma is None else dma_file.read_dma(arguments.dma)
+    return Inputs(system, tables, read_text(arguments.record), arguments.record)

@@ -25,7 +25,7 @@ class Told(Run):
     """Goes through a whole run, with the inputs of its record, and keeps all that is told of each turn."""
 
     def __init__(self, teller, lines, inputs, sources):
-        self.inputs, self.sources, self.texts = inputs, sources, Texts()
+        self.sources, self.texts = sources, Texts()
         self.columns = {name: [] for name in COLUMNS}
         self.kinds = list(KINDS)
         self.known = [fields_of(state) for state in teller.replay.states]
@@ -34,16 +34,13 @@ class Told(Run):
         self.starts = [[shown(value) for value in known] for known in self.known]
         self.before = self.line = ""
         self.begin = teller.ticks.start
-        super().__init__(teller, lines, 0, max(teller.ticks.stop, 1))
-        inputs.go_to(inputs.ticks - 1)
+        super().__init__(teller, lines, 0, max(teller.ticks.stop, 1), inputs)
+        self.read(inputs.ticks - 1)
 
-    def take(self, turn, who):
-        """A turn, behind the inputs of its tick and before it."""
-        for number in self.inputs.go_to(turn.tick):
-            line = self.inputs.lines[number]
-            if line.kind == "dma":
-                self.written.update((place + at, number) for place, content in line.writes for at in range(len(content)))
-        super().take(turn, who)
+    def meet_input(self, number, line):
+        """A line of the record: which bytes a device has written by itself."""
+        if line.kind == "dma":
+            self.written.update((place + at, number) for place, content in line.writes for at in range(len(content)))
 
     def note(self, turn, who, found):
         """Before a turn is carried out: what has changed since the last one, and the line of its source."""

@@ -100,6 +100,8 @@ class Scene:
     choosers: list[str]
     # all of physical memory, the kernel's too; a policy has no places
     spans: list[Span] = field(default_factory=list, compare=False)
+    # whether it is known what devices reach by themselves: of an image with devices only by its DMA tables
+    knows_dma: bool = field(default=True, compare=False)
 
     @property
     def by_cpu(self):
@@ -144,7 +146,8 @@ def image_scene(file, dma):
               for number, names, reaches in (domains_of(read_dma(dma)) if dma is not None else ())]
     choosers = [] if image.choice is None else writers(subjects, things[image.choice.number])
     return Scene(pathlib.Path(file).name, image.cpus, subjects, listed, groups, image.frames,
-                 with_others(bodies, [device.name for device in image.devices]), image.choice and image.choice.name, choosers, image.spans)
+                 with_others(bodies, [device.name for device in image.devices]), image.choice and image.choice.name, choosers, image.spans,
+                 dma is not None or not image.devices)
 
 
 def sight_of(things, span, place, address, size, rights):

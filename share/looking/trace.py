@@ -5,6 +5,7 @@ from looking import guest
 from looking.files import read_text
 from looking.guest import plain
 from looking.image_file import STATE
+from looking.inputs import add_record, inputs_of
 from looking.replay import Replay, is_taken
 from looking.system import System
 from looking.turns import kind_of, lines_of
@@ -14,6 +15,8 @@ from looking.wrong import Wrong
 # the kinds of turns by the words of --only
 KINDS = {"instruction": "instruction", "jump": "jump, flag, NOP", "store": "store", "call": "call", "halt": "halt", "event": "event",
          "output": "output", "trap": "trapped fault", "stop": "fault, stops"}
+# .. and that of a line of the record
+INPUT = "input"
 HELP = "a run's text with instructions, names of regions, causes of events, and faults in words"
 LONG_HELP = """Prints each line of a turn anew: tick, CPU, subject, where its instruction stands, the
 instruction as the image has it (or as stores of the text have made it), and what
@@ -21,13 +24,17 @@ happened. Addresses are told as REGION+OFFSET, of the region that the subject se
 there; they, values and ports are hexadecimal, other numbers decimal. Final lines stay.
 The text may begin and end at any line: what it doesn't tell is left out. What devices
 write into code isn't in a text; an instruction that its line contradicts is shown as `?`.
+With the record of the run, and the DMA tables that it was given, each line of the record
+is told too, before the turns of its tick: behind `-` the device and what the line did;
+of a `dma` line where it wrote, or at which address it was dropped and why.
 
   look trace gateway.img gateway.trace --subject black cipher --from 30 --until 50
   look trace gateway.img gateway.trace --only stop trap
+  look trace ring.img ring.trace --record ring.record --dma ring.dma --only input
 
 These tell some turns alone, as they are told among all, and no final lines. The kinds of
 turns are instruction, jump (also a flag, and NOP), store, call, halt, event, output, trap (a
-fault that is trapped) and stop (one that isn't)."""
+fault that is trapped) and stop (one that isn't); input is a line of the record."""
 
 
 def add_arguments(parser):
@@ -37,22 +44,34 @@ def add_arguments(parser):
     parser.add_argument("--subject", nargs="+", metavar="NAME", help="the turns of these subjects alone")
     parser.add_argument("--from", metavar="TICK", dest="first", type=int, help="the first tick that is told")
     parser.add_argument("--until", metavar="TICK", dest="end", type=int, help="the tick behind the last")
-    parser.add_argument("--only", nargs="+", choices=KINDS, metavar="KIND", help="the turns of these kinds alone")
+    parser.add_argument("--only", nargs="+", choices=(*KINDS, INPUT), metavar="KIND", help="the turns of these kinds alone")
+    add_record(parser)
 
 
 def run(arguments):
-    """Prints a line for each line."""
+    """Prints a line for each line, and for each line of the record."""
     system = System(arguments.image)
-    text = read_text(arguments.trace, 1 << 30)
+    text, inputs = read_text(arguments.trace, 1 << 30), inputs_of(arguments, system)
     # once for faults and widths, before anything is printed
     teller = Teller(system, lines_of(text, arguments.trace), arguments.trace)
-    wanted = wanted_of(arguments, teller)
+    wanted, told_inputs = wanted_of(arguments, teller), wanted_inputs(arguments, teller)
     for line, turn in lines_of(text, arguments.trace):
+        if inputs:
+            for number in inputs.go_to(inputs.ticks if turn is None else turn.tick):
+                if told_inputs(inputs.lines[number]):
+                    print(teller.tell_input(inputs.lines[number]))
         # each turn is carried out, also where it isn't told
         told = line if turn is None else teller.tell(turn)
         if wanted is None or turn is not None and wanted(turn):
             print(told)
     return 0
+
+
+def wanted_inputs(arguments, teller):
+    """Whether a line of the record is told, as a function: none of before a text that begins later."""
+    first = arguments.first if arguments.first is not None else 0 if teller.replay.complete else teller.ticks.start
+    named = INPUT in arguments.only if arguments.only else not arguments.subject
+    return lambda line: named and first <= line.tick and (arguments.end is None or line.tick < arguments.end)
 
 
 def wanted_of(arguments, teller):
@@ -105,6 +124,10 @@ class Teller:
         told = self.parts(who, turn, self.replay.instruction(who, turn))
         return (f"{turn.tick:{self.tick_width}} {turn.cpu} {turn.subject:{self.name_width}} "
                 f"{told.place:{self.place_width}}  {told.code:32}  {told.what}").rstrip()
+
+    def tell_input(self, line):
+        """The line of a line of the record."""
+        return f"{line.tick:{self.tick_width}} - {line.device:{self.name_width}} {line.text}"
 
     def parts(self, who, turn, found):
         """What is told of a turn that was met, and of its instruction; it is carried out."""

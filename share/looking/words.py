@@ -4,7 +4,7 @@ import re
 from looking.wrong import Wrong
 
 # what the forms have before a hexadecimal number, and what isn't behind one; the report's script takes the same
-HEXADECIMAL = re.compile(r"(?:= |[+(]|\b0x|\bports? |\bMSRs? |\bfrom |\bdma at |\bdropped, |(?<!CPU )\bto )([0-9a-f]+)(?![\w.|:+-])")
+HEXADECIMAL = re.compile(r"(?:= |[+(]|\b0x|\bports? |\bMSRs? |\bfrom |\bdma at |\bdropped at |(?<!CPU )\bto )([0-9a-f]+)(?![\w.|:+-])")
 
 
 def counted(count, word):
