@@ -61,7 +61,7 @@ class Refusal(Case):
             policy = pathlib.Path(folder, "policy.json")
             policy.write_text(text, encoding="utf-8")
             status, lines = told_by_look("refusal", policy, "--program", PROGRAM)
-        want((status, lines[:1]), (0, [line]), "look refusal")
+        want((status, lines[:1]), (1, [line]), "look refusal")
         want(any(begin <= offset <= end for offset in offsets(text, lines)), True, f"a place is in the changed value: {lines}")
 
     @each((f"look refusal: {stands} at {at}", at, json.loads(stands), line) for at, stands, line in ROWS)

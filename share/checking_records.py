@@ -58,6 +58,127 @@ class Ran:
         return [" ".join(line.split(" ")) for line in looked("trace", *words, *others).splitlines()]
 
 
+# records of the system of docs/record.md, "A worked record", with one line that is refused, and what is told of it
+TWO = {"processor": {"logicalCpus": 2}, "memoryBlocks": [{"name": "ram", "physicalAddress": 0x400000, "size": 0x100000}],
+       "devices": [{"name": "net", "ioPorts": [{"name": "regs", "start": 768, "end": 783}], "irqs": [{"name": "rx"}, {"name": "tx"}],
+                    "memory": [{"name": "buf", "physicalAddress": 0x200000, "size": 4096}]}],
+       "subjects": [{"name": "one", "cpu": 0, "entry": 0}, {"name": "two", "cpu": 1, "entry": 0}],
+       "scheduling": {"groups": [{"name": "g", "cpu": 0, "subjects": ["one"]}, {"name": "h", "cpu": 1, "subjects": ["two"]}],
+                      "majorFrames": [{"cpus": [{"cpu": 0, "minorFrames": [{"group": "g", "ticks": 9}]}, {"cpu": 1, "minorFrames": [{"group": "h", "ticks": 9}]}]}]}}
+REFUSED = [
+    ("order 0 1", "count", 1, "there are 2 CPUs: want `order T` and each CPU's number once"),
+    ("order 0 1 1", "order", 11, "CPU 1 stands twice"),
+    ("order 0 2 1", "range", 9, "a CPU is at most 1, and is 2"),
+    ("port 0 net 784 255", "unknown", 12, "net has no port 784; it has 768 to 783"),
+    ("port 0 net 784 256", "range", 16, "V is at most 255, and is 256"),
+    ("port 0 nett 768 5", "unknown", 8, "no device is nett; is net meant?"),
+    ("irq 0 disk rx", "unknown", 7, "no device is disk; there is net"),
+    ("mem 1 net buf 4095 fF01", "unknown", 15, "2 bytes from 4095 on pass the end of buf, which has 4096 bytes"),
+    ("mem 1 net bug 0 fF01", "unknown", 11, "net has no memory bug; is buf meant?"),
+    ("mem 1 net buf 4094 fF0", "hex", 20, "want two hexadecimal digits a byte, and there are 3 digits"),
+    ("mem 1 net buf 4094 " + 65 * "00", "hex", 20, "a line has 64 bytes at most, and this one has 65"),
+    ("dma 1 net 0 0g", "hex", 13, "want 1 to 64 bytes in hexadecimal digits"),
+    ("dma 1 net 281474976710656 00", "range", 11, "ADDR is at most 281474976710655, and is 281474976710656"),
+    ("irq 1 net ry", "unknown", 11, "net has no interrupt ry; there are rx, tx"),
+    ("irq 01 net rx", "number", 5, "T is to be a number in decimal digits, and is '01': no zeros stand in front"),
+    ("irq 0x1 net rx", "number", 5, "T is to be a number in decimal digits, and is '0x1'"),
+    ("irq 1 net rx ", "count", 14, "a blank at the line's end"),
+    ("irq 1  net rx", "count", 7, "a blank too many"),
+    ("irq 1 net", "count", 1, "want `irq T DEVICE IRQ`"),
+    ("irg 1 net rx", "word", 1, "irg is none of order, port, mem, irq, dma, end; is irq meant?"),
+    ("# interrupts", "word", 1, "a record has no comments; share/look record makes one of lines that may have them"),
+    ("", "word", 1, "an empty line"),
+    ("irq 1 net rx\r", "unknown", 13, "the line ends with a carriage return; lines end with a line feed alone"),
+    ("end 9\r", "number", 6, "the line ends with a carriage return; lines end with a line feed alone"),
+    ("irq 1 net \u00e9", "not ASCII", 11, "a record is ASCII"),
+    ("irq 1 net rx\nirq 0 net rx", "back", 5, "tick 0 is behind tick 1 of the line before; ticks don't fall"),
+    ("order 1 0 1\norder 1 1 0", "order", 1, "tick 1 has an order already"),
+    ("end 9\nirq 9 net rx", "after end", 1, "the line `end` is the last one"),
+]
+# bytes of an image and of tables that are changed, muen's line, and the line behind it without the file
+BYTES = [
+    ("img", 24, b"\1", "image refused at 24: place", "byte 24 (18H), in span 0: want a multiple of 4096 that isn't below the end of what stands before"),
+    ("img", 13, b"\1", "image refused at 13: zero", "byte 13 (dH), in the header: a byte that is to be zero isn't"),
+    ("dma", 22, b"\1", "dma refused at 21: zero", "byte 21 (15H), in the header: a byte that is to be zero isn't"),
+    ("dma", 0, b"m", "dma refused at 0: magic", "byte 0 (0H), in the header: want the eight letters by which the file begins"),
+]
+
+
+@with_program
+class Refused(Case):
+    """`look refusal` of records, images and tables."""
+
+    def asked(self, *words):
+        """The status and the lines of `look refusal`."""
+        status, text = said("refusal", *words, "--program", PROGRAM)
+        return status, text.splitlines()
+
+    @each((f"look refusal of a record: row {row}, {why} at {column}", text, why, column, told) for row, (text, why, column, told) in enumerate(REFUSED))
+    def test_record(self, text, why, column, told):
+        """muen's line, and where the fault is and what it is: of the policy and of the image that is built of it."""
+        with tempfile.TemporaryDirectory() as folder:
+            policy, image, record = (pathlib.Path(folder, name) for name in ("p.json", "p.img", "r"))
+            policy.write_text(json.dumps(TWO), encoding="ascii")
+            record.write_bytes(f"{text}\nend 9\n".encode("latin-1") if not text.startswith("end") else f"{text}\n".encode("ascii"))
+            number = text.count("\n") + 1
+            lines = [f"muen: record refused at line {number}: {why}", f"{record}:{number}:{column}: {told}"]
+            self.want(self.asked(policy, record), (1, lines), "of the policy")
+            want(call([PROGRAM, "build", policy, image]).returncode, 0, "build")
+            self.want(self.asked(image, record), (1, lines), "of the image")
+            self.want(self.asked(image), (0, ["accepted"]), "the image alone")
+
+    @each((f"look refusal of byte {at} of {kind}", kind, at, value, line, told) for kind, at, value, line, told in BYTES)
+    def test_bytes(self, kind, at, value, line, told):
+        """muen's line, and in which part of the file the field is, and what it is to be."""
+        with tempfile.TemporaryDirectory() as folder:
+            ran = Ran(folder)
+            file = {"img": ran.image, "dma": ran.tables}[kind]
+            held = file.read_bytes()
+            file.write_bytes(held[:at] + value + held[at + 1:])
+            status, lines = self.asked(ran.image, ran.record, ran.tables)
+            want((status, lines[:2]), (1, [f"muen: {line}", f"{file}: {told}"]), "the lines")
+            file.write_bytes(held[:100])
+            status, lines = self.asked(ran.image, ran.record, ran.tables)
+            want((status, lines[0].endswith(": short"), "the file ends before this field does" in lines[1]), (1, True, True), f"a front: {lines}")
+            file.write_bytes(held + b"x")
+            status, lines = self.asked(ran.image, ran.record, ran.tables)
+            want((status, lines[1].endswith("in the end: bytes follow, and nothing is to stand there")), (1, True), f"a byte more: {lines}")
+
+    def test_accepted(self):
+        """What muen takes."""
+        with tempfile.TemporaryDirectory() as folder:
+            ran = Ran(folder)
+            for words in ((ran.policy,), (ran.policy, ran.record), (ran.image,), (ran.image, ran.record), (ran.image, ran.record, ran.tables)):
+                self.want(self.asked(*words), (0, ["accepted"]), words)
+            self.want(self.asked(ran.policy, ran.record, ran.tables),
+                      (1, [f"look: {ran.policy}: it is no image, and a policy has its domains in itself"]), "tables of a policy")
+
+
+class Made(Case):
+    """`look record --for POLICY`."""
+
+    def made(self, text):
+        """The status and what is printed of these lines for the example packet_ring, but the record."""
+        with tempfile.TemporaryDirectory() as folder:
+            file = pathlib.Path(folder, "lines")
+            file.write_text(text, encoding="ascii")
+            status, told = said("record", file, "--for", EXAMPLES / "packet_ring.json")
+            return status, [line.replace(str(file), "FILE") for line in told.splitlines() if line.startswith("look: ")]
+
+    @each((f"look record --for POLICY: {line}", line, status, told) for line, status, told in [
+        ("irq nic rx", 0, []),
+        ("dma nic 4096 00", 0, []),
+        ("dma nic 0 00", 0, ["look: FILE: line 2: warning: the line is dropped: the domain d has no window at 0"]),
+        ("irq nix rx", 1, ["look: FILE: line 2: no device is nix; is nic meant?"]),
+        ("irq nic ry", 1, ["look: FILE: line 2: nic has no interrupt ry; there is rx"]),
+        ("port nic 7 5", 1, ["look: FILE: line 2: nic has no port 7; it has none"]),
+        ("order 1 0", 1, ["look: FILE: line 2: an order names each CPU once, and there is 1 CPU"]),
+    ])
+    def test_named(self, line, status, told):
+        """What the policy hasn't is told, and what does nothing."""
+        want(self.made(f"end 9\nat 2: {line}\n"), (status, told), "the lines")
+
+
 @with_program
 class Records(Case):
     """`look trace` and `look draw trace` with a record."""

@@ -61,12 +61,15 @@ def read_dma(name):
     devices = take.within(1, 0, 32, "count")
     take.zero(3)
     masters = []
-    for _ in range(devices):
+    for number in range(devices):
+        take.part = f"device {number}"
         own = take.name()
         take.want(own not in [one.name for one in masters], "name")
         masters.append(Master(own, take.number(1), take.number(1)))
         take.zero(2)
+    take.part = "the pages"
     content = take.take(count * PAGE)
+    take.part = "the end"
     take.end()
     pages = [content[at:at + PAGE] for at in range(0, len(content), PAGE)]
     return DmaFile(base, pages, masters)

@@ -120,17 +120,24 @@ class Image:
     devices: list[Device] = field(default_factory=list)
 
 
+class Refused(Wrong):
+    """A fault of bytes: where, the part that the field is of, the bytes of the field as far as there are any, and the word."""
+
+    def __init__(self, take, at, word):
+        super().__init__(f"{take.source}: {take.what} refused at {at}: {word}")
+        self.at, self.part, self.word, self.field = at, take.part, word, bytes(take.content[at:max(take.at, at)])
+
+
 class Bytes:
-    """Bytes that are read field by field. `what` is the word of the line: image, or dma."""
+    """Bytes that are read field by field. `what` is the word of the line, image or dma, and `part` says what is read."""
 
     def __init__(self, content, what, source):
         self.content, self.what, self.source, self.at = memoryview(content), what, source, 0
-        self.field_at = 0
+        self.field_at, self.part = 0, "the header"
 
     def fault(self, word, at=None):
-        """The line of a fault, at the field that was read last where nothing else is said."""
-        place = self.field_at if at is None else at
-        return Wrong(f"{self.source}: {self.what} refused at {place}: {word}")
+        """A fault, at the field that was read last where nothing else is said."""
+        return Refused(self, self.field_at if at is None else at, word)
 
     def take(self, size):
         """The bytes of the next field."""
@@ -187,19 +194,27 @@ class Reader:
         spans_count, subjects, groups, frames, devices = counts
         self.spans(spans_count, choice)
         self.image.choice = self.by_number.get(choice)
-        for _ in range(groups):
+        for _ in self.parts(groups, "group"):
             self.image.groups.append(self.group(subjects))
-        for number in range(subjects):
+        for number in self.parts(subjects, "subject"):
             self.image.subjects.append(self.subject(number, subjects))
-        for _ in range(frames):
+        for _ in self.parts(frames, "major frame"):
             self.image.frames.append(self.frame())
-        for _ in range(devices):
+        for _ in self.parts(devices, "device"):
             self.image.devices.append(self.device(subjects))
         for span in self.image.spans:
+            self.bytes.part = f"the content of {span.name}"
             if span.kind != DEVICE:
                 span.content = self.bytes.take(span.size)
+        self.bytes.part = "the end"
         self.bytes.end()
         return self.image
+
+    def parts(self, count, word):
+        """The numbers of so many parts, each of which is read then."""
+        for number in range(count):
+            self.bytes.part = f"{word} {number}"
+            yield number
 
     def header(self):
         """How many of each part there are, and the number of the span that tau0 names."""
@@ -221,7 +236,7 @@ class Reader:
     def spans(self, count, choice):
         """The table of spans, by address."""
         end = 0
-        for at in range(count):
+        for at in self.parts(count, "span"):
             span = self.span(end, count, choice, at == count - 1)
             self.by_number[span.number] = span
             self.image.spans.append(span)

@@ -1,8 +1,12 @@
 """look record: a device record from a few lines. docs/record.md says what a record is."""
 import re
+import sys
 from dataclasses import dataclass
 
+from looking.document import lawful
 from looking.files import read_text
+from looking.record_faults import Line, devices_of_policy, idle
+from looking.words import counted
 from looking.wrong import Wrong
 
 HELP = "makes a device record from a few lines, such as `every 200 from 100: irq net rx`"
@@ -21,7 +25,9 @@ LONG_HELP = """Makes a device record (docs/record.md) from lines of this languag
 What happens is written as in a record, without the tick: `port DEVICE PORT VALUE`,
 `mem DEVICE MEMORY OFFSET HEX`, `irq DEVICE IRQ`, `dma DEVICE ADDRESS HEX`, `order C1 .. Cn`.
 Numbers are decimal, or hexadecimal behind 0x or as 16#300#. Of one tick the lines keep
-their order. Devices and CPUs are the system's: `muen run` looks whether they are there."""
+their order. Devices and CPUs are the system's: `muen run` looks whether they are there, and so
+does this form with --for POLICY, by file and line. Then it also warns, on standard error, of
+lines that do nothing: an interrupt that nobody has, and a `dma` line that is dropped."""
 
 MOST_TICKS = 100_000
 LONGEST = 16 << 20
@@ -40,11 +46,17 @@ def add_arguments(parser):
     """The words of this form."""
     parser.add_argument("file", metavar="FILE", nargs="?", default="-",
                         help="the lines; without it, or with -, they are those of standard input")
+    parser.add_argument("--for", metavar="POLICY", dest="policy", help="the policy whose devices and CPUs these are")
 
 
 def run(arguments):
     """Prints the record."""
-    print(record_of(read_text(arguments.file), arguments.file), end="")
+    text, source = read_text(arguments.file), arguments.file
+    record = record_of(text, source)
+    if arguments.policy is not None:
+        for number, why in idle_rules(rules_of(text, source)[0], lawful(arguments.policy), source):
+            print(f"look: {source}: line {number}: warning: {why}", file=sys.stderr)
+    print(record, end="")
     return 0
 
 
@@ -66,8 +78,8 @@ class Rule:
         return range(self.first, end if self.until is None else self.until, self.step)
 
 
-def record_of(text, source):
-    """The record that the lines of a text make."""
+def rules_of(text, source):
+    """The rules of a text, and how many ticks the run has."""
     rules, end, number = [], None, 0
     try:
         for number, line in enumerate(text.splitlines(), 1):
@@ -81,7 +93,16 @@ def record_of(text, source):
         number += 1
         if end is None:
             raise Wrong("no line is `end TICKS`")
-        inputs = []
+    except Wrong as error:
+        raise Wrong(f"{source}: line {number}: {error}") from None
+    return rules, end
+
+
+def record_of(text, source):
+    """The record that the lines of a text make."""
+    rules, end = rules_of(text, source)
+    inputs, number = [], 0
+    try:
         for rule in rules:
             number = rule.line
             inputs += inputs_of(rule, end, inputs)
@@ -89,6 +110,21 @@ def record_of(text, source):
         return printed(inputs, end)
     except Wrong as error:
         raise Wrong(f"{source}: line {number}: {error}") from None
+
+
+def idle_rules(rules, policy, source):
+    """Of each rule that does nothing its line, and why; Wrong at the first that names what the policy hasn't."""
+    devices = devices_of_policy(policy)
+    for rule in rules:
+        words = [rule.kind, "0", *rule.words]
+        if rule.kind == "order" and len(rule.words) != policy.cpus:
+            raise Wrong(f"{source}: line {rule.line}: an order names each CPU once, and there {'is' if policy.cpus == 1 else 'are'} {counted(policy.cpus, 'CPU')}")
+        line = Line(" ".join(words), [], devices, policy.cpus)
+        if not line.is_known():
+            raise Wrong(f"{source}: line {rule.line}: {line.fault_unknown()[1]}")
+    for rule in rules:
+        if why := idle(policy, devices, [rule.kind, "0", *rule.words]):
+            yield rule.line, why
 
 
 def spaced(line):

@@ -1,37 +1,85 @@
-"""look refusal: muen's line on a policy, with the places that it is about."""
+"""look refusal: muen's line on a policy, a record, an image or tables, with the places that it is about."""
 import re
 
-from looking.document import at, opened
+from looking import refusal_inputs
+from looking.document import at, document_in_shape, opened
+from looking.files import MEBIBYTE, read_bytes
+from looking.image_file import read_image
 from looking.places import NotJson
 from looking.policy import Policy, first
-from looking.program import add_program, program_of, refusal
+from looking.program import add_program, call, program_of, refusal
+from looking.record_faults import devices_of_image, devices_of_policy
 from looking.rules import broken, sentences
 from looking.schema import faults, number_of, short
 from looking.wrong import Wrong
 
-HELP = "Tells why muen refuses a policy, with file, line and column."
+HELP = "Tells why muen refuses a policy, a record, an image or DMA tables, with file, line and column."
+LONG_HELP = """Tells why muen refuses a policy, or a record of its devices; an image, or a record or DMA tables
+with it. First stands muen's line, and behind it each place with what is wrong there. `accepted`
+is printed where muen refuses nothing; the status is 1 where it does.
+
+  look refusal gateway.json
+  look refusal gateway.json gateway.record
+  look refusal gateway.img
+  look refusal gateway.img gateway.record gateway.dma"""
 
 
 def add_arguments(parser):
     """The words of the form."""
-    parser.add_argument("policy", metavar="POLICY")
+    parser.add_argument("system", metavar="SYSTEM", help="a policy, or an image")
+    parser.add_argument("record", metavar="RECORD", nargs="?", help="a record for its devices")
+    parser.add_argument("dma", metavar="DMA", nargs="?", help="a file of DMA tables for an image")
     add_program(parser)
 
 
 def run(arguments):
-    """Prints the line and what explains it."""
-    status, line = refusal(program_of(arguments), arguments.policy)
-    if status == 0:
+    """Prints the line and what explains it; 1 where there is one."""
+    if read_bytes(arguments.system, 96 * MEBIBYTE).startswith(b"MUENIMG"):
+        line, told = of_image(arguments)
+    elif arguments.dma is not None:
+        raise Wrong(f"{arguments.system}: it is no image, and a policy has its domains in itself")
+    else:
+        line, told = of_policy(arguments)
+    if line is None:
         print("accepted")
         return 0
-    of_policy = line == f"missing file {arguments.policy}" or line.startswith(f"file {arguments.policy} has ")
-    if of_policy or status not in (2, 3):
-        raise Wrong(f"muen answers with status {status}: {line}")
-    told = list(explained(arguments.policy, line))
+    told = list(told)
     print(f"muen: {line}")
     for each in told:
         print(each)
-    return 0
+    return 1
+
+
+def of_policy(arguments):
+    """What muen says of a policy, and then of a record, and what explains it; none where it refuses neither."""
+    policy, program = arguments.system, program_of(arguments)
+    status, line = refusal(program, policy)
+    if status == 0 and arguments.record is not None:
+        status, line = call(program, "boot", policy, arguments.record)
+        if status == 6:
+            described = Policy(document_in_shape(policy))
+            return line, refusal_inputs.of_record(arguments.record, line, devices_of_policy(described), described.cpus)
+    if status == 0:
+        return None, ()
+    if any(line == f"missing file {file}" or line.startswith(f"file {file} has ") for file in (policy, arguments.record)) or status not in (2, 3):
+        raise Wrong(f"muen answers with status {status}: {line}")
+    return line, explained(policy, line)
+
+
+def of_image(arguments):
+    """The same of an image, with a record and tables where they are given."""
+    image, record, tables = arguments.system, arguments.record, arguments.dma
+    status, line = call(program_of(arguments), "run", image, record or "/dev/null", *([tables] if tables else ()))
+    if status == 0 or record is None and status == 6:
+        return None, ()
+    if line.startswith("image refused at "):
+        return line, refusal_inputs.of_image(image)
+    if line.startswith("dma refused at "):
+        return line, refusal_inputs.of_tables(tables)
+    if status == 6:
+        parts = read_image(image)
+        return line, refusal_inputs.of_record(record, line, devices_of_image(parts), parts.cpus)
+    raise Wrong(f"muen answers with status {status}: {line}")
 
 
 def explained(file, line):
