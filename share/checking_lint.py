@@ -45,6 +45,22 @@ BEFORE = {"/deviceDomains/0/devices/1": [("/deviceDomains/1", {"name": "none"})]
           "/scheduling/groups/1/subjects/1": [("/scheduling/groups/2", {"name": "g2", "cpu": 1, "subjects": ["e"]}),
                                               ("/subjects/4", {"name": "e", "cpu": 1, "entry": 0})]}
 
+# what may stand there, and what `look lint` tells of the fault
+MEANT = [
+    ("/subjects/0/memory/1/virtualAddress", 0x400000, "of a the window on code, 16#400000# up to 16#401000#, and that on board, 16#400000# up to 16#401000#, have addresses in common"),
+    ("/subjects/0/memory/1/virtualAddress", 0x800000, "of a the window on board, 16#800000# up to 16#801000#, and that on the state of b, 16#800000# up to 16#801000#, have addresses in common"),
+    ("/subjects/1/component/map/0/physical", "log", 'store asks for memory, and no region "log" is declared; log is a channel'),
+    ("/subjects/1/component/map/1/physical", "buf", 'in asks for a channel, and no channel "buf" is declared; buf is a region of `memory`'),
+    ("/subjects/0/memory/1/region", "job", 'no region "job" is declared; job is a channel'),
+    ("/deviceDomains/1/devices/0", "disc", 'no device "disc" is declared; did you mean "disk"?'),
+    ("/deviceDomains/0/memory/0/region", "buff", 'no region "buff" is declared; did you mean "buf"?'),
+    ("/scheduling/tau0/subject", "aa", 'no subject "aa" is declared'),
+    ("/scheduling/tau0/region", "pik", 'no region "pik" is declared; did you mean "pick"?'),
+    ("/devices/1/ioPorts/0/start", 783, "its start, 30f (783), is above its end, 1f7 (503)"),
+    ("/devices/1/ioPorts/0", {"name": "cmd", "start": 780, "end": 800}, "regs of net, 300 (768) to 30f (783), and cmd of disk, 30c (780) to 320 (800), have ports in common"),
+    ("/subject", [], 'unknown key "subject"; did you mean "subjects"? (shape at : want known keys); the rules are asked behind this'),
+]
+
 TABLE, BOARD = 0x500000, 0x501000
 # programs, and the warnings on each without `one `, in their order; vector 40 comes to the subject, and it has call 1
 HANDLERS = [word("LI", 1, imm=CODE - 8 * 40 + 40), word("SETV", 0, 1), word("STI"), word("HLT")]
@@ -114,6 +130,26 @@ class Lint(Case):
         told = [line for line in lines if line.endswith(f": warning: {warning} [{title}]")]
         want((status, len(told)), (0, 1), f"look lint: {lines}")
         want(begin <= next(offsets(text, told)) <= end, True, "its place")
+
+    @each((f"look lint tells {text}", at, value, text) for at, value, text in MEANT)
+    def test_meant(self, at, value, text):
+        """The fault is told so, first of all."""
+        with tempfile.TemporaryDirectory() as folder:
+            file = pathlib.Path(folder, "policy.json")
+            file.write_text(changed(POLICY, at, value), encoding="utf-8")
+            status, lines = told_by_look("lint", file)
+        want((status, text in lines[0]), (1, True), f"look lint: {lines}")
+
+    def test_one_slip(self):
+        """A key at the top that isn't known is the one fault that is told; a number that isn't between quotes is told as one."""
+        with tempfile.TemporaryDirectory() as folder:
+            file = pathlib.Path(folder, "policy.json")
+            document = json.loads(POLICY)
+            document["subject"] = document.pop("subjects")
+            file.write_text(json.dumps(document), encoding="utf-8")
+            self.want(told_by_look("lint", file)[1][1:], ["1 fault, 0 warnings"], "the other lines")
+            file.write_text('{"processor": {"logicalCpus": 16#1#}}', encoding="utf-8")
+            self.want(told_by_look("lint", file)[1][0].endswith("a number such as 16#1000# stands between double quotes"), True, "the number")
 
     @each((f"look lint of a program: {title}", digits, lines) for title, digits, lines in PROGRAMS)
     def test_program(self, digits, lines):

@@ -1,9 +1,9 @@
-"""The checks of what share/look tells of a run's record: what each line did, where a line of direct memory access wrote, or why it was dropped."""
+"""The checks of what share/look tells of records, images, tables and sources: what each line of a record did, and why one of them is refused."""
 import json
 import pathlib
 import tempfile
 
-from checking import EXAMPLES, PROGRAM, Case, call, each, looked, said, want, with_program
+from checking import ASSEMBLER_PROGRAM, EXAMPLES, PROGRAM, Case, call, each, looked, said, want, with_assembler, with_program
 from checking_pictures import Seen
 from looking.draw_trace import DROPPED, GIVEN
 
@@ -152,6 +152,63 @@ class Refused(Case):
                 self.want(self.asked(*words), (0, ["accepted"]), words)
             self.want(self.asked(ran.policy, ran.record, ran.tables),
                       (1, [f"look: {ran.policy}: it is no image, and a policy has its domains in itself"]), "tables of a policy")
+
+
+# lines of a source behind `loop: NOP`, and what is told of them: the column, muen_asm's reason, and what is meant
+SOURCES = [
+    ("LOAD r1, 8 byte at r2", 12, "want a size of access: want 8 bytes"),
+    ("STORE r1, 3 bytes at r2", 11, "want a size of access: want 1 byte, or 2, 4 or 8 bytes, and then `at` and a register"),
+    ("OUT r1, 8 bytes to port r2", 9, "want a size of access: OUT has 4 bytes at most"),
+    ("MOV r1, 5", 9, "want a register: MOV takes no number; LI loads one into a register"),
+    ("ADD r1, 1", 9, "want a register: ADD takes no number; LI loads one into a register"),
+    ("VMCALL 1", 8, "want a register: VMCALL takes no number; LI loads one into a register"),
+    ("LI r16, 5", 4, "want a register: there are r0 to r15"),
+    ("LI R1, 5", 4, "want a register: registers are spelled r1"),
+    ("li r1, 5", 1, "want an instruction, data, .at or a name: instructions are spelled in capitals, LI"),
+    ("LAOD r1, 8 bytes at r2", 1, "want an instruction, data, .at or a name: is LOAD meant?"),
+    (".org 5", 1, "want an instruction, data, .at or a name: there is no .org; write .at"),
+    (".word 5", 1, "want an instruction, data, .at or a name: there is no .word; write .u16, .u32 or .u64"),
+    ("JNE r1, loop", 1, "want an instruction, data, .at or a name: there is no JNE; write JNZ"),
+    ("// a comment", 1, "want an instruction, data, .at or a name: `;` begins a comment"),
+    ("# a comment", 1, "want an instruction, data, .at or a name: `;` begins a comment"),
+    ("HLT # a comment", 5, "want the end of the line: `;` begins a comment"),
+    ("HLT r1", 5, "want the end of the line: HLT takes no more"),
+    ("JMP lop", 5, "no such name: is loop meant?"),
+    ("JMP there", 5, "no such name: no line has it as a label, or with `=`"),
+    ("LI r1 5", 7, "want a comma: operands are parted by commas"),
+    ("LI r1, 0xc000_0082", 8, "out of range: LI takes 32 bits, signed; LIH sets the upper 32"),
+    ("LOAD r1, 8 bytes r2", 18, "want at: an address is `at` a register, as in `LOAD r1, 8 bytes at r2 + 8`"),
+    ("x: y: NOP", 4, "want an instruction, data, .at or a name: a line has one label"),
+    ("loop: NOP", 1, "the name stands before: a name stands for one thing"),
+    (".byte 1\nNOP", 1, "an instruction off a multiple of 8: put an .at before it, or data up to eight bytes"),
+]
+
+
+@with_assembler
+class Sources(Case):
+    """`look refusal` of a source."""
+
+    @each((f"look refusal of a source: row {row}, column {column}", line, column, told) for row, (line, column, told) in enumerate(SOURCES))
+    def test_source(self, line, column, told):
+        """muen_asm's line, and what is meant, with the file."""
+        with tempfile.TemporaryDirectory() as folder:
+            file, number = pathlib.Path(folder, "code.asm"), line.count("\n") + 2
+            file.write_text(f"loop: NOP\n{line}\n", encoding="ascii")
+            status, text = said("refusal", file, "--program", ASSEMBLER_PROGRAM)
+            self.want(status, 1, "the status")
+            want(text.splitlines()[1], f"{file}:{number}:{column}: {told}", "the place")
+            self.want(text.splitlines()[0], f"muen_asm: line {number}, column {column}: {told.split(': ')[0]}", "muen_asm's line")
+
+    def test_accepted(self):
+        """A source that is taken; and one whose names stand in another file, with a fault there."""
+        with tempfile.TemporaryDirectory() as folder:
+            file, names = pathlib.Path(folder, "code.asm"), pathlib.Path(folder, "names")
+            file.write_text("LI r1, there\n", encoding="ascii")
+            names.write_text("there = 5\n", encoding="ascii")
+            self.want(said("refusal", file, "--names", names, "--program", ASSEMBLER_PROGRAM), (0, "accepted\n"), "with names")
+            names.write_text("here = 5\nthere == 5\n", encoding="ascii")
+            status, text = said("refusal", file, "--names", names, "--program", ASSEMBLER_PROGRAM)
+            self.want((status, text.splitlines()[1].startswith(f"{names}:2:8: ")), (1, True), f"a fault of the names: {text}")
 
 
 class Made(Case):

@@ -3,8 +3,8 @@ from __future__ import annotations
 
 from dataclasses import dataclass
 
-from looking.policy import name
-from looking.schema import number_of
+from looking.policy import first, name
+from looking.schema import nearest, number_of
 
 
 @dataclass(frozen=True)
@@ -26,6 +26,16 @@ def found(rule, names, text, *nodes):
     """A finding of one name or of two, at those of these values that are there."""
     both = names if isinstance(names, tuple) else (names, names)
     return Finding(rule, *both, text, tuple(node for node in nodes if node is not None))
+
+
+def undeclared(rule, who, node, declared, what, key="name", others=()):
+    """A finding where a value is the name of none of these; `others` are what it may be the name of, with a word for them."""
+    if node is None or node.kind != "text" or first(declared, node.value, key):
+        return
+    guess = nearest(node.value, [name(each, key) for each in declared])
+    other = next((word for nodes, word in others if first(nodes, node.value)), None)
+    hint = f"; {node.value} is a {other}" if other else f'; did you mean "{guess}"?' if guess else ""
+    yield found(rule, (who, node.value), f'{what} "{node.value}" is declared{hint}', node)
 
 
 def clashes(items, span_of):

@@ -83,6 +83,11 @@ def all_told(file):
     except NotJson as error:
         return [Told(file, error.spot.line, error.spot.column, "fault", "not-json", "", f"not JSON: {error.why}")]
     policy = Policy(document)
+    # what stands behind a key that isn't known may be all that is missing elsewhere
+    astray = [fault for fault in faults(document) if fault.place == "" and fault.want == "known keys"]
+    if astray:
+        return [Told(file, fault.spot.line, fault.spot.column, "fault", "shape", fault.place, f"{fault.text} ({fault.line}); the rules are asked behind this")
+                for fault in astray]
     wrong = [Told(file, spot.line, spot.column, "fault", kind, place, text) for spot, kind, place, text in faults_of(policy)]
     # of a program only where the policy is one
     meant = [*hints(policy), *(() if wrong else hints_of_code(policy))]

@@ -12,6 +12,7 @@ from dataclasses import dataclass, field
 DEEPEST = 127
 BLANKS = " \t\n\r"
 NUMBER = re.compile(r"-?(0|[1-9][0-9]*)(\.[0-9]+)?([eE][+-]?[0-9]+)?")
+NUMBER_OF_POLICIES = re.compile(r"\b16#[0-9a-fA-F_]+")
 WORDS = {"true": True, "false": False, "null": None}
 # in a text that is JSON, what spells one character
 ESCAPE = re.compile(r"\\u[dD][89abAB]..\\u....|\\u....|\\.")
@@ -208,6 +209,8 @@ class Reader:
             return ": a byte order mark"
         if first == "'":
             return ": texts stand between double quotes"
+        if first == "#" and NUMBER_OF_POLICIES.search(self.text[max(self.at - 4, 0):self.at + 24]):
+            return ": a number such as 16#1000# stands between double quotes"
         return ": JSON has no comments" if first in ("/", "#") else ""
 
     def number(self):

@@ -15,14 +15,14 @@ def add_program(parser):
     parser.add_argument("--program", metavar="PROGRAM", help="the program muen; without it, the one that share/muen runs")
 
 
-def program_of(arguments):
-    """The program of the option, or the one that is built or kept, or Wrong."""
+def program_of(arguments, name="muen"):
+    """The program of the option, or the one of this name that is built or kept, or Wrong."""
     if arguments.program is not None:
         return arguments.program
     try:
-        return str(running.program("muen"))
+        return str(running.program(name))
     except running.NoProgram as error:
-        raise Wrong(f"the program muen: {error}") from None
+        raise Wrong(f"the program {name}: {error}") from None
 
 
 def call(program, *words):

@@ -1,10 +1,9 @@
 """Where and why a device record is refused (docs/record.md, Faults), and which lines of one do nothing."""
-import difflib
 import re
 from dataclasses import dataclass, field
 
 from looking.policy import name
-from looking.schema import number_of
+from looking.schema import nearest, number_of
 from looking.words import counted
 
 KINDS = {"port": "T DEVICE PORT V", "mem": "T DEVICE MEMORY OFFSET HEX", "irq": "T DEVICE IRQ", "dma": "T DEVICE ADDR HEX", "end": "T"}
@@ -35,11 +34,10 @@ def devices_of_image(image):
                                 {one.name: one.target is not None for one in device.interrupts}) for device in image.devices}
 
 
-def nearest(word, names, what):
+def meant(word, names, what):
     """The name that is meant, most likely, or all there are."""
-    close = difflib.get_close_matches(word, names, 1)
-    if close:
-        return f"; is {close[0]} meant?"
+    if guess := nearest(word, names):
+        return f"; is {guess} meant?"
     return f"; there {'is' if len(names) == 1 else 'are'} {', '.join(names)}" if names else f"; there is no {what}"
 
 
@@ -89,7 +87,7 @@ class Line:
             return 1, "an empty line" if not self.line else "a blank stands at the begin"
         if word.startswith("#"):
             return 1, "a record has no comments; share/look record makes one of lines that may have them"
-        return 1, f"{word} is none of order, port, mem, irq, dma, end{nearest(word, [*KINDS, 'order'], 'such word')}"
+        return 1, f"{word} is none of order, port, mem, irq, dma, end{meant(word, [*KINDS, 'order'], 'such word')}"
 
     def fault_count(self):
         """How many words there are."""
@@ -168,15 +166,15 @@ class Line:
         if self.line.endswith("\r") and Line(self.line[:-1], self.before, self.devices, self.cpus).is_known():
             return len(self.line), RETURNS
         if device not in self.devices:
-            return self.column(2), f"no device is {device}{nearest(device, list(self.devices), 'device')}"
+            return self.column(2), f"no device is {device}{meant(device, list(self.devices), 'device')}"
         had = self.devices[device]
         if kind == "port":
             ranges = ", ".join(f"{low} to {high}" for low, high in had.ports)
             return self.column(3), f"{device} has no port {rest[0]}" + (f"; it has {ranges}" if ranges else "; it has none")
         if kind == "irq":
-            return self.column(3), f"{device} has no interrupt {rest[0]}{nearest(rest[0], list(had.interrupts), 'interrupt')}"
+            return self.column(3), f"{device} has no interrupt {rest[0]}{meant(rest[0], list(had.interrupts), 'interrupt')}"
         if rest[0] not in had.memories:
-            return self.column(3), f"{device} has no memory {rest[0]}{nearest(rest[0], list(had.memories), 'memory')}"
+            return self.column(3), f"{device} has no memory {rest[0]}{meant(rest[0], list(had.memories), 'memory')}"
         return self.column(4), f"{counted(len(rest[2]) // 2, 'byte')} from {rest[1]} on pass the end of {rest[0]}, which has {had.memories[rest[0]]} bytes"
 
 

@@ -1,7 +1,7 @@
 """look refusal: muen's line on a policy, a record, an image or tables, with the places that it is about."""
 import re
 
-from looking import refusal_inputs
+from looking import refusal_inputs, refusal_sources
 from looking.document import at, document_in_shape, opened
 from looking.files import MEBIBYTE, read_bytes
 from looking.image_file import read_image
@@ -11,30 +11,40 @@ from looking.program import add_program, call, program_of, refusal
 from looking.record_faults import devices_of_image, devices_of_policy
 from looking.rules import broken, sentences
 from looking.schema import faults, number_of, short
+from looking.words import counted
 from looking.wrong import Wrong
 
-HELP = "Tells why muen refuses a policy, a record, an image or DMA tables, with file, line and column."
+HELP = "Tells why muen refuses a policy, a record, an image or DMA tables, or muen_asm a source, with file, line and column."
 LONG_HELP = """Tells why muen refuses a policy, or a record of its devices; an image, or a record or DMA tables
-with it. First stands muen's line, and behind it each place with what is wrong there. `accepted`
-is printed where muen refuses nothing; the status is 1 where it does.
+with it; or muen_asm a source, a file whose name ends in .asm. First stands the program's line, and
+behind it each place with what is wrong there. `accepted` is printed where nothing is refused; the
+status is 1 where something is.
 
   look refusal gateway.json
   look refusal gateway.json gateway.record
   look refusal gateway.img
-  look refusal gateway.img gateway.record gateway.dma"""
+  look refusal gateway.img gateway.record gateway.dma
+  look refusal gateway/black_code.asm --names black.names"""
+
+# of a subject the state page, two pages of port bitmaps, one of the MSR bitmap, one of the MSR area, and four of tables
+KERNEL = 9 * 4096
 
 
 def add_arguments(parser):
     """The words of the form."""
-    parser.add_argument("system", metavar="SYSTEM", help="a policy, or an image")
+    parser.add_argument("system", metavar="SYSTEM", help="a policy, an image, or a source of assembly")
     parser.add_argument("record", metavar="RECORD", nargs="?", help="a record for its devices")
     parser.add_argument("dma", metavar="DMA", nargs="?", help="a file of DMA tables for an image")
+    parser.add_argument("--names", metavar="NAMES", help="the file of names for a source")
     add_program(parser)
 
 
 def run(arguments):
     """Prints the line and what explains it; 1 where there is one."""
-    if read_bytes(arguments.system, 96 * MEBIBYTE).startswith(b"MUENIMG"):
+    name = "muen"
+    if arguments.system.endswith(".asm"):
+        name, (line, told) = "muen_asm", refusal_sources.explained(program_of(arguments, "muen_asm"), arguments.system, arguments.names)
+    elif read_bytes(arguments.system, 96 * MEBIBYTE).startswith(b"MUENIMG"):
         line, told = of_image(arguments)
     elif arguments.dma is not None:
         raise Wrong(f"{arguments.system}: it is no image, and a policy has its domains in itself")
@@ -44,7 +54,7 @@ def run(arguments):
         print("accepted")
         return 0
     told = list(told)
-    print(f"muen: {line}")
+    print(f"{name}: {line}")
     for each in told:
         print(each)
     return 1
@@ -167,10 +177,19 @@ def contents(file, document, line):
             yield f"{at(file, (region.get('size') or region).spot)}: {match[1]} has no place"
         for block in policy.blocks:
             yield f"{at(file, block.spot)}: a block of {block.get('size').raw} bytes"
+        yield room(policy)
     elif match := re.fullmatch(r"missing file (.*)|file (.*) has \d+ bytes", line):
         for node in document.walk():
             if node.path[-2:] == ("content", "file") and node.value in match.groups():
                 yield f"{at(file, node.spot)}: the file is looked for in the current folder"
+
+
+def room(policy):
+    """How much memory there is, and how much is asked for (docs/placement.md)."""
+    components = [policy.component(subject) for subject in policy.subjects]
+    provided = [region for one in components if one is not None for region in one.items("provides")]
+    held, asked = (sum(number_of(node.get("size")) or 0 for node in nodes) for nodes in (policy.blocks, [*policy.memory, *policy.channels, *provided]))
+    return f"the blocks have {held} bytes; regions and channels take {asked}, and the kernel's five of {counted(len(policy.subjects), 'subject')} at least {KERNEL * len(policy.subjects)}"
 
 
 def printed(policy, name):

@@ -1,7 +1,7 @@
 """Rules 1, 2, 3, 7, 9 and 20: names, references, CPUs, components' needs, grants of devices, limits."""
-from looking.finding import by_name, found
+from looking.finding import by_name, found, undeclared
 from looking.policy import first, name
-from looking.schema import nearest, number_of
+from looking.schema import number_of
 
 # of what is granted of a device the key of its list, and in each item that of its name
 PARTS = (("memory", "memory"), ("ioPorts", None), ("irqs", "irq"))
@@ -24,26 +24,17 @@ def rule_1(policy):
     yield from by_name(policy.groups, 1, "the group")
 
 
-def undeclared(who, node, declared, what, key="name"):
-    """A finding where a value is the name of none of these."""
-    if node is None or node.kind != "text" or first(declared, node.value, key):
-        return
-    guess = nearest(node.value, [name(each, key) for each in declared])
-    hint = f'; did you mean "{guess}"?' if guess else ""
-    yield found(2, (who, node.value), f'{what} "{node.value}" is declared{hint}', node)
-
-
 def rule_2(policy):
     """References are declared."""
     for subject in policy.subjects:
         yield from references_of(policy, subject)
     for group in policy.groups:
         for member in group.items("subjects"):
-            yield from undeclared(name(group), member, policy.subjects, "no subject")
+            yield from undeclared(2, name(group), member, policy.subjects, "no subject")
     for number, frame in enumerate(policy.frames):
         for cpu in frame.items("cpus"):
             for minor in cpu.items("minorFrames"):
-                yield from undeclared(f"major.{number}", minor.get("group"), policy.groups, "no group")
+                yield from undeclared(2, f"major.{number}", minor.get("group"), policy.groups, "no group")
 
 
 def references_of(policy, subject):
@@ -51,24 +42,24 @@ def references_of(policy, subject):
     who = name(subject)
     use = subject.get("component")
     if use is not None:
-        yield from undeclared(who, use.get("ref"), policy.components, "no component")
+        yield from undeclared(2, who, use.get("ref"), policy.components, "no component")
         yield from entries_of(policy, subject)
     for node in subject.items("memory"):
-        yield from undeclared(who, node.get("region"), policy.memory, "no region")
+        yield from undeclared(2, who, node.get("region"), policy.memory, "no region", others=[(policy.channels, "channel")])
     for node in subject.items("channels"):
-        yield from undeclared(who, node.get("channel"), policy.channels, "no channel")
+        yield from undeclared(2, who, node.get("channel"), policy.channels, "no channel", others=[(policy.memory, "region of `memory`")])
     for node in subject.items("devices"):
-        yield from undeclared(who, node.get("device"), policy.devices, "no device")
+        yield from undeclared(2, who, node.get("device"), policy.devices, "no device")
         device = first(policy.devices, node.text("device"))
         if device is not None:
             for part, key in PARTS:
                 for item in node.items(part):
                     named = item.get(key) if key else item
-                    yield from undeclared(who, named, device.items(part), f"in {part} of {name(device)} no")
+                    yield from undeclared(2, who, named, device.items(part), f"in {part} of {name(device)} no")
     for node in [*subject.items("sources"), *subject.items("targets")]:
-        yield from undeclared(who, node.get("event"), policy.events, "no event")
+        yield from undeclared(2, who, node.get("event"), policy.events, "no event")
     for node in subject.items("monitors"):
-        yield from undeclared(who, node.get("subject"), policy.subjects, "no subject")
+        yield from undeclared(2, who, node.get("subject"), policy.subjects, "no subject")
 
 
 def entries_of(policy, subject):
@@ -79,12 +70,14 @@ def entries_of(policy, subject):
     channels = component.items("channels")
     for entry in policy.entries(subject):
         needs = [*component.items("memory"), *channels]
-        yield from undeclared(name(subject), entry.get("logical"), needs,
+        yield from undeclared(2, name(subject), entry.get("logical"), needs,
                               f"of the needs of {name(component)} none", "logical")
         if first(channels, entry.text("logical"), "logical"):
-            yield from undeclared(name(subject), entry.get("physical"), policy.channels, "no channel")
+            yield from undeclared(2, name(subject), entry.get("physical"), policy.channels, f"{entry.text('logical')} asks for a channel, and no channel",
+                                  others=[(policy.memory, "region of `memory`")])
         elif first(needs, entry.text("logical"), "logical"):
-            yield from undeclared(name(subject), entry.get("physical"), policy.memory, "no region")
+            yield from undeclared(2, name(subject), entry.get("physical"), policy.memory, f"{entry.text('logical')} asks for memory, and no region",
+                                  others=[(policy.channels, "channel")])
 
 
 def rule_3(policy):

@@ -1,5 +1,5 @@
 """Rules 6 and 12 to 17: ends of channels, events, calls, vectors, the plan."""
-from looking.finding import found, repeated
+from looking.finding import found, repeated, undeclared
 from looking.policy import first, name
 from looking.schema import number_of
 
@@ -179,11 +179,10 @@ def choice_of(policy):
     subject = first(policy.subjects, tau0.text("subject"))
     region = first(policy.memory, tau0.text("region"))
     if subject is None and tau0.text("subject"):
-        unknown = name(tau0, "subject")
-        yield found(16, ("tau0", unknown), f'no subject "{unknown}" is declared', tau0.get("subject"))
+        yield from undeclared(16, "tau0", tau0.get("subject"), policy.subjects, "no subject")
     names = ("tau0", name(tau0, "region"))
     if region is None and tau0.text("region"):
-        yield found(16, names, f'no region "{names[1]}" is declared', tau0.get("region"))
+        yield from undeclared(16, "tau0", tau0.get("region"), policy.memory, "no region", others=[(policy.channels, "channel")])
     elif region is not None and region.items("sharedMemory"):
         yield found(16, names, f"{names[1]} is shared", tau0.get("region"), region.get("sharedMemory"))
     elif region is not None and subject is not None:

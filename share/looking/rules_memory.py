@@ -1,7 +1,8 @@
 """Rules 4, 5, 8, 10, 11, 18, 19 and 21 to 24: addresses, windows, ports, MSRs, domains, monitors."""
-from looking.finding import by_name, clashes, found, repeated, span, spelled
+from looking.finding import by_name, clashes, found, repeated, span, spelled, undeclared
 from looking.policy import PAGE, first, gathered, name
 from looking.schema import number_of
+from looking.words import both
 
 PHYSICAL, GUEST = 2**40, 2**48
 ALIGNMENTS = (PAGE, 2**21)
@@ -67,12 +68,17 @@ def aligned(region):
         yield from misplaced(4, names, region, number_of(region.get("size")), "physicalAddress", PHYSICAL)
 
 
+def shown(window):
+    """What a window shows."""
+    return f"the state of {window.shows}" if window.kind == "state" else window.shows
+
+
 def rule_5(policy):
     """The windows of a subject are disjoint."""
     for subject in policy.subjects:
         for one, other in clashes(policy.windows(subject), lambda window: (window.start, window.end)):
-            text = (f"of {name(subject)} the window on {one.shows}, {spelled(one.start)} up to {spelled(one.end)}, "
-                    f"and that on {other.shows}, {spelled(other.start)} up to {spelled(other.end)}")
+            text = (f"of {name(subject)} the window on {shown(one)}, {spelled(one.start)} up to {spelled(one.end)}, "
+                    f"and that on {shown(other)}, {spelled(other.start)} up to {spelled(other.end)}, have addresses in common")
             # what a map entry gives stands at the component's address
             entries = [window.node for window in (other, one) if window.address.path[:2] != window.node.path[:2]]
             yield found(5, (one.shows, other.shows), text, other.address, one.address, *entries)
@@ -121,13 +127,14 @@ def rule_10(policy):
             if None in (start, end):
                 continue
             if start > end or end > 65535:
-                why = f"its start, {start}, is above its end, {end}" if start > end else f"its end, {end}, is above 65535"
+                why = (f"its start, {both(start)}, is above its end, {both(end)}" if start > end
+                       else f"its end, {both(end)}, is above {both(65535)}")
                 yield found(10, name(node), f"of {name(device)} the range {name(node)}: {why}", node.get("end"), node.get("start"))
                 continue
             for owner, earlier, first_port, last_port in good:
                 if max(start, first_port) <= min(end, last_port):
-                    text = (f"{name(earlier)} of {name(owner)}, {first_port} to {last_port}, and {name(node)} of "
-                            f"{name(device)}, {start} to {end}, have ports in common")
+                    text = (f"{name(earlier)} of {name(owner)}, {both(first_port)} to {both(last_port)}, and {name(node)} of "
+                            f"{name(device)}, {both(start)} to {both(end)}, have ports in common")
                     yield found(10, (name(earlier), name(node)), text, node.get("start"), node.get("end"),
                                 earlier.get("start"), earlier.get("end"))
             good.append((device, node, start, end))
@@ -191,8 +198,7 @@ def rule_21(policy):
     yield from by_name(policy.domains, 21, "the domain")
     listed = [(domain, node) for domain in policy.domains for node in domain.items("devices") if node.kind == "text"]
     for domain, node in listed:
-        if first(policy.devices, node.value) is None:
-            yield found(21, (name(domain), node.value), f'no device "{node.value}" is declared', node)
+        yield from undeclared(21, name(domain), node, policy.devices, "no device")
     for earlier, later in repeated(listed, lambda pair: pair[1].value):
         yield found(21, (name(later[0]), later[1].value), f"{later[1].value} stands in domains twice", later[1], earlier[1])
     for domain, node in listed:
@@ -227,8 +233,7 @@ def rule_22(policy):
                for node in domain.items("memory")]
     for domain, node, region in windows:
         if region is None and node.text("region"):
-            unknown = node.text("region")
-            yield found(22, (name(domain), unknown), f'no region "{unknown}" is declared', node.get("region"))
+            yield from undeclared(22, name(domain), node.get("region"), policy.memory, "no region", others=[(policy.channels, "channel")])
     for domain, node, region in windows:
         size = number_of(region.get("size")) if region is not None else None
         yield from misplaced(22, (name(domain), name(node, "region")), node, size, "virtualAddress", GUEST)
