@@ -123,13 +123,7 @@ fn is_beginning(alloc: Global, policy: &str, words: &str, ended: &Ended) -> Resu
 }
 
 // What calls come to, between whose words are commas.
-fn told(
-    alloc: Global,
-    policy: &str,
-    calls: &str,
-    fails: &str,
-    row: &str,
-) -> Result<String, Fail> {
+fn told(alloc: Global, policy: &str, calls: &str, fails: &str, row: &str) -> Result<String, Fail> {
     let mut files = files_of(alloc, policy, calls, fails)?;
     let mut text = String::new(alloc);
     for words in calls.split(", ") {
@@ -183,5 +177,6 @@ fn calls(rt: HostRuntime) -> Result<(), Fail> {
 
 #[test]
 fn long_text(rt: HostRuntime) -> Result<(), Fail> {
-    rows(&rt, rt.alloc(), GATEWAY, OF_GATEWAY)
+    let alloc = rt.alloc();
+    rows(&rt, alloc, GATEWAY, OF_GATEWAY)
 }

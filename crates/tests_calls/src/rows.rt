@@ -4,43 +4,33 @@
 //! the calls on files that fail; the puts that fail, how many bytes are kept of each, and the room of the
 //! output; the calls' words, and changes to the system.
 
-/// A call of each command that ends well.
-pub(crate) const OF_EACH_COMMAND: &str = r#"0, image MUENIMG1 |  |  | build p image
-0, image MUENIMG1, tables MUENDMA1 |  |  | build p image tables
-0, puts ... [0 0 one 0000000000400000 r1=0000000000000005/1 0 one 0000000000400008 exit 12 0000000000000000 0000000000000000 halt/end one 0000000000400010 0000000000000000 0000000000000000 10/regs one 0 0000000000000000 0000000000000005 0000000000000000 0000000000000000/regs one 4 0000000000000000 0000000000000000 0000000000000000 0000000000000000/regs one 8 0000000000000000 0000000000000000 0000000000000000 0000000000000000/regs one 12 0000000000000000 0000000000000000 0000000000000000 0000000000000000/region code d4837ed1427735f0510903e5523cb11cd438da2eb85d4aaea180ec5efa8719aa/] |  |  | run i three
-0, puts ... [0 0 one 0000000000400000 r1=0000000000000005/1 0 one 0000000000400008 exit 12 0000000000000000 0000000000000000 halt/end one 0000000000400010 0000000000000000 0000000000000000 10/regs one 0 0000000000000000 0000000000000005 0000000000000000 0000000000000000/regs one 4 0000000000000000 0000000000000000 0000000000000000 0000000000000000/regs one 8 0000000000000000 0000000000000000 0000000000000000 0000000000000000/regs one 12 0000000000000000 0000000000000000 0000000000000000 0000000000000000/region code d4837ed1427735f0510903e5523cb11cd438da2eb85d4aaea180ec5efa8719aa/] |  |  | run i three t
-0, puts ... [0 0 one 0000000000400000 r1=0000000000000005/1 0 one 0000000000400008 exit 12 0000000000000000 0000000000000000 halt/end one 0000000000400010 0000000000000000 0000000000000000 10/regs one 0 0000000000000000 0000000000000005 0000000000000000 0000000000000000/regs one 4 0000000000000000 0000000000000000 0000000000000000 0000000000000000/regs one 8 0000000000000000 0000000000000000 0000000000000000 0000000000000000/regs one 12 0000000000000000 0000000000000000 0000000000000000 0000000000000000/region code d4837ed1427735f0510903e5523cb11cd438da2eb85d4aaea180ec5efa8719aa/] |  |  | boot p three
-0, puts ... [region 0000000000106000 0000000000001000 code/region 0000000000107000 0000000000001000 one:state/region 0000000000100000 0000000000004000 one:ept/region 0000000000104000 0000000000002000 one:iobm/region 0000000000108000 0000000000001000 one:msrbm/region 0000000000109000 0000000000001000 one:msrs/window one 0000000000400000 0000000000001000 rx code/] |  |  | map p
-0, puts ... [flow one from one/] |  |  | flows p
-0, puts ... [sound/] |  |  | verify i p
-0, puts ... [subjects 2/ticks 20000/trace 956825/sha256 ad893307bcd939ce24cde01ab1d804f663e4e4f7b94a4be7cdcf5aa5c3ede6ae/] |  |  | load 0"#;
+/// A call of each command that ends well: so many calls on files it makes, and those behind them fail.
+pub(crate) const OF_EACH_COMMAND: &str = r#"0, image MUENIMG1 | 23 |  | build p image
+0, image MUENIMG1, tables MUENDMA1 | 3 |  | build p image tables
+0, puts ... [0 0 one 0000000000400000 r1=0000000000000005/1 0 one 0000000000400008 exit 12 0000000000000000 0000000000000000 halt/end one 0000000000400010 0000000000000000 0000000000000000 10/regs one 0 0000000000000000 0000000000000005 0000000000000000 0000000000000000/regs one 4 0000000000000000 0000000000000000 0000000000000000 0000000000000000/regs one 8 0000000000000000 0000000000000000 0000000000000000 0000000000000000/regs one 12 0000000000000000 0000000000000000 0000000000000000 0000000000000000/region code d4837ed1427735f0510903e5523cb11cd438da2eb85d4aaea180ec5efa8719aa/] | 23 |  | run i three
+0, puts ... [0 0 one 0000000000400000 r1=0000000000000005/1 0 one 0000000000400008 exit 12 0000000000000000 0000000000000000 halt/end one 0000000000400010 0000000000000000 0000000000000000 10/regs one 0 0000000000000000 0000000000000005 0000000000000000 0000000000000000/regs one 4 0000000000000000 0000000000000000 0000000000000000 0000000000000000/regs one 8 0000000000000000 0000000000000000 0000000000000000 0000000000000000/regs one 12 0000000000000000 0000000000000000 0000000000000000 0000000000000000/region code d4837ed1427735f0510903e5523cb11cd438da2eb85d4aaea180ec5efa8719aa/] | 3 |  | run i three t
+0, puts ... [0 0 one 0000000000400000 r1=0000000000000005/1 0 one 0000000000400008 exit 12 0000000000000000 0000000000000000 halt/end one 0000000000400010 0000000000000000 0000000000000000 10/regs one 0 0000000000000000 0000000000000005 0000000000000000 0000000000000000/regs one 4 0000000000000000 0000000000000000 0000000000000000 0000000000000000/regs one 8 0000000000000000 0000000000000000 0000000000000000 0000000000000000/regs one 12 0000000000000000 0000000000000000 0000000000000000 0000000000000000/region code d4837ed1427735f0510903e5523cb11cd438da2eb85d4aaea180ec5efa8719aa/] | 23 |  | boot p three
+0, puts ... [region 0000000000106000 0000000000001000 code/region 0000000000107000 0000000000001000 one:state/region 0000000000100000 0000000000004000 one:ept/region 0000000000104000 0000000000002000 one:iobm/region 0000000000108000 0000000000001000 one:msrbm/region 0000000000109000 0000000000001000 one:msrs/window one 0000000000400000 0000000000001000 rx code/] | 123 |  | map p
+0, puts ... [flow one from one/] | 123 |  | flows p
+0, puts ... [sound/] | 23 |  | verify i p
+0, puts ... [subjects 2/ticks 20000/trace 956825/sha256 ad893307bcd939ce24cde01ab1d804f663e4e4f7b94a4be7cdcf5aa5c3ede6ae/] | 0123 |  | load 0"#;
 
-/// A call on files fails, or the one put, or it has no room. So many calls on files a command makes: where
-/// those behind them fail, it ends well.
+/// A call on files fails, or the first put, or it has no room.
 pub(crate) const OF_ONE: &str = r#"4 muen: file fault | 0 |  | build p new
 4 muen: file fault | 1 |  | build p new
-0 | 23 |  | build p new
 4 muen: file fault | 0 |  | build p new tables
 4 muen: file fault | 1 |  | build p new tables
 4 muen: file fault | 2 |  | build p new tables
-0, tables MUENDMA1 | 3 |  | build p new tables
 4 muen: file fault | 1 |  | build p image tables
 4 muen: file fault, image MUENIMG1 | 2 |  | build p image tables
-0, image MUENIMG1, tables MUENDMA1 | 3 |  | build p image tables
 4 muen: file fault | 0 |  | boot p three
 4 muen: file fault | 1 |  | boot p three
-0, puts ... [0 0 one ... | 23 |  | boot p three
 4 muen: file fault | 0 |  | run i three
 4 muen: file fault | 1 |  | run i three
-0, puts ... [0 0 one ... | 23 |  | run i three
 4 muen: file fault | 0 |  | map p
-0, puts ... [region 0000000000106000 0000000000001000 code/... | 123 |  | map p
 4 muen: file fault | 0 |  | flows p
-0, puts ... [flow one from one/] | 123 |  | flows p
 4 muen: file fault | 0 |  | verify i p
 4 muen: file fault | 1 |  | verify i p
-0, puts ... [sound/] | 23 |  | verify i p
-0, puts ... [subjects 2/... | 0123 |  | load 0
 7 muen: output fault, puts 1 [] |  | 0 0 1000 | boot p three
 7 muen: output fault, puts 1 [0] |  | 0 1 1000 | boot p three
 7 muen: output fault, puts 1 [0 0] |  | 0 3 1000 | boot p three
@@ -58,7 +48,8 @@ pub(crate) const OF_ONE: &str = r#"4 muen: file fault | 0 |  | build p new
 
 /// A file that is named twice is read once, and the policy's own name is no call; so it is with the name of
 /// the record, which isn't looked at again where it is too long. Call 0 reads the policy.
-pub(crate) const OF_CONTENTS: &str = r#"3 muen: missing file absent | 3 |  | boot p absent | MEMORY=>{"name":"r","size":4096,"content":{"file":"page"}},{"name":"q","size":4096,"content":{"file":"page"}}
+pub(crate) const OF_CONTENTS: &str =
+    r#"3 muen: missing file absent | 3 |  | boot p absent | MEMORY=>{"name":"r","size":4096,"content":{"file":"page"}},{"name":"q","size":4096,"content":{"file":"page"}}
 4 muen: file fault | 2 |  | boot p absent | MEMORY=>{"name":"r","size":4096,"content":{"file":"page"}},{"name":"q","size":8192,"content":{"file":"long"}}
 3 muen: missing file absent | 2 |  | boot p absent | MEMORY=>{"name":"r","size":4096,"content":{"file":"p"}}
 6 muen: record refused at line 1: word | 2 |  | boot p page | MEMORY=>{"name":"r","size":4096,"content":{"file":"page"}}
@@ -87,7 +78,8 @@ pub(crate) const OF_CHANNEL: &str = r#"4 muen: file fault | 0 |  | run i one
 
 /// Call 0 reads the policy, and the calls 1 and 2 write the image and the tables; 3, 4 and 5 read the
 /// image, the tables and the record. Nothing is put before the last.
-pub(crate) const OF_NIC: &str = r#"4 muen: file fault; 3 muen: missing file i | 0 |  | build p i t, run i none t
+pub(crate) const OF_NIC: &str =
+    r#"4 muen: file fault; 3 muen: missing file i | 0 |  | build p i t, run i none t
 4 muen: file fault; 3 muen: missing file i | 1 |  | build p i t, run i none t
 4 muen: file fault; 3 muen: missing file t | 2 |  | build p i t, run i none t
 0; 4 muen: file fault | 3 |  | build p i t, run i none t
@@ -97,7 +89,8 @@ pub(crate) const OF_NIC: &str = r#"4 muen: file fault; 3 muen: missing file i | 
 7 muen: output fault, puts 1 [end] |  | 0 3 1000 | run i none t"#;
 
 /// Three blocks of text. Each put fails in turn, with nothing kept of it, one byte, or all.
-pub(crate) const OF_GATEWAY: &str = r#"7 muen: output fault, puts 1 [] |  | 0 0 1000000 | run i inputs
+pub(crate) const OF_GATEWAY: &str =
+    r#"7 muen: output fault, puts 1 [] |  | 0 0 1000000 | run i inputs
 7 muen: output fault, puts 2 [... |  | 1 0 1000000 | run i inputs
 7 muen: output fault, puts 3 [... |  | 2 0 1000000 | run i inputs
 0, puts 3 [... |  | 34 0 1000000 | run i inputs
