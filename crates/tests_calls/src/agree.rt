@@ -18,8 +18,3 @@ pub(crate) fn agree_at<T: PartialEq + Debug + Drop>(
 ) {
     assert_eq!(rt; got, wanted, "{row}");
 }
-
-/// Ends the test unless it holds, and tells of which row.
-pub(crate) fn holds_at(rt: &impl Abort, it: bool, row: impl Display + Drop) {
-    assert!(rt; it, "{row}");
-}

@@ -1,4 +1,5 @@
-//! Whole calls of `muen` on files and sinks in memory, against lines that were worked out by hand.
+//! What the built program can't show of whole calls of `muen`: each command once on files and sinks in
+//! memory, calls of which one on files or on the output fails, and systems that are made ready.
 #![tactic(auto)]
 
 #[cfg(test)]
@@ -6,12 +7,8 @@ mod agree;
 #[cfg(test)]
 mod calls;
 #[cfg(test)]
-mod elements;
+mod rows;
 #[cfg(test)]
-mod hostile;
+mod running;
 #[cfg(test)]
-mod images;
-#[cfg(test)]
-mod instructions;
-#[cfg(test)]
-mod rules;
+mod systems;

@@ -130,15 +130,6 @@ pub fn answered(alloc: Global, words: &str, files: &mut MemFiles) -> Result<Stri
     ended.answer(alloc)
 }
 
-/// The answer's line of a call that puts nothing to the output. An error where it does.
-pub fn refused(alloc: Global, words: &str, files: &mut MemFiles) -> Result<String, Fail> {
-    let ended = called(alloc, words, files, 10)?;
-    if ended.calls > 0 {
-        return Err(Fail::new("put"));
-    }
-    ended.line(alloc)
-}
-
 /// What is put to the output, of at most a million bytes, by a call that ends well. An error where it
 /// doesn't.
 pub fn printed(alloc: Global, words: &str, files: &mut MemFiles) -> Result<String, Fail> {
@@ -147,22 +138,6 @@ pub fn printed(alloc: Global, words: &str, files: &mut MemFiles) -> Result<Strin
         return Err(Fail::new("refused"));
     }
     Ok(ended.out)
-}
-
-/// The answer of a call, and what is kept of its output: this has room for so many bytes, and of the puts
-/// of these digits, which fail, three bytes are kept.
-pub fn cut(
-    alloc: Global,
-    words: &str,
-    files: &mut MemFiles,
-    room: usize,
-    fails: &str,
-) -> Result<String, Fail> {
-    let mut out = MemSink::make(alloc, room, numbers(alloc, fails)?, 3)?;
-    let ended = call(alloc, words, files, &mut out)?;
-    let mut text = ended.answer(alloc)?;
-    text.push_str(ended.out.as_str())?;
-    Ok(text)
 }
 
 /// The image `i` that `build` writes for the policy `p`.

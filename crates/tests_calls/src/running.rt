@@ -2,20 +2,11 @@
 ghost use Rattle.std.specs.Prelude.{◌≡◌, IfOk};
 
 use crate::agree::agree;
-use crate::runs::text_of;
+use crate::systems::ONE;
 use muen_run::{Ready, Record, Seq, drive, ready, unpack};
 use std::alloc::Global;
 use std::test::Fail;
-use tests_support::{MemSink, image_of, text_of as text};
-
-/// A subject that loads a number and halts.
-const ONE: &str = r#"{"processor":{"logicalCpus":1},
-"memoryBlocks":[{"name":"ram","physicalAddress":1048576,"size":65536}],
-"memory":[{"name":"code","size":4096,"content":{"hex":"01100000050000001700000000000000"}}],
-"subjects":[{"name":"one","cpu":0,"entry":4194304,
-"memory":[{"region":"code","virtualAddress":4194304,"rights":"rx"}]}],
-"scheduling":{"groups":[{"name":"g","cpu":0,"subjects":["one"]}],
-"majorFrames":[{"cpus":[{"cpu":0,"minorFrames":[{"group":"g","ticks":10}]}]}]}}"#;
+use tests_support::{MemSink, files, image_of, printed, text_of};
 
 // The system of an image, ready to run for three ticks in which nothing reaches it.
 fn system(alloc: Global, image: &[u8]) -> Result<Ready, Fail>
@@ -63,7 +54,7 @@ fn ready_is_cached(rt: HostRuntime) -> Result<(), Fail> {
 fn put(alloc: Global, image: &[u8]) -> Result<String, Fail> {
     let mut out = MemSink::make(alloc, 10_000, Vec::new(alloc), 0)?;
     match drive(system(alloc, image)?, &mut out) {
-        Ok(_) => text(alloc, out.text()),
+        Ok(_) => text_of(alloc, out.text()),
         Err(_) => Err(Fail::new("not driven")),
     }
 }
@@ -73,7 +64,8 @@ fn put(alloc: Global, image: &[u8]) -> Result<String, Fail> {
 fn driven(rt: HostRuntime) -> Result<(), Fail> {
     let alloc = rt.alloc();
     let image = image_of(alloc, ONE)?;
-    let printed = text_of(alloc, image.as_slice(), "end 3\n")?;
+    let list = [("i", image.as_slice()), ("r", "end 3\n".as_bytes())];
+    let printed = printed(alloc, "run i r", &mut files(alloc, &list, "")?)?;
     agree(
         &rt,
         put(alloc, image.as_slice())?.as_str(),
