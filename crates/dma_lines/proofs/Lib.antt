@@ -1,0 +1,3 @@
+pub mod LinesTold
+pub mod Outcomes
+pub mod Ways

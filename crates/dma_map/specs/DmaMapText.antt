@@ -1,0 +1,53 @@
+-- Where the devices of a placed policy reach memory by themselves, and what is printed of it (this project's own).
+use Rattle.std.specs.Prelude.{ℕ, List, ◌++◌, codes, map, unwrap_or}
+use Rattle.std.specs.List.{flat_map}
+use Rattle.dma_emit.specs.Reached.{thing_byte_address}
+use Rattle.expand_kernel.specs.Grants.{is_lower}
+use Rattle.expand_kernel.specs.Ordered.{in_order}
+use Rattle.map_report.specs.MapText.{rights_text}
+use Rattle.muen_num.specs.Fixed.{hex16}
+use Rattle.muen_num.specs.Tag.{tag_text}
+use Rattle.policy_lawful.specs.Dma.{dma_windows}
+use Rattle.policy_lawful.specs.Resolution.{source_of}
+use Rattle.policy_lawful.specs.Thing.{Thing, thing_tag}
+use Rattle.policy_lawful.specs.Windows.{Window}
+use Rattle.region_alloc.specs.Placed.{Placement}
+use Rattle.dma_map.specs.declared.window.DeviceWindow.{DeviceWindow}
+
+-- ---- windows
+
+-- where a thing begins; domains have windows on regions alone
+abbrev pub thing_address : Placement → Thing → ℕ
+thing_address x thing = unwrap_or (thing_byte_address x thing 0) 0
+
+-- a window of the device of this name
+abbrev pub window_shown : Placement → List ℕ → Window Thing → DeviceWindow
+window_shown x device w = record {
+  device = device;
+  addr = w.guest;
+  physical = thing_address x w.thing;
+  size = w.size;
+  rights = w.rights;
+  region = thing_tag w.thing;
+}
+
+-- what the device may reach, by ascending address
+unfoldable pub rising_windows : Placement → List ℕ → List (Window Thing)
+rising_windows x device = in_order is_lower (dma_windows (source_of x.expanded.lawful) device)
+
+abbrev pub windows_shown : Placement → List ℕ → List DeviceWindow
+windows_shown x device = map (window_shown x device) (rising_windows x device)
+
+-- of each device in the policy's order; one in no domain has none
+unfoldable pub device_windows : Placement → List DeviceWindow
+device_windows x = flat_map (λ d. windows_shown x d.name) x.expanded.lawful.devices
+
+-- ---- the text
+
+-- a device, an address of its own, the physical address, a size in bytes, rights, the name of what is shown
+unfoldable pub window_line : DeviceWindow → List ℕ
+window_line w =
+    codes "window " ++ w.device ++ codes " " ++ hex16 w.addr ++ codes " " ++ hex16 w.physical ++ codes " " ++ hex16 w.size ++ codes " " ++ rights_text w.rights ++ codes " " ++ tag_text w.region ++ codes "\n"
+
+unfoldable pub windows_text : List DeviceWindow → List ℕ
+windows_text windows = flat_map window_line windows
