@@ -76,7 +76,7 @@ fn of_elements(
 
 /// Rule 3: the number of CPUs, and the CPUs of subjects, groups and frames.
 #[tactic(auto, using(crate::proofs::CpusByIndex::cpus_by_index))]
-pub(crate) fn cpus(policy: &Linked) -> Option<Offence>
+pub fn cpus(policy: &Linked) -> Option<Offence>
     ensures offence { result ≡ offence_3 (source_of policy.now) }
     // Each name refers to what is there, since the policy's type says so.
     ensures resolved { IsResolved policy.now }

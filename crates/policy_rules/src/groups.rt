@@ -91,7 +91,7 @@ fn of_groups(
 
 /// The first offence against rule 17, if any.
 #[tactic(auto, using(crate::proofs::GroupsByIndex::groups_by_index))]
-pub(crate) fn groups(alloc: Global, policy: &Linked) -> Result<Option<Offence>, NoMemory>
+pub fn groups(alloc: Global, policy: &Linked) -> Result<Option<Offence>, NoMemory>
     ensures { IfOk result (λ o. o ≡ offence_17 (source_of policy.now)) }
 {
     let offence = of_groups(alloc, policy.subjects(), policy.scheduling().groups.items())?;

@@ -1,13 +1,13 @@
 //! The rules that a policy must keep beyond its names and references.
 #![tactic(auto)]
 
-mod cpus;
-mod groups;
+pub mod cpus;
+pub mod groups;
 mod keys;
-mod limits;
-mod major_frames;
+pub mod limits;
+pub mod major_frames;
 mod rules;
 mod tau0;
-mod writers;
+pub mod writers;
 
 pub use rules::check;

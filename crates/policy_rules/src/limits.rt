@@ -258,7 +258,7 @@ fn of_frames(majors: &[MajorFrame]) -> Option<Offence>
 ///
 /// Answers `NoMemory` where memory was refused.
 #[tactic(auto, using(crate::proofs::LimitsByIndex::limits_by_index))]
-pub(crate) fn limits(alloc: Global, policy: &Linked) -> Result<Option<Offence>, NoMemory>
+pub fn limits(alloc: Global, policy: &Linked) -> Result<Option<Offence>, NoMemory>
     ensures { IfOk result (λ o. o ≡ offence_20 (source_of policy.now)) }
 {
     let majors = policy.scheduling().major_frames.items();

@@ -143,7 +143,7 @@ fn of_all(policy: &Linked) -> Option<Offence>
 
 /// The first offence against rule 16, if any: of a major frame, else of who chooses them.
 #[tactic(auto, using(crate::proofs::MajorsByIndex::majors_by_index))]
-pub(crate) fn major_frames(policy: &Linked) -> Option<Offence>
+pub fn major_frames(policy: &Linked) -> Option<Offence>
     ensures { result ≡ offence_16 (source_of policy.now) }
 {
     of_all(policy)

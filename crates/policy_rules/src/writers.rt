@@ -227,7 +227,7 @@ fn of_regions(
 ///
 /// Answers `NoMemory` where memory was refused.
 #[tactic(auto, using(crate::proofs::WritersByIndex::writers_by_index))]
-pub(crate) fn writers(alloc: Global, policy: &Linked) -> Result<Option<Offence>, NoMemory>
+pub fn writers(alloc: Global, policy: &Linked) -> Result<Option<Offence>, NoMemory>
     ensures { IfOk result (λ o. o ≡ offence_8 (source_of policy.now)) }
 {
     let users = users_of(alloc, policy)?;
