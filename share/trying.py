@@ -149,6 +149,12 @@ class Trial:
         return lines
 
 
+    def explained(self, *words):
+        """What look refusal tells behind the program's line."""
+        _, text = said("refusal", *words, "--program", self.program("muen"))
+        return self.shown(text).splitlines()[1:]
+
+
 def binary(trial, source):
     """Where a source's bytes are put: apart from the files that contents name."""
     return trial.folder / "assembled" / f"{source.stem}.bin"
@@ -244,7 +250,7 @@ def build(trial):
     files, program = trial.files, trial.program("muen")
     status, line, _ = answer(program, "build", files["policy"], files["image"], files["tables"])
     if status in (2, 3):
-        raise Failed(line, *trial.look("refusal", files["policy"], "--program", program)[1:])
+        raise Failed(line, *trial.explained(files["policy"]))
     if status:
         raise Failed(line)
     return ", ".join(f"{file.name} of {file.stat().st_size} bytes" for file in (files["image"], files["tables"]))
@@ -262,7 +268,8 @@ def run(trial):
         text = trial.muen("run", trial.files["image"], trial.record, trial.files["tables"])
     except Failed as fault:
         refused = re.search(r"record refused at line (\d+)", fault.line)
-        raise Failed(f"{trial.record.name}: {fault.line}", *read_text(str(trial.record)).splitlines()[int(refused[1]) - 1:][:1] if refused else []) from None
+        line = read_text(str(trial.record)).splitlines()[int(refused[1]) - 1:][:1] if refused else []
+        raise Failed(f"{trial.record.name}: {fault.line}", *line, *(trial.explained(trial.files["image"], trial.record) if refused else [])) from None
     trial.files["text"].write_bytes(text)
     turns = sum(line[:1].isdigit() for line in text.splitlines())
     ticks = read_text(str(trial.record)).split()[-1]
