@@ -21,11 +21,11 @@ use Rattle.muen_build.specs.Refusals.{accepted, accepted_policy_of, build_refuse
 refused_for : (wanted wanted' : Result Source Refusal) (r : Refusal) → (wanted ≡ Err r → wanted' ≡ Err r) → Answers NoMemory wanted (Err r) → Answers NoMemory wanted' (Err r)
 refused_for wanted wanted' r f h = elim h [ inl m ↦ inl m | inr e ↦ inr (f e) ]
 
-kept_is : (p q : Source) (o : Option Refusal) → kept_or p o ≡ Ok q → (o ≡ None) × (p ≡ q)
+pub kept_is : (p q : Source) (o : Option Refusal) → kept_or p o ≡ Ok q → (o ≡ None) × (p ≡ q)
 kept_is p q None e = (refl, cc)
 kept_is p q (Some x) e = absurd (cc)
 
-is_refused : (p : Source) (o : Option Refusal) (r : Refusal) → kept_or p o ≡ Err r → o ≡ Some r
+pub is_refused : (p : Source) (o : Option Refusal) (r : Refusal) → kept_or p o ≡ Err r → o ≡ Some r
 is_refused p None r e = absurd (cc)
 is_refused p (Some x) r e = cc
 

@@ -75,17 +75,45 @@ none_length (Some bytes) h = absurd (cc)
 pub not_found : (found : Files) (file : List ℕ) → option_map (λ bytes. length bytes) (find_bytes file found) ≡ None → find_bytes file found ≡ None
 not_found found file h = none_length (find_bytes file found) h
 
+-- ---- a name that isn't given
+
+module _ (given : Files) (file : List ℕ) (other : find_bytes file given ≡ None) where
+  -- what files show under it
+  among : (reading : Reading) (files : Store) → reading_of (get files file) COMPONENT_FILE_MOST ≡ reading → reading_of (get (insert_all files given) file) COMPONENT_FILE_MOST ≡ reading
+  among reading files h = ap (λ o. reading_of o COMPONENT_FILE_MOST) (not_given files given file other) ∙ h
+
+  -- a name that is given is another
+  apart_name : (name bytes : List ℕ) → find_bytes name given ≡ Some bytes → bytes_eq name file ≡ false
+  apart_name name bytes is =
+      elim (bytes_eq name file) as (λ b. bytes_eq name file ≡ b → b ≡ false) [
+        | true ↦ λ same. let none : find_bytes name given ≡ None = ap (λ n. find_bytes n given) ((bytes_eq-Decides name file).0 same) ∙ other in absurd (cc)
+        | false ↦ λ ne. refl
+      ] refl
+
+  -- it is looked at after these looks, none of which is at it
+  module _ (looks : List Look) (got : Result Reading FileError) where
+    pub one_shown : (reading : Reading) → got ≡ Ok reading → (files : Store) → ShowAll files (looks ++ look file COMPONENT_FILE_MOST got ∷ []) → reading_of (get (insert_all files given) file) COMPONENT_FILE_MOST ≡ reading
+    one_shown reading is files s =
+        among reading files (subst (ShowsAnswer (get files file) COMPONENT_FILE_MOST) is (show_last files looks (look file COMPONENT_FILE_MOST got) s))
+
+    pub one_grown : (held : Option Store) (old new : History) → HaveNoLookAt looks file → LooksAt file got held old new → Grows given (IsAskedBy (bytes_eq file)) held old new looks (looks ++ look file COMPONENT_FILE_MOST got ∷ [])
+    one_grown held old new none l = record {
+      more = look file COMPONENT_FILE_MOST got ∷ [];
+      grown = refl;
+      history = l.history;
+      told = told_one held (look file COMPONENT_FILE_MOST got) l.told;
+      asked = ((same_self file, refl), tt);
+      single = λ s. single_push looks (look file COMPONENT_FILE_MOST got) s l.possible none;
+      others = λ name bytes is s. others_push looks name (look file COMPONENT_FILE_MOST got) s (apart_name name bytes is);
+    }
+
 -- the looks that read these files, and then one at this
 abbrev then_look : Files → List ℕ → Result Reading FileError → List Look
 then_look found file got = looks_of found ++ look file COMPONENT_FILE_MOST got ∷ []
 
 module _ (given found : Files) (file : List ℕ) (other : find_bytes file given ≡ None) where
-  -- what files show under a name that isn't given
-  among : (reading : Reading) (files : Store) → reading_of (get files file) COMPONENT_FILE_MOST ≡ reading → reading_of (get (insert_all files given) file) COMPONENT_FILE_MOST ≡ reading
-  among reading files h = ap (λ o. reading_of o COMPONENT_FILE_MOST) (not_given files given file other) ∙ h
-
   pub found_reads : (bytes : List ℕ) → find_bytes file found ≡ Some bytes → (files : Store) → ShowAll files (looks_of found) → reading_of (get (insert_all files given) file) COMPONENT_FILE_MOST ≡ whole bytes
-  found_reads bytes is files s = among (whole bytes) files (shown_among files found file bytes s is)
+  found_reads bytes is files s = among given file other (whole bytes) files (shown_among files found file bytes s is)
 
   pub of_found : (count : ℕ) → option_map (λ bytes. length bytes) (find_bytes file found) ≡ Some count → IsLengthKnown given (looks_of found) file count
   of_found count h files s =
@@ -95,28 +123,11 @@ module _ (given found : Files) (file : List ℕ) (other : find_bytes file given 
   -- ---- one that is looked at now
 
   module _ (new_one : find_bytes file found ≡ None) (held : Option Store) (old new : History) where
-    -- a name that is given is another
-    apart_name : (name bytes : List ℕ) → find_bytes name given ≡ Some bytes → bytes_eq name file ≡ false
-    apart_name name bytes is =
-        elim (bytes_eq name file) as (λ b. bytes_eq name file ≡ b → b ≡ false) [
-          | true ↦ λ same. let none : find_bytes name given ≡ None = ap (λ n. find_bytes n given) ((bytes_eq-Decides name file).0 same) ∙ other in absurd (cc)
-          | false ↦ λ ne. refl
-        ] refl
-
     grown : (got : Result Reading FileError) → LooksAt file got held old new → Grows given (IsAskedBy (bytes_eq file)) held old new (looks_of found) (then_look found file got)
-    grown got l = record {
-      more = look file COMPONENT_FILE_MOST got ∷ [];
-      grown = refl;
-      history = l.history;
-      told = told_one held (look file COMPONENT_FILE_MOST got) l.told;
-      asked = ((same_self file, refl), tt);
-      single = λ s. single_push (looks_of found) (look file COMPONENT_FILE_MOST got) s l.possible (others_found found file new_one);
-      others = λ name bytes is s. others_push (looks_of found) name (look file COMPONENT_FILE_MOST got) s (apart_name name bytes is);
-    }
+    grown got l = one_grown given file other (looks_of found) got held old new (others_found found file new_one) l
 
     shows_got : (got : Result Reading FileError) (reading : Reading) → got ≡ Ok reading → (files : Store) → ShowAll files (then_look found file got) → reading_of (get (insert_all files given) file) COMPONENT_FILE_MOST ≡ reading
-    shows_got got reading is files s =
-        among reading files (subst (ShowsAnswer (get files file) COMPONENT_FILE_MOST) is (show_last files (looks_of found) (look file COMPONENT_FILE_MOST got) s))
+    shows_got got reading is files s = one_shown given file other (looks_of found) got reading is files s
 
     looks_are : (after : Files) (bytes : List ℕ) → after ≡ found ++ (file, bytes) ∷ [] → then_look found file (Ok (whole bytes)) ≡ looks_of after
     looks_are after bytes is = sym (map_push file_look found (file, bytes)) ∙ ap looks_of (sym is)
@@ -148,7 +159,7 @@ module _ (given found : Files) (file : List ℕ) (other : find_bytes file given 
 -- ---- a content
 
 -- what a content takes of a file
-length_part : (bytes : List ℕ) (offset : ℕ) (most : Option ℕ) → length (file_part offset most bytes) ≡ part_length (length bytes) offset most
+pub length_part : (bytes : List ℕ) (offset : ℕ) (most : Option ℕ) → length (file_part offset most bytes) ≡ part_length (length bytes) offset most
 length_part bytes offset None = length-drop offset bytes
 length_part bytes offset (Some most) = length-take most (drop offset bytes) ∙ ap (min most) (length-drop offset bytes) ∙ omega arith
 

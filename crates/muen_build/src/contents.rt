@@ -19,8 +19,8 @@ use policy_lawful::source::Content;
 use policy_lawful::{Lawful, Refusal, Resolved, Thing};
 use std::alloc::Global;
 
-// That so many bytes have room in the region of a thing.
-fn fits(thing: &Thing, count: u64) -> Result<(), Refusal>
+/// That so many bytes have room in the region of a thing. Answers `FileFit` where they are more.
+pub fn fits(thing: &Thing, count: u64) -> Result<(), Refusal>
     ensures { result ≡ as_refusal (too_long_for thing.now.tag thing.now.size count) }
 {
     if count <= thing.size {
@@ -33,8 +33,8 @@ fn fits(thing: &Thing, count: u64) -> Result<(), Refusal>
     })
 }
 
-// How many of so many bytes a content takes: those from an offset on, at most so many.
-fn part_length(count: u64, offset: u64, most: Option<u64>) -> u64
+/// How many of so many bytes a content takes: those from an offset on, at most so many.
+pub fn part_length(count: u64, offset: u64, most: Option<u64>) -> u64
     ensures { result ≡ part_length count offset most }
 {
     let rest = count.saturating_sub(offset);

@@ -12,8 +12,8 @@ pub struct Given<'a> {
     pub bytes: &'a [u8],
 }
 
-// The bytes that are given under this name.
-pub(crate) fn given_bytes<'a>(given: &[Given<'a>], file: Name) -> Option<&'a [u8]>
+/// The bytes that are given under this name.
+pub fn given_bytes<'a>(given: &[Given<'a>], file: Name) -> Option<&'a [u8]>
     ensures { option_map (λ bytes. bytes.now) result ≡ find_bytes file (given_files given.now) }
 {
     for g in given {

@@ -23,7 +23,8 @@ mod things;
 
 pub use accepted::{Accepted, BuildError, ComponentFiles};
 use contents::read_contents;
-pub use given::Given;
+pub use contents::{fits, part_length};
+pub use given::{Given, given_bytes};
 pub use image_bytes::{build, image, images_are_one};
 use muen_num::Seq;
 use muen_outside::Files;
@@ -46,8 +47,10 @@ pub fn lawful(alloc: Global, policy: &[u8]) -> Result<Lawful, Refusal>
     policy_rules::check(alloc, resolved)
 }
 
-// The policy with all that follows from it and the addresses of its regions.
-fn place(alloc: Global, policy: Lawful) -> Result<Placed, Refusal>
+/// The policy with all that follows from it and the addresses of its regions.
+///
+/// Answers `NoRoom` with the first region that has no room, and `NoMemory` where memory was refused.
+pub fn place(alloc: Global, policy: Lawful) -> Result<Placed, Refusal>
     ensures ok { IfOk result (λ x. x.expanded.lawful ≡ policy) }
     ensures room { IfOk result (λ _. no_room (source_of policy) ≡ None) }
     ensures err { IfErr result (Explains Refusal.NoMemory (no_room (source_of policy))) }

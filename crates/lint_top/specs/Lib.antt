@@ -1,0 +1,5 @@
+pub mod Calls
+pub mod Lines
+pub mod Outcomes
+pub mod Statuses
+pub mod Tellings
