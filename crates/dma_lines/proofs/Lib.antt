@@ -1,3 +1,4 @@
+mod Examples
 pub mod LinesTold
 pub mod Outcomes
 pub mod Ways
