@@ -25,8 +25,8 @@ DROPS = ["1 - nic dma at 1fff = 0707: dropped at 2000, no right", "1 - nic dma a
          "1 - card dma at 1008 = 0700: dropped at 1008, no device", "2 - nic dma at ffffffffffff = 0707: dropped at ffffffffffff, not present"]
 # a byte of the tables by its page and offset, the value that it has then, and why the first line is dropped by these; the pages are
 # those of docs/dma.md, "An example": the root table, the context table, and those of four levels
-SPOILED = [(0, 0, 0, "no table"), (1, 16 * 24, 0, "no table"), (1, 16 * 24 + 8, 3, "no table"), (2, 1, 0x80, "no table"), (2, 0, 0, "not present"),
-           (4, 0, 1, "no right"), (5, 8, 0, "not present"), (5, 8, 4 | 3, "not present"), (5, 8, 1, "no right"), (5, 8 + 3, 0x40, "outside")]
+SPOILED = [(0, 0, 0, "no table"), (1, 16 * 24, 0, "no table"), (0, 1, 0x80, "no table"), (0, 5, 1, "bad entry"), (0, 8, 1, "bad entry"), (1, 16 * 24 + 8, 3, "bad entry"), (1, 16 * 24 + 11, 1, "bad entry"), (2, 1, 0x80, "no table"), (2, 0, 0, "not present"),
+           (4, 0, 1, "no right"), (5, 8, 0, "not present"), (5, 8, 4 | 3, "bad entry"), (5, 8, 4, "not present"), (5, 8 + 7, 0x80, "bad entry"), (5, 8, 1, "no right"), (5, 8 + 3, 0x40, "outside")]
 
 
 class Ran:

@@ -75,10 +75,16 @@ def read_dma(name):
     return DmaFile(base, pages, masters)
 
 
+def is_root(file, bus):
+    """Whether the root entry of a bus is one that is present."""
+    low, high = WIDE_ENTRIES.unpack_from(file.page(file.base), 16 * bus)
+    return low & ~ADDRESS_BITS == 1 and high == 0
+
+
 def context_table(file, bus):
     """The context table of a bus, or None."""
-    low, high = WIDE_ENTRIES.unpack_from(file.page(file.base), 16 * bus)
-    return file.page(low & ADDRESS_BITS) if low & 1 and not low & ~(ADDRESS_BITS | 1) and not high else None
+    low, _ = WIDE_ENTRIES.unpack_from(file.page(file.base), 16 * bus)
+    return file.page(low & ADDRESS_BITS) if is_root(file, bus) else None
 
 
 def context_entries(file):
@@ -102,31 +108,43 @@ def domain_of(entry):
 
 def led(file, name, address, right="w"):
     """Where a write of the device of this name, or with `r` a read, comes to by an address of its own, and None; or None,
-    and why it comes nowhere."""
+    and why it comes nowhere (docs/dma.md, What is told of a line)."""
     if file is None:
         return None, "no tables"
-    if address >= ADDRESSES_END:
-        return None, "too high"
     master = next((one for one in file.masters if one.name == name), None)
     if master is None:
         return None, "no device"
-    context = context_table(file, master.bus)
-    low, high = WIDE_ENTRIES.unpack_from(context, 16 * master.function) if context else (0, 0)
-    domain = domain_of((low, high)) if low & 1 else None
-    if domain is None:
-        return None, "no table"
-    table = domain[1]
+    if address >= ADDRESSES_END:
+        return None, "too high"
+    table, why = highest_table(file, master)
     for level in (3, 2, 1, 0):
-        page = file.page(table)
+        page = None if why else file.page(table)
         if page is None:
-            return None, "no table"
+            return None, why or "no table"
         entry = ENTRIES.unpack(page)[address // (PAGE << 9 * level) % 512]
-        if not entry & 3 or entry & ~(ADDRESS_BITS | 3):
+        if not entry & 3:
             return None, "not present"
+        if entry & ~(ADDRESS_BITS | 3):
+            return None, "bad entry"
         if right not in RIGHTS[entry & 3]:
             return None, "no right"
         table = entry & ADDRESS_BITS
     return table + address % PAGE, None
+
+
+def highest_table(file, master):
+    """The highest table of a device, and None; or None, and why there is none."""
+    low, _ = WIDE_ENTRIES.unpack_from(file.page(file.base), 16 * master.bus)
+    if not low & 1:
+        return None, "no table"
+    if not is_root(file, master.bus):
+        return None, "bad entry"
+    context = context_table(file, master.bus)
+    entry = WIDE_ENTRIES.unpack_from(context, 16 * master.function) if context else (0, 0)
+    if not entry[0] & 1:
+        return None, "no table"
+    domain = domain_of(entry)
+    return (domain[1], None) if domain else (None, "bad entry")
 
 
 def domains_of(file):
