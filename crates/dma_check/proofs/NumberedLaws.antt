@@ -1,10 +1,11 @@
 -- What is declared, by the numbers of things.
-use Rattle.std.proofs.Common.{◌≡◌, ℕ, zero, suc, ◌+◌, ◌<◌, ◌≤◌, ◌^◌, ◌==◌, Bool, true, false, not, cond, List, [], ◌∷◌, length, map, ◌++◌, filter, zip, All, Option, Some, None, refl, sym, ap, subst, ◌∙◌, inl, inr, arith, map-append, append_assoc}
+use Rattle.std.proofs.Common.{◌≡◌, ℕ, zero, suc, ◌+◌, ◌-◌, ◌<◌, ◌≤◌, ◌^◌, ◌==◌, Bool, true, false, not, cond, List, [], ◌∷◌, length, map, ◌++◌, filter, zip, All, Option, Some, None, refl, sym, ap, subst, ◌∙◌, inl, inr, arith, append_assoc}
 use Rattle.std.specs.Prelude.{nat_le, nat_lt, if◌then◌else◌, option_and_then, option_map, option_to_list, slice_get, slice_index_or, position}
 use Rattle.std.specs.List.{cons_option, filter_map, find, flat_map, position_or_len}
 use Rattle.std.specs.Option.{option_map_or}
 use Rattle.std.specs.Str.{bytes_eq}
 use Rattle.std.proofs.lemmas.Bool.{cases_Bool, cases_lt, le-ltb, lt-ltb}
+use Rattle.std.proofs.lemmas.List.{map-append}
 use Rattle.std.proofs.lemmas.List.Elements.{All-cons, All-nil, filter_map-append}
 use Rattle.std.proofs.lemmas.Option.{same_Some, slice_get_past}
 use Rattle.std.proofs.lemmas.List.Folds.{find_at}
@@ -27,7 +28,7 @@ use Rattle.muen_num.specs.Range.{numbers_below}
 use Rattle.muen_num.specs.declared.access.AccessKind.TheVariants.{Read, Write}
 use Rattle.policy_lawful.specs.Dma.{domain_of, domain_windows, dma_windows}
 use Rattle.policy_lawful.specs.Rights.{allows}
-use Rattle.policy_lawful.specs.Thing.{Item, Thing, region, region_item, channel_item, device_items, items_of, placed_items, same_thing, state, things_of}
+use Rattle.policy_lawful.specs.Thing.{Item, Thing, component_by, provided_items, region, region_item, channel_item, device_items, items_of, placed_items, same_thing, state, things_of}
 use Rattle.policy_lawful.specs.Windows.{Window, access_by, access_of, byte, violation, holds, region_window, window}
 use Rattle.policy_lawful.specs.source.Device.{Device}
 use Rattle.policy_lawful.specs.source.Domain.{Domain}
@@ -111,12 +112,22 @@ regions_of : (rs : List Region) → map (λ (i : Item). i.thing) (map region_ite
 regions_of [] = refl
 regions_of (r ∷ rs) = ap (λ xs. region r.name ∷ xs) (regions_of rs)
 
+regions_in : (rs : List Region) (others : List Item) → map (λ (i : Item). i.thing) (map region_item rs ++ others) ≡ map (λ (r : Region). region r.name) rs ++ map (λ (i : Item). i.thing) others
+regions_in rs others = map-append (λ (i : Item). i.thing) (map region_item rs) others ∙ ap (λ xs. xs ++ map (λ (i : Item). i.thing) others) (regions_of rs)
+
+joined : (rs bs cs ds : List Item) → ((rs ++ bs) ++ cs) ++ ds ≡ rs ++ ((bs ++ cs) ++ ds)
+joined rs bs cs ds = ap (λ xs. xs ++ ds) (append_assoc rs bs cs) ∙ append_assoc rs (bs ++ cs) ds
+
+-- what follows the regions
+abbrev others_of : Source → List Item
+others_of p = map channel_item p.channels ++ flat_map (λ (s : Subject). provided_items s.name (component_by p s.component)) p.subjects ++ device_items p
+
 regions_first : (p : Source) → (rest : List Thing) × (things_of p ≡ map (λ (r : Region). region r.name) p.memory ++ rest)
 unfolding things_of items_of placed_items
-regions_first p = (_,
-    map-append (λ (i : Item). i.thing) (placed_items p) (device_items p)
-    ∙ ap (λ xs. xs ++ map (λ (i : Item). i.thing) (device_items p)) (map-append (λ (i : Item). i.thing) (map region_item p.memory) _ ∙ ap (λ xs. xs ++ _) (regions_of p.memory))
-    ∙ append_assoc (map (λ (r : Region). region r.name) p.memory) _ _)
+regions_first p =
+    let channels : List Item = map channel_item p.channels in
+    let provided : List Item = flat_map (λ (s : Subject). provided_items s.name (component_by p s.component)) p.subjects in
+    (map (λ (i : Item). i.thing) (others_of p), ap (map (λ (i : Item). i.thing)) (joined (map region_item p.memory) channels provided (device_items p)) ∙ regions_in p.memory (others_of p))
 
 -- ---- the index of what is found
 
@@ -211,13 +222,13 @@ module _ (p : Source) (i : Image) (parts : IsParts i) where
 
 -- ---- no address is too large
 
+one_all : {B : Type 0} (P : B → Type 0) (o : Option B) → ((y : B) → o ≡ Some y → P y) → (ys : List B) → All P ys → All P (cons_option o ys)
+one_all P None h ys all = all
+one_all P (Some y) h ys all = All-cons P y ys (h y refl) all
+
 filter_all : {A B : Type 0} (P : B → Type 0) (f : A → Option B) → ((x : A) (y : B) → f x ≡ Some y → P y) → (xs : List A) → All P (filter_map f xs)
-filter_all {A} {B} P f h [] = All-nil P
-filter_all {A} {B} P f h (x ∷ xs) = by (f x) refl
-  where
-    by : (o : Option B) → f x ≡ o → All P (cons_option o (filter_map f xs))
-    by None e = filter_all P f h xs
-    by (Some y) e = All-cons P y (filter_map f xs) (h x y e) (filter_all P f h xs)
+filter_all P f h [] = All-nil P
+filter_all P f h (x ∷ xs) = one_all P (f x) (h x) (filter_map f xs) (filter_all P f h xs)
 
 -- one that is found is as all are
 found_all : {X : Type 0} (P : X → Type 0) (test : X → Bool) (xs : List X) (x : X) → All P xs → find test xs ≡ Some x → P x

@@ -25,10 +25,10 @@ module _ (v : View) where
   pub one_source : (source : ℕ) (f : TableFault) → source < 65536 → first_from (fault_at v) 0 (2 ^ 48 * source) ≡ None → Some f ≡ first_from (fault_at v) (2 ^ 48 * source) (2 ^ 48) → Some f ≡ table_fault v
   one_source source f few none h =
       let many = how_many in
-      sym (fault_from v ∙ later_found (fault_at v) 0 (2 ^ 48 * source) (2 ^ 48) positions (2 ^ 48 * source) f (omega (arith, few, many)) refl none (sym h))
+      sym (fault_from v ∙ later_found (fault_at v) 0 (2 ^ 48 * source) (2 ^ 48) positions (2 ^ 48 * source) f (omega (arith, few, many)) (omega arith) none (sym h))
 
   pub later_source : (source : ℕ) → first_from (fault_at v) 0 (2 ^ 48 * source) ≡ None → None ≡ first_from (fault_at v) (2 ^ 48 * source) (2 ^ 48) → first_from (fault_at v) 0 (2 ^ 48 * (source + 1)) ≡ None
-  later_source source a b = none_joined (fault_at v) 0 (2 ^ 48 * source) (2 ^ 48) (2 ^ 48 * (source + 1)) (2 ^ 48 * source) (omega arith) refl a (sym b)
+  later_source source a b = none_joined (fault_at v) 0 (2 ^ 48 * source) (2 ^ 48) (2 ^ 48 * (source + 1)) (2 ^ 48 * source) (omega arith) (omega arith) a (sym b)
 
   pub all_none : (source : ℕ) → source ≡ 65536 → first_from (fault_at v) 0 (2 ^ 48 * source) ≡ None → None ≡ table_fault v
   all_none source e none =
