@@ -55,8 +55,8 @@ module _ (v : View) (ws : List DmaWindow) (source addr : ℕ) (low : addr < 2 ^ 
       → tr ≡ told ws addr false → tw ≡ told ws addr true
       → contents v.is_memory (λ q write. if write then ww else wr) (λ q write. if write then tw else tr) (2 ^ 48 * source + addr) ≡ contents v.is_memory (walk v) (expected v) (2 ^ 48 * source + addr)
   contents_is wr ww tr tw a b c d = contents_same v.is_memory (λ q write. if write then ww else wr) (walk v) (λ q write. if write then tw else tr) (expected v) (2 ^ 48 * source + addr)
-      (λ write. elim write as (λ w. (if w then ww else wr) ≡ walk v (2 ^ 48 * source + addr) w) [ | true ↦ b ∙ sym (walk_is true) | false ↦ a ∙ sym (walk_is false) ])
-      (λ write. elim write as (λ w. (if w then tw else tr) ≡ expected v (2 ^ 48 * source + addr) w) [ | true ↦ d ∙ sym (told_is true) | false ↦ c ∙ sym (told_is false) ])
+      (λ write. elim write as (λ w. (if w then ww else wr) ≡ walk v (2 ^ 48 * source + addr) w) [ true ↦ b ∙ sym (walk_is true) | false ↦ a ∙ sym (walk_is false) ])
+      (λ write. elim write as (λ w. (if w then tw else tr) ≡ expected v (2 ^ 48 * source + addr) w) [ true ↦ d ∙ sym (told_is true) | false ↦ c ∙ sym (told_is false) ])
 
 -- ---- a position
 

@@ -102,11 +102,11 @@ region_beside name (x ∷ rs) rest [] ss qs r h = let none = no_page name ss qs 
 region_beside name (x ∷ rs) rest (p ∷ ps) ss qs r h = elim (bytes_eq x.name name) as (λ b. cond b (Some x) (find (λ (r : Region). bytes_eq r.name name) rs) ≡ Some r
     → option_map_or (λ (e : Thing × ℕ). e.1) (cond b (Some (region x.name, p)) (find (at_thing (region name)) (zip (map (λ (r : Region). region r.name) rs ++ rest) ps ++ zip (map (λ (s : Subject). state s.name) ss) qs))) 0
     ≡ slice_index_or (p ∷ ps) (cond (not b) (1 + position_or_len (λ (r : Region). bytes_eq r.name name) rs) 0) 0) [
-  | true ↦ λ e. refl
-  | false ↦ λ e.
-      let next : suc (position_or_len (λ (r : Region). bytes_eq r.name name) rs) ≡ 1 + position_or_len (λ (r : Region). bytes_eq r.name name) rs = omega arith in
-      region_beside name rs rest ps ss qs r e ∙ ap (λ n. slice_index_or (p ∷ ps) n 0) next
-] h
+      | true ↦ λ e. refl
+      | false ↦ λ e.
+          let next : suc (position_or_len (λ (r : Region). bytes_eq r.name name) rs) ≡ 1 + position_or_len (λ (r : Region). bytes_eq r.name name) rs = omega arith in
+          region_beside name rs rest ps ss qs r e ∙ ap (λ n. slice_index_or (p ∷ ps) n 0) next
+    ] h
 
 regions_of : (rs : List Region) → map (λ (i : Item). i.thing) (map region_item rs) ≡ map (λ (r : Region). region r.name) rs
 regions_of [] = refl
@@ -212,6 +212,7 @@ module _ (p : Source) (i : Image) (parts : IsParts i) where
       by_domain : (o : Option Device) (d : Option Domain) → option_and_then (λ (x : Device). domain_of p x.name) o ≡ d → option_map_or (λ (d : Device). dma_windows p d.name) o [] ≡ option_map_or (domain_windows p) d []
       by_domain None d e = ap (λ x. option_map_or (domain_windows p) x []) e
       by_domain (Some x) d e = ap (λ x. option_map_or (domain_windows p) x []) e
+
       of_domain : (d : Option Domain) → comes_to (led (address_of p i) (access_of (option_map_or (domain_windows p) d []) addr (if write then Write else Read))) ≡ told (option_map_or (λ (d : Domain). filter_map (numbered_window p.memory places) d.memory) d []) addr write
       of_domain None = refl
       of_domain (Some d) = sym (ap (λ ws. told ws addr write) (windows_shown d.memory) ∙ told_shown (domain_windows p d) addr write)

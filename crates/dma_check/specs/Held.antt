@@ -1,8 +1,12 @@
 -- Windows at the addresses of an image, and tables that are held against them.
-use Rattle.std.specs.Prelude.{◌≡◌, ℕ, ◌+◌, ◌-◌, ◌^◌, ◌<◌, ◌&&◌, Bool, nat_le, nat_lt, if◌then◌else◌, List, Option, Some, None}
+use Rattle.std.specs.Prelude.{◌≡◌, ℕ, ◌+◌, ◌-◌, ◌*◌, ◌^◌, ◌<◌, ◌&&◌, Bool, nat_le, nat_lt, if◌then◌else◌, List, Option, Some, None}
 use Rattle.std.specs.List.{find}
+use Rattle.dma_check.specs.Faults.{contents, expected, walk}
+use Rattle.dma_check.specs.Marked.{Marked, seen_in}
 use Rattle.dma_check.specs.Views.{View, has_page}
+use Rattle.dma_check.specs.declared.fault.TableFault.{TableFault}
 use Rattle.dma_check.specs.declared.held.DmaWindow.{DmaWindow}
+use Rattle.dma_check.specs.declared.path.Way.{Way}
 use Rattle.dma_tables.specs.DmaWalk.{root_page, word_of}
 use Rattle.dma_tables.specs.Lowered.{is_in_spans}
 use Rattle.dma_tables.specs.declared.file.DmaFile.{DmaFile}
@@ -34,3 +38,23 @@ AreFor declared source ws = (addr : ℕ) (write : Bool) → declared source addr
 -- no address in it is too large for 64 bits
 abbrev pub IsLow : DmaWindow → Type 0
 IsLow w = w.address < 2 ^ 63
+
+-- over whatever is declared for which these are the windows of a source
+abbrev pub OverDeclared : DmaFile → List SpanPart → List DmaWindow → ℕ → (View → Type 0) → Type 0
+OverDeclared t spans ws source Holds = (declared : ℕ → ℕ → Bool → Option ℕ) → AreFor declared source ws → Holds (view_by t spans declared)
+
+-- of the steps before a position each table of a file has its one path
+abbrev pub MarkedTo : DmaFile → List (Option Way) → ℕ → View → Type 0
+MarkedTo t ways q v = Marked v (seen_in (root_page t) ways) (6 * q)
+
+-- where there is no fault at a position, each table has its one path behind it too
+abbrev pub KeepsMarks : DmaFile → List (Option Way) → List (Option Way) → Option TableFault → ℕ → View → Type 0
+KeepsMarks t old new found q v = MarkedTo t old q v → found ≡ None → Marked v (seen_in (root_page t) new) (6 * q + 6)
+
+-- .. of all positions of a source
+abbrev pub KeepsMarksOf : DmaFile → List (Option Way) → List (Option Way) → Option TableFault → ℕ → View → Type 0
+KeepsMarksOf t old new found source v = MarkedTo t old (2 ^ 48 * source) v → found ≡ None → MarkedTo t new (2 ^ 48 * (source + 1)) v
+
+-- the fault of where accesses are led at a position
+abbrev pub contents_at : View → ℕ → Option TableFault
+contents_at v q = contents v.is_memory (walk v) (expected v) q

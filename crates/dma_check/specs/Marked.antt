@@ -82,3 +82,7 @@ has_outside is_table path =
     || (is_out is_table path.level_2
     || (is_out is_table path.level_1
     || is_out is_table path.level_0))))
+
+-- where the tables to which a position's walk comes are these, and of the steps before it each table has its one path
+abbrev pub WhereMarked : List (Option Way) → Path → ℕ → (View → Type 0) → Type 0
+WhereMarked ways path q Holds = (v : View) → IsPath v q path → Marked v (seen_in path.root ways) (6 * q) → Holds v

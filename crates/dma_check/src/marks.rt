@@ -1,7 +1,7 @@
 //! Which tables were come to, and by which path.
 ghost use Rattle.std.specs.Prelude.{◌&&◌, ◌≡◌, ◌<◌, ◌≤◌, ◌^◌, ◌*◌, ◌+◌, not, ℕ, Bool, List, Option, Some, None, true, false, IfOk, IfSome, length, vec_len};
 ghost use Rattle.dma_check.specs.Faults.{is_twice};
-ghost use Rattle.dma_check.specs.Marked.{AreWithin, IsPath, IsWithin, Marked, Marks, has_outside, is_out, seen_in};
+ghost use Rattle.dma_check.specs.Marked.{AreWithin, IsWithin, Marked, Marks, WhereMarked, has_outside, is_out, seen_in};
 ghost use Rattle.dma_check.specs.Views.{View, has_page};
 
 use crate::path::{Path, Way};
@@ -58,28 +58,57 @@ fn both(a: bool, b: bool) -> bool
 
 /// Marks the tables to which the walk for an address of a source comes, each with its path; `false` where
 /// one has another, since it was come to by that.
-pub(crate) fn mark_all(
-    ways: &mut Vec<Option<Way>>,
-    path: &Path,
-    source: u32,
-    addr: u64,
-) -> bool
+pub(crate) fn mark_all(ways: &mut Vec<Option<Way>>, path: &Path, source: u32, addr: u64) -> bool
     requires within { AreWithin path.now (vec_len ways.old) }
     requires source { source < 65536 }
     requires addr { addr < 2 ^ 48 }
     ensures long { vec_len ways.new ≡ vec_len ways.old }
-    ensures marks { (v : View) → IsPath v (2 ^ 48 * source + addr) path.now → Marked v (seen_in path.now.root ways.old.items) (6 * (2 ^ 48 * source + addr)) → result ≡ true → Marked v (seen_in path.now.root ways.new.items) (6 * (2 ^ 48 * source + addr) + 6) }
-    ensures twice { (v : View) → IsPath v (2 ^ 48 * source + addr) path.now → Marked v (seen_in path.now.root ways.old.items) (6 * (2 ^ 48 * source + addr)) → result ≡ false → is_twice v (2 ^ 48 * source + addr) ≡ true }
+    ensures marks { WhereMarked ways.old.items path.now (2 ^ 48 * source + addr) (λ v. result ≡ true → Marked v (seen_in path.now.root ways.new.items) (6 * (2 ^ 48 * source + addr) + 6)) }
+    ensures twice { WhereMarked ways.old.items path.now (2 ^ 48 * source + addr) (λ v. result ≡ false → is_twice v (2 ^ 48 * source + addr) ≡ true) }
 {
     let root = path.root;
     let highest = path.level_3.unwrap_or(0);
-    let context = Way { depth: 1, highest: 0, part: u64::from(source) / 256 };
-    let level_2 = Way { depth: 3, highest, part: addr / entry_size(3) };
-    let level_1 = Way { depth: 4, highest, part: addr / entry_size(2) };
-    let level_0 = Way { depth: 5, highest, part: addr / entry_size(1) };
-    let first = mark(ways, root, Some(root), Way { depth: 0, highest: 0, part: 0 });
+    let context = Way {
+        depth: 1,
+        highest: 0,
+        part: u64::from(source) / 256,
+    };
+    let level_2 = Way {
+        depth: 3,
+        highest,
+        part: addr / entry_size(3),
+    };
+    let level_1 = Way {
+        depth: 4,
+        highest,
+        part: addr / entry_size(2),
+    };
+    let level_0 = Way {
+        depth: 5,
+        highest,
+        part: addr / entry_size(1),
+    };
+    let first = mark(
+        ways,
+        root,
+        Some(root),
+        Way {
+            depth: 0,
+            highest: 0,
+            part: 0,
+        },
+    );
     let second = mark(ways, root, path.context, context);
-    let third = mark(ways, root, path.level_3, Way { depth: 2, highest, part: 0 });
+    let third = mark(
+        ways,
+        root,
+        path.level_3,
+        Way {
+            depth: 2,
+            highest,
+            part: 0,
+        },
+    );
     let fourth = mark(ways, root, path.level_2, level_2);
     let fifth = mark(ways, root, path.level_1, level_1);
     let last = mark(ways, root, path.level_0, level_0);

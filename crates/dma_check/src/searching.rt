@@ -1,14 +1,12 @@
 //! The first fault of tables at the addresses of a source.
-ghost use Rattle.std.specs.Prelude.{◌≡◌, ◌<◌, ◌≤◌, ◌^◌, ◌*◌, ◌+◌, ℕ, Bool, List, Option, Some, None, true, false, All, option_map, if◌then◌else◌, ◌&&◌, nat_le, nat_lt, not, vec_len};
+ghost use Rattle.std.specs.Prelude.{◌≡◌, ◌<◌, ◌^◌, ◌*◌, ◌+◌, Some, None, true, false, All, option_map, if◌then◌else◌, ◌&&◌, nat_le, nat_lt, not, vec_len};
 ghost use Rattle.std.specs.List.{find};
 ghost use Rattle.std.specs.Option.{option_map_or};
 ghost use Rattle.muen_num.specs.declared.limits.TheConstants.{PAGE};
-ghost use Rattle.dma_check.specs.Faults.{astray, contents, expected, fault_at, fault_of_kind, is_lack, same_end, walk};
-ghost use Rattle.dma_check.specs.Held.{AreFor, IsLow, has_address, told, told_by, view_by};
-ghost use Rattle.dma_check.specs.Marked.{IsPath, Marked, seen_in};
+ghost use Rattle.dma_check.specs.Faults.{astray, contents, fault_at, fault_of_kind, is_lack, same_end};
+ghost use Rattle.dma_check.specs.Held.{IsLow, KeepsMarks, KeepsMarksOf, MarkedTo, OverDeclared, contents_at, has_address, told, told_by};
 ghost use Rattle.dma_check.specs.Views.{table_at};
 ghost use Rattle.dma_tables.specs.DmaFile.{page_count_of};
-ghost use Rattle.dma_tables.specs.DmaWalk.{root_page};
 ghost use Rattle.dma_tables.specs.Lowered.{is_in_spans};
 ghost use Rattle.ept_check.specs.Search.{first_from};
 
@@ -188,7 +186,7 @@ fn contents_fault(
     requires low { All IsLow windows.now }
     requires source { source < 65536 }
     requires addr { addr < 2 ^ 48 }
-    ensures { (declared : ℕ → ℕ → Bool → Option ℕ) → AreFor declared source windows.now → highest ≡ table_at (view_by file.now spans.now declared) (2 ^ 48 * source + addr) 2 → result ≡ contents (is_in_spans spans.now) (walk (view_by file.now spans.now declared)) (expected (view_by file.now spans.now declared)) (2 ^ 48 * source + addr) }
+    ensures { OverDeclared file.now spans.now windows.now source (λ v. highest ≡ table_at v (2 ^ 48 * source + addr) 2 → result ≡ contents_at v (2 ^ 48 * source + addr)) }
 {
     let walked = Ends {
         read: walk(file, addr, false, highest),
@@ -215,8 +213,8 @@ fn fault_here(
     requires addr { addr < 2 ^ 48 }
     requires long { vec_len ways.old ≡ page_count_of file.now }
     ensures long { vec_len ways.new ≡ vec_len ways.old }
-    ensures found { (declared : ℕ → ℕ → Bool → Option ℕ) → AreFor declared source windows.now → Marked (view_by file.now spans.now declared) (seen_in (root_page file.now) ways.old.items) (6 * (2 ^ 48 * source + addr)) → result ≡ fault_at (view_by file.now spans.now declared) (2 ^ 48 * source + addr) }
-    ensures known { (declared : ℕ → ℕ → Bool → Option ℕ) → AreFor declared source windows.now → Marked (view_by file.now spans.now declared) (seen_in (root_page file.now) ways.old.items) (6 * (2 ^ 48 * source + addr)) → result ≡ None → Marked (view_by file.now spans.now declared) (seen_in (root_page file.now) ways.new.items) (6 * (2 ^ 48 * source + addr) + 6) }
+    ensures found { OverDeclared file.now spans.now windows.now source (λ v. MarkedTo file.now ways.old.items (2 ^ 48 * source + addr) v → result ≡ fault_at v (2 ^ 48 * source + addr)) }
+    ensures known { OverDeclared file.now spans.now windows.now source (KeepsMarks file.now ways.old.items ways.new.items result (2 ^ 48 * source + addr)) }
 {
     let path = path_of(file, source, addr);
     if is_outside(file, &path) {
@@ -241,8 +239,8 @@ pub(crate) fn source_fault(
     requires source { source < 65536 }
     requires long { vec_len ways.old ≡ page_count_of file.now }
     ensures long { vec_len ways.new ≡ vec_len ways.old }
-    ensures found { (declared : ℕ → ℕ → Bool → Option ℕ) → AreFor declared source windows.now → Marked (view_by file.now spans.now declared) (seen_in (root_page file.now) ways.old.items) (6 * (2 ^ 48 * source)) → result ≡ first_from (fault_at (view_by file.now spans.now declared)) (2 ^ 48 * source) (2 ^ 48) }
-    ensures known { (declared : ℕ → ℕ → Bool → Option ℕ) → AreFor declared source windows.now → Marked (view_by file.now spans.now declared) (seen_in (root_page file.now) ways.old.items) (6 * (2 ^ 48 * source)) → result ≡ None → Marked (view_by file.now spans.now declared) (seen_in (root_page file.now) ways.new.items) (6 * (2 ^ 48 * (source + 1))) }
+    ensures found { OverDeclared file.now spans.now windows.now source (λ v. MarkedTo file.now ways.old.items (2 ^ 48 * source) v → result ≡ first_from (fault_at v) (2 ^ 48 * source) (2 ^ 48)) }
+    ensures known { OverDeclared file.now spans.now windows.now source (KeepsMarksOf file.now ways.old.items ways.new.items result source) }
 {
     let mut addr = 0;
     while addr < GUEST_END {

@@ -1,6 +1,6 @@
-use Rattle.std.proofs.Common.{◌≡◌, ◌+◌, ◌*◌, ◌^◌, Bool, sym, ap, ◌∙◌}
+use Rattle.std.proofs.Common.{sym, ap, ◌∙◌}
 use Rattle.std.specs.Prelude.{◌&&◌}
-use Rattle.dma_check.proofs.MarkLaws.{IsUpTo, all_marked}
+use Rattle.dma_check.proofs.MarkLaws.{all_marked}
 use Rattle.dma_check.specs.Marked.{seen_in}
 use Rattle.dma_check.proofs.marks.mark_all.Goals as goal
 

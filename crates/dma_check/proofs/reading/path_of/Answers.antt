@@ -1,4 +1,3 @@
-use Rattle.std.proofs.Common.{◌∙◌, sym, ap}
 use Rattle.dma_check.proofs.PathIs.{path_is}
 use Rattle.dma_check.proofs.reading.path_of.Goals as goal
 

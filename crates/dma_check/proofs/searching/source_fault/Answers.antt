@@ -1,4 +1,4 @@
-use Rattle.std.proofs.Common.{◌≡◌, ◌+◌, ◌-◌, ◌*◌, ◌^◌, ◌<◌, ◌≤◌, ℕ, Bool, Option, Some, None, refl, sym, ap, subst, ◌∙◌, arith}
+use Rattle.std.proofs.Common.{◌≡◌, ◌+◌, ◌-◌, ◌*◌, ◌^◌, ℕ, Bool, Option, None, refl, sym, subst, ◌∙◌, arith}
 use Rattle.dma_check.proofs.Found.{found_here, none_at_start, none_further, none_so_far}
 use Rattle.dma_check.specs.Faults.{fault_at}
 use Rattle.dma_check.specs.Held.{AreFor, view_by}
@@ -28,12 +28,12 @@ loop-addr-preserved c =
     let source = c.args.source in
     let addr = c.loop-addr.addr in
     let further : (declared : ℕ → ℕ → Bool → Option ℕ) → AreFor declared source c.args.windows.now → Marked (view_by c.args.file.now c.args.spans.now declared) (seen_in (root_page c.args.file.now) c.args.ways.now.items) (6 * (2 ^ 48 * source))
-        → (first_from (fault_at (view_by c.args.file.now c.args.spans.now declared)) (2 ^ 48 * source + addr) c.kept-addr.result ≡ None) × Marked (view_by c.args.file.now c.args.spans.now declared) (seen_in (root_page c.args.file.now) c.fault_here.new.ways.items) (6 * (2 ^ 48 * source + (addr + c.kept-addr.result))) = λ declared own known.
-        let v = view_by c.args.file.now c.args.spans.now declared in
-        let before = c.loop-addr.invariant.known declared own known in
-        none_further v c.args.windows.now source addr c.loop-addr-test.true own (seen_in (root_page c.args.file.now) c.fault_here.new.ways.items) c.level_of.result c.kept-addr.result (c.end_of-end.result - addr)
-        (c.in_default.ensures.known declared own before refl) (sym (c.in_default.ensures.found declared own before))
-        (c.level_of.ensures.reaches v (2 ^ 48 * source + addr) (c.path_of.ensures c.args.spans.now declared)) (c.end_of-end.ensures.alike source) c.kept-addr.ensures.some c.kept-addr.ensures.most c.kept-addr.ensures.keeps in
+    → (first_from (fault_at (view_by c.args.file.now c.args.spans.now declared)) (2 ^ 48 * source + addr) c.kept-addr.result ≡ None) × Marked (view_by c.args.file.now c.args.spans.now declared) (seen_in (root_page c.args.file.now) c.fault_here.new.ways.items) (6 * (2 ^ 48 * source + (addr + c.kept-addr.result))) = λ declared own known.
+    let v = view_by c.args.file.now c.args.spans.now declared in
+    let before = c.loop-addr.invariant.known declared own known in
+    none_further v c.args.windows.now source addr c.loop-addr-test.true own (seen_in (root_page c.args.file.now) c.fault_here.new.ways.items) c.level_of.result c.kept-addr.result (c.end_of-end.result - addr)
+    (c.in_default.ensures.known declared own before refl) (sym (c.in_default.ensures.found declared own before))
+    (c.level_of.ensures.reaches v (2 ^ 48 * source + addr) (c.path_of.ensures c.args.spans.now declared)) (c.end_of-end.ensures.alike source) c.kept-addr.ensures.some c.kept-addr.ensures.most c.kept-addr.ensures.keeps in
     record {
       low = omega (arith, c.end_of-end.ensures.low, c.kept-addr.ensures.most, c.end_of-end.ensures.more);
       long = c.fault_here.ensures.long ∙ c.loop-addr.invariant.long;
