@@ -23,7 +23,7 @@ use Rattle.muen_num.specs.Search.{first_of}
 
 -- ---- the steps below the root
 
-any_step : (test : ℕ → Bool) (n : ℕ) → n < 6 → test n ≡ true → list_any test steps ≡ true
+pub any_step : (test : ℕ → Bool) (n : ℕ) → n < 6 → test n ≡ true → list_any test steps ≡ true
 any_step test zero l h = or_left (test 0) _ h
 any_step test (suc zero) l h = or_right (test 0) _ (or_left (test 1) _ h)
 any_step test (suc (suc zero)) l h = or_right (test 0) _ (or_right (test 1) _ (or_left (test 2) _ h))
@@ -39,7 +39,7 @@ each_step test none n l = elim (cases_Bool (test n)) [
   | inr e ↦ e
 ]
 
-no_step : (test : ℕ → Bool) → ((n : ℕ) → n < 6 → test n ≡ false) → list_any test steps ≡ false
+pub no_step : (test : ℕ → Bool) → ((n : ℕ) → n < 6 → test n ≡ false) → list_any test steps ≡ false
 no_step test h =
     let a = h 0 (omega arith) in
     let b = h 1 (omega arith) in
@@ -140,7 +140,7 @@ pub contents_only : (v : View) (q : ℕ) → is_outside v q ≡ false → is_twi
 unfolding fault_at
 contents_only v q a b = rw (a, b) (option_or-None (contents v.is_memory (walk v) (expected v) q))
 
-inside : (v : View) (q : ℕ) → fault_at v q ≡ None → is_outside v q ≡ false
+pub inside : (v : View) (q : ℕ) → fault_at v q ≡ None → is_outside v q ≡ false
 inside v q h = elim (cases_Bool (is_outside v q)) [
   | inr e ↦ e
   | inl e ↦ let bad = sym h ∙ outside_first v q e in absurd (cc)
@@ -157,21 +157,21 @@ led_well v q h = contents_led v.is_memory (walk v) (expected v) q (sym (contents
 
 -- ---- all positions
 
-how_many : positions ≡ 2 ^ 48 * SOURCES
+pub how_many : positions ≡ 2 ^ 48 * SOURCES
 unfolding positions
 how_many = refl
 
-fault_from : (v : View) → table_fault v ≡ first_from (fault_at v) 0 positions
+pub fault_from : (v : View) → table_fault v ≡ first_from (fault_at v) 0 positions
 unfolding table_fault
 fault_from v = in_below (fault_at v) positions
 
 no_fault : (v : View) → table_fault v ≡ None → (q : ℕ) → q < positions → fault_at v q ≡ None
 no_fault v h q l = none_at (fault_at v) 0 positions (sym (fault_from v) ∙ h) q (omega arith) (omega (arith, l))
 
-in_source : (source addr : ℕ) → addr < 2 ^ 48 → source_of (2 ^ 48 * source + addr) ≡ source
+pub in_source : (source addr : ℕ) → addr < 2 ^ 48 → source_of (2 ^ 48 * source + addr) ≡ source
 in_source source addr l = omega (arith, l)
 
-in_range : (source addr : ℕ) → addr < 2 ^ 48 → addr_of (2 ^ 48 * source + addr) ≡ addr
+pub in_range : (source addr : ℕ) → addr < 2 ^ 48 → addr_of (2 ^ 48 * source + addr) ≡ addr
 in_range source addr l = omega (arith, l)
 
 below_all : (source addr : ℕ) → source < SOURCES → addr < 2 ^ 48 → 2 ^ 48 * source + addr < positions
@@ -217,7 +217,7 @@ sound v h = record {
 
 -- ---- paths
 
-same_of : (a b : Option ℕ) (t : ℕ) → a ≡ Some t → b ≡ Some t → same_table a b ≡ true
+pub same_of : (a b : Option ℕ) (t : ℕ) → a ≡ Some t → b ≡ Some t → same_table a b ≡ true
 same_of a b t e f = rw (e, f) (eq-eqb t t refl)
 
 table_turned : (a b : Option ℕ) → same_table a b ≡ true → same_table b a ≡ true
@@ -259,7 +259,7 @@ one_path v h p m q n t a b r s = elim (cases_lt p q) [
 -- ---- sound on one path, then no fault
 
 -- tables of which one is read on one path alone don't clash
-apart : (v : View) (p m q n : ℕ) → ((t : ℕ) → table_at v p m ≡ Some t → table_at v q n ≡ Some t → same_path v p m q n ≡ true) → is_clash v q n p m ≡ false
+pub apart : (v : View) (p m q n : ℕ) → ((t : ℕ) → table_at v p m ≡ Some t → table_at v q n ≡ Some t → same_path v p m q n ≡ true) → is_clash v q n p m ≡ false
 apart v p m q n h = elim (cases_Bool (same_path v p m q n)) [
   | inl e ↦ rw e (and_false (same_table (table_at v p m) (table_at v q n)))
   | inr e ↦

@@ -3,3 +3,7 @@ pub mod Views
 pub mod Faults
 pub mod Sound
 pub mod Verdict
+pub mod Held
+pub mod Marked
+pub mod Pieces
+pub mod Numbered

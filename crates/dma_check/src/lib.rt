@@ -3,10 +3,19 @@
 //! wrong with them.
 #![tactic(auto)]
 
+mod checking;
 mod fault;
+mod held;
 mod laws;
 mod listing;
+mod marks;
+mod path;
+mod pieces;
+mod reading;
+mod searching;
+mod windows;
 
+pub use checking::check;
 pub use fault::{DmaFault, FaultKind, TableFault};
 pub use laws::verdicts_tell;
 pub use listing::listing_fault;

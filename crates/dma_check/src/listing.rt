@@ -46,9 +46,9 @@ fn is_source(source: u32, device: &Device) -> bool
     }
 }
 
-// The policy's device that is this source.
+/// The policy's device that is this source.
 #[tactic(auto, unfolding(policy_lawful::specs::Resolution::source_of))]
-fn device_of(policy: &Resolved, source: u32) -> Option<&Device>
+pub(crate) fn device_of(policy: &Resolved, source: u32) -> Option<&Device>
     requires { source < 65536 }
     ensures { option_map (λ d. d.now) result ≡ device_of (source_of policy.now) source }
 {
@@ -72,9 +72,9 @@ fn stands_in(domain: &Domain, device: &Name) -> bool
     domain.devices.items().iter().any(|name| *name == *device)
 }
 
-// The domain in which a device stands.
+/// The domain in which a device stands.
 #[tactic(auto, unfolding(policy_lawful::specs::Resolution::source_of))]
-fn domain_of<'a>(policy: &'a Resolved, device: &Name) -> Option<&'a Domain>
+pub(crate) fn domain_of<'a>(policy: &'a Resolved, device: &Name) -> Option<&'a Domain>
     ensures { option_map (λ d. d.now) result ≡ domain_of (source_of policy.now) device.now }
 {
     policy
