@@ -9,6 +9,7 @@ use Rattle.std.proofs.lemmas.List.{map-append}
 use Rattle.std.proofs.lemmas.List.Elements.{All-cons, All-nil, filter_map-append}
 use Rattle.std.proofs.lemmas.Option.{same_Some, slice_get_past}
 use Rattle.std.proofs.lemmas.List.Folds.{find_at}
+use Rattle.muen_num.proofs.Lists.{some_below}
 use Rattle.muen_num.proofs.Lookups.{found_passes}
 use Rattle.std.proofs.lemmas.Slice.Eq.{bytes_eq-Decides}
 use Rattle.std.proofs.lemmas.Slice.Zip.{AllZip-long}
@@ -137,14 +138,9 @@ some_by_position test xs x h f = elim (cases_lt (position_or_len test xs) (lengt
   | inr l ↦ absurd (let bad = sym (sym (find_at test xs) ∙ h) ∙ slice_get_past xs (position_or_len test xs) l in cc)
 ]
 
-some_there : {X : Type 0} (xs : List X) (k : ℕ) → k < length xs → slice_get xs k ≡ None → ⊥
-some_there [] k l h = omega (arith, l)
-some_there (x ∷ xs) zero l h = absurd (cc)
-some_there (x ∷ xs) (suc k) l h = some_there xs k (omega (arith, l)) h
-
 pub none_by_position : {X Y : Type 0} (test : X → Bool) (xs : List X) → find test xs ≡ None → (f : ℕ → Option Y) → option_and_then f (position test xs) ≡ None
 none_by_position test xs h f = elim (cases_lt (position_or_len test xs) (length xs)) [
-  | inl l ↦ absurd (some_there xs (position_or_len test xs) l (sym (find_at test xs) ∙ h))
+  | inl l ↦ absurd (some_below xs (position_or_len test xs) l (sym (find_at test xs) ∙ h))
   | inr l ↦ let high = le-ltb (position_or_len test xs) (length xs) l in rw high refl
 ]
 
