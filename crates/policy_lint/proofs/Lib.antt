@@ -1,0 +1,4 @@
+pub mod All
+pub mod ContentsTold
+pub mod FilesLooked
+pub mod Linting

@@ -1,0 +1,3 @@
+pub mod All
+pub mod Linting
+pub mod Seen
