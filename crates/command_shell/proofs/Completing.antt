@@ -10,8 +10,8 @@ use Rattle.muen_outside.specs.States.{History, Look, Write, look, looked, write}
 use Rattle.muen_outside.specs.Store.{Reading, Store, absent, long, reading_of, whole}
 use Rattle.muen_outside.specs.declared.files.FileError.{FileError}
 use Rattle.muen_outside.specs.declared.files.FileError.TheVariants.{Failed as FilesFailed, NoMemory as FilesMemory}
-use Rattle.command_shell.specs.Answers.{Answer, Plan, prints, writes, refuses, answers, looks_at}
-use Rattle.command_shell.specs.Calls.{Comes, Does, DoesOrNot, Ends, IsCallOf, PutsAll, PutsFront, Runs, Stops, WriteEnds}
+use Rattle.command_shell.specs.Answers.{Answer, Plan, prints, writes, refuses, answers, looks_at, takes_memory}
+use Rattle.command_shell.specs.Calls.{Comes, Does, DoesOrNot, Ends, IsCallOf, LacksMemory, PutsAll, PutsFront, Runs, Stops, WriteEnds}
 use Rattle.command_shell.specs.Complete.{Answered, AnsweredBy, Follows, IsComplete, IsRefused, IsWhole, NothingFails}
 use Rattle.command_shell.specs.Texts.{Told, error_line}
 use Rattle.command_shell.specs.declared.status.Status.{Status}
@@ -128,10 +128,16 @@ module _ {O : Type 0} (program : List ℕ) (e : Ends O) (puts : e.out'.faults �
     after_look (Err FilesMemory) comes rest =
         record { more = this (Err FilesMemory) ∷ []; looks = ap (λ x. x.looks) comes.0; whole = λ none. inl comes.1.ended }
 
+  -- memory was asked for
+  in_memory : (plan : Plan O) (before : History) → (Runs program e plan before → Ran plan before) → Runs program e plan before ⊎ LacksMemory program e before → Ran (takes_memory plan) before
+  in_memory plan before rest (inl runs) = let r = rest runs in record { more = r.more; looks = r.looks; whole = r.whole }
+  in_memory plan before rest (inr n) = record { more = []; looks = ap (λ h. h.looks) n.0 ∙ sym (append-nil before.looks); whole = λ none. inl n.1.ended }
+
   ran : (plan : Plan O) (before : History) → before.writes ≡ e.before.writes → Runs program e plan before → Ran plan before
   ran (answers answer) before unwritten d = answered answer before unwritten d
   ran (looks_at name most next) before unwritten h =
       after_look name most next before unwritten h.0 h.2 (λ bytes runs. ran (next bytes) (looked before (look name most (Ok (whole bytes)) ∷ [])) unwritten runs)
+  ran (takes_memory plan) before unwritten h = in_memory plan before (λ runs. ran plan before unwritten runs) h
 
 -- ---- a call
 

@@ -7,7 +7,7 @@ use Rattle.muen_outside.specs.Store.{Reading, Store, absent, long, whole}
 use Rattle.muen_outside.specs.declared.files.FileError.{FileError}
 use Rattle.muen_outside.specs.declared.files.FileError.TheVariants.{Failed as FilesFailed, NoMemory as FilesMemory}
 use Rattle.muen_outside.proofs.Explained.{told_none}
-use Rattle.command_shell.specs.Answers.{Answer, Plan, prints, writes, refuses, answers, looks_at}
+use Rattle.command_shell.specs.Answers.{Answer, Plan, prints, writes, refuses, answers, looks_at, takes_memory}
 use Rattle.command_shell.specs.Calls.{DoesOrNot, Ends, IsCallOf, Runs, Stops, WriteEnds}
 use Rattle.command_shell.specs.Errors.{Reported, Telling, error_status, error_text, status_of}
 use Rattle.command_shell.specs.Outcomes.{ComesOf, ComesTo, PutsTo, Reaches, StopsAt, ends_with}
@@ -64,6 +64,53 @@ pub reaches_next : {O : Type 0} (program : List ℕ) (held : Option Store) (name
     → Saw name most (Ok (whole bytes)) held old new → Reaches program (looks_at name most next) (next bytes) held old new
 reaches_next program held name most next old new bytes saw =
     reaches_then program held name most next old new new bytes saw (next bytes) (reaches_itself program held (next bytes) new)
+
+-- ---- one plan behind another
+
+-- these looks, and then those
+looked_more : (old mid new : History) (ls more : List Look) → mid ≡ looked old ls → new ≡ looked mid more → new ≡ looked old (ls ++ more)
+looked_more old mid new ls more first then =
+    then ∙ ap (λ h. looked h more) first ∙ ap (λ x. record { looks = x; writes = old.writes }) (append_assoc old.looks ls more)
+
+told_more : (held : Option Store) (ls more : List Look) → IfSome held (λ m. ShowAll m ls) → IfSome held (λ m. ShowAll m more) → IfSome held (λ m. ShowAll m (ls ++ more))
+told_more held [] more a b = b
+told_more held (l ∷ ls) more a b = told_then held l (ls ++ more) (told_first held a) (told_more held ls more (told_rest held a) b)
+  where
+    told_first : (held : Option Store) → IfSome held (λ m. ShowAll m (l ∷ ls)) → IfSome held (λ m. ShowAll m (l ∷ []))
+    told_first None a = tt
+    told_first (Some m) a = (a.0, tt)
+
+    told_rest : (held : Option Store) → IfSome held (λ m. ShowAll m (l ∷ ls)) → IfSome held (λ m. ShowAll m ls)
+    told_rest None a = tt
+    told_rest (Some m) a = a.1
+
+module _ {R O : Type 0} (t : Telling R O) (plan rest : Plan O) (held : Option Store) (old mid new : History) (r : Reaches t.name plan rest held old mid) where
+  -- what goes on as another plan goes on as that one does
+  pub reaches_behind : (last : Plan O) → Reaches t.name rest last held mid new → Reaches t.name plan last held old new
+  reaches_behind last b = record {
+    looks = r.looks ++ b.looks;
+    history = looked_more old mid new r.looks b.looks r.history b.history;
+    told = told_more held r.looks b.looks r.told b.told;
+    goes = λ e runs. r.goes e (b.goes e runs);
+  }
+
+  -- .. and ends as that one does
+  pub stops_behind : (error : CommandError R) → StopsAt t rest held mid new error → StopsAt t plan held old new error
+  stops_behind error b = record {
+    looks = r.looks ++ b.looks;
+    history = looked_more old mid new r.looks b.looks r.history b.history;
+    told = told_more held r.looks b.looks r.told b.told;
+    comes = λ e after stops. r.goes e (b.comes e after stops);
+  }
+
+module _ {R O : Type 0} (t : Telling R O) (plan rest : Plan O) (held : Option Store) (old new : History) (r : Reaches t.name plan (takes_memory rest) held old new) where
+  -- memory was there
+  pub reaches_in_memory : Reaches t.name plan rest held old new
+  reaches_in_memory = record { looks = r.looks; history = r.history; told = r.told; goes = λ e runs. r.goes e (inl runs) }
+
+  -- .. or not
+  pub without_room : StopsAt t plan held old new NoMemory
+  without_room = record { looks = r.looks; history = r.history; told = r.told; comes = λ e after stops. r.goes e (inr (after, stops)) }
 
 -- ---- of a command
 

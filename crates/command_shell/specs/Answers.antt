@@ -14,3 +14,5 @@ pub data Answer (O : Type 0) : Type 0 where
 pub data Plan (O : Type 0) : Type 0 where
   answers : Answer O → Plan O
   looks_at : List ℕ → ℕ → (List ℕ → Plan O) → Plan O
+  -- memory is asked for, and then this follows
+  takes_memory : Plan O → Plan O

@@ -7,7 +7,7 @@ use Rattle.muen_outside.specs.States.{History, SinkState, look, looked, write, w
 use Rattle.muen_outside.specs.Store.{Reading, whole, absent, long}
 use Rattle.muen_outside.specs.declared.files.FileError.{FileError}
 use Rattle.muen_outside.specs.declared.files.FileError.TheVariants.{Failed as FilesFailed, NoMemory as FilesMemory}
-use Rattle.command_shell.specs.Answers.{Answer, Plan, prints, writes, refuses, answers, looks_at}
+use Rattle.command_shell.specs.Answers.{Answer, Plan, prints, writes, refuses, answers, looks_at, takes_memory}
 use Rattle.command_shell.specs.Texts.{Told, missing_text, too_long_text}
 use Rattle.command_shell.specs.declared.status.Status.{Status}
 use Rattle.command_shell.specs.declared.status.Status.TheVariants as statuses
@@ -61,10 +61,13 @@ Does program e seen (writes name bytes) =
     (end : Result (Unit {0}) FileError) × (e.after ≡ written seen (write name bytes end ∷ [])) × WriteEnds program e end
 Does program e seen (refuses own text) = (e.after ≡ seen) × Stops program e (statuses.Own own) text
 
--- .. or memory was refused, and nothing is done
+-- memory was refused, and nothing is done after these calls on files
+abbrev pub LacksMemory : {O : Type 0} → List ℕ → Ends O → History → Type 0
+LacksMemory program e seen = (e.after ≡ seen) × Stops program e statuses.NoMemory (file_error_text FilesMemory)
+
+-- what is answered is done, or memory was refused
 abbrev pub DoesOrNot : {O : Type 0} → List ℕ → Ends O → History → Answer O → Type 0
-DoesOrNot program e seen answer =
-    Does program e seen answer ⊎ ((e.after ≡ seen) × Stops program e statuses.NoMemory (file_error_text FilesMemory))
+DoesOrNot program e seen answer = Does program e seen answer ⊎ LacksMemory program e seen
 
 -- what comes of what a look at the file of this name gave: what follows from its bytes, or a line that says why there are none
 abbrev pub Comes : {O : Type 0} → List ℕ → Ends O → List ℕ → (List ℕ → Type 0) → History → Result Reading FileError → Type 0
@@ -84,6 +87,7 @@ LooksAt program e name most next before =
 abbrev pub Runs : {O : Type 0} → List ℕ → Ends O → Plan O → History → Type 0
 Runs program e (answers answer) before = DoesOrNot program e before answer
 Runs program e (looks_at name most next) before = LooksAt program e name most (λ seen bytes. Runs program e (next bytes) seen) before
+Runs program e (takes_memory plan) before = Runs program e plan before ⊎ LacksMemory program e before
 
 -- ---- calls
 

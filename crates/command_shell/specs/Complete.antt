@@ -7,7 +7,7 @@ use Rattle.muen_outside.specs.Puts.{Appended}
 use Rattle.muen_outside.specs.States.{write}
 use Rattle.muen_outside.specs.Store.{Reading, Store, absent, long, reading_of, whole}
 use Rattle.muen_outside.specs.declared.files.FileError.TheVariants.{Failed}
-use Rattle.command_shell.specs.Answers.{Answer, Plan, prints, writes, refuses, answers, looks_at}
+use Rattle.command_shell.specs.Answers.{Answer, Plan, prints, writes, refuses, answers, looks_at, takes_memory}
 use Rattle.command_shell.specs.Calls.{Ends}
 use Rattle.command_shell.specs.Texts.{error_line, missing_text, too_long_text}
 use Rattle.command_shell.specs.declared.status.Status.{Status}
@@ -57,6 +57,7 @@ Follows program e name next (long n) = IsRefused program e statuses.FileMissing 
 abbrev pub AnsweredBy : {O : Type 0} → Store → List ℕ → Ends O → Plan O → Type 0
 AnsweredBy m program e (answers answer) = IsWhole program e answer
 AnsweredBy m program e (looks_at name most next) = Follows program e name (λ bytes. AnsweredBy m program e (next bytes)) (reading_of (get m name) most)
+AnsweredBy m program e (takes_memory plan) = AnsweredBy m program e plan
 
 -- .. or tells the forms, where the words have none
 abbrev pub Answered : {O : Type 0} → Store → List ℕ → List ℕ → Ends O → Option (Plan O) → Type 0
