@@ -6,6 +6,7 @@ use Rattle.command_shell.specs.Reads.{NotRead, Saw}
 use Rattle.command_shell.specs.declared.error.CommandError.{CommandError}
 use Rattle.command_shell.specs.declared.error.CommandError.TheVariants.{Usage, Missing, TooLong, FileFault, OutputFault, NoMemory, Own}
 use Rattle.command_shell.proofs.Ending.{not_read, reaches_next, reaches_then, refused as refused_at, stops_then, without_memory}
+use Rattle.command_shell.specs.declared.status.Status.TheVariants.{Own as OwnStatus}
 use Rattle.muen_outside.specs.States.{History, SinkState}
 use Rattle.muen_outside.specs.Store.{Store, whole}
 use Rattle.asm_top.specs.Answers.{ended, line_feeds, of_source, of_text, plan_of, source_plan}
@@ -28,7 +29,7 @@ module _ (names : Option (List ℕ)) (source front items : List ℕ) (held : Opt
 
   says_none : (error : CommandError Refusal) → NotSaid names source front items error → StopsAt assembler plan held old new error
   says_none (Own refusal) h =
-      refused_at assembler plan held old new SourceRefused (fault_text names source (line_feeds front) h.fault)
+      refused_at assembler plan held old new (OwnStatus SourceRefused) (fault_text names source (line_feeds front) h.fault)
       (subst (λ a. Reaches assembler.name plan (answers (of_source (fault_text names source (line_feeds front)) next a)) held old new) h.is r) refusal refl h.tells
   says_none NoMemory h = without_memory assembler plan held old new (of_text names source next front items) r
   says_none Usage h = absurd h

@@ -6,6 +6,7 @@ use Rattle.asm_listing.specs.Source.{source_of}
 use Rattle.asm_text.specs.Meaning.{assembled}
 use Rattle.asm_text.specs.declared.fault.SourceFault.{SourceFault}
 use Rattle.command_shell.specs.Answers.{Answer, Plan, prints, writes, refuses, answers, looks_at}
+use Rattle.command_shell.specs.declared.status.Status.TheVariants.{Own}
 use Rattle.muen_num.specs.declared.limits.TheConstants.{COMPONENT_FILE_MOST}
 use Rattle.asm_top.specs.Commands.{Command, hex, lines, bin, text}
 use Rattle.asm_top.specs.Refusals.{fault_text}
@@ -27,7 +28,7 @@ line_feeds items = length (filter (λ c. c == 10) items)
 -- what follows from the bytes that a source says; or it is refused, with the text of its fault
 abbrev pub of_source : (SourceFault → List ℕ) → (List ℕ → Answer AssemblerStatus) → Result (List ℕ) SourceFault → Answer AssemblerStatus
 of_source tell next (Ok bytes) = next bytes
-of_source tell next (Err fault) = refuses SourceRefused (tell fault)
+of_source tell next (Err fault) = refuses (Own SourceRefused) (tell fault)
 
 -- .. of a text, before which this front stands
 abbrev pub of_text : Option (List ℕ) → List ℕ → (List ℕ → Answer AssemblerStatus) → List ℕ → List ℕ → Answer AssemblerStatus

@@ -2,7 +2,7 @@
 use Rattle.std.specs.Prelude.{ℕ, List, [], ◌∷◌, Option, Some, None, option_and_then, option_map, codes, nat_lt, if◌then◌else◌}
 use Rattle.std.specs.Borrow.{Bor}
 use Rattle.std.specs.Str.{bytes_eq}
-use Rattle.command_shell.specs.Forms.{Row, command_in}
+use Rattle.command_shell.specs.Forms.{Row, command_in, row}
 use Rattle.muen_num.specs.declared.limits.TheConstants.{GUEST_END}
 use Rattle.asm_text.specs.Words.{number_in}
 use Rattle.asm_top.specs.declared.command.Kind.{Kind}
@@ -19,9 +19,6 @@ pub data Command : Type 0 where
   text : List ℕ → Command
 
 -- ---- the forms
-
-abbrev pub row : List ℕ → List (List ℕ) → Kind → Row Kind
-row word parameters command = record { word = word; parameters = parameters; command = command }
 
 abbrev pub forms : List (Row Kind)
 forms =

@@ -6,6 +6,8 @@ use Rattle.asm_text.specs.declared.fault.SourceFault.TheVariants.{At as AtPlace,
 use Rattle.asm_text.specs.declared.fault.Want.{Want}
 use Rattle.command_shell.specs.Errors.{Telling}
 use Rattle.command_shell.specs.Forms.{usage_text}
+use Rattle.command_shell.specs.declared.status.Status.{Status}
+use Rattle.command_shell.specs.declared.status.Status.TheVariants.{Own}
 use Rattle.muen_num.specs.Memory.{no_memory_text}
 use Rattle.asm_top.specs.Commands.{forms}
 use Rattle.asm_top.specs.declared.refusal.Refusal.{Refusal}
@@ -28,8 +30,8 @@ abbrev pub refusal_text : Refusal → List ℕ
 refusal_text (Alone line column want) = source_fault_text (AtPlace line column want)
 refusal_text (In file line column want) = place_text file.now line column want
 
-abbrev pub refusal_status : Refusal → AssemblerStatus
-refusal_status refusal = SourceRefused
+abbrev pub refusal_status : Refusal → Status AssemblerStatus
+refusal_status refusal = Own SourceRefused
 
 -- the program's name, its forms, and its own reasons
 abbrev pub assembler : Telling Refusal AssemblerStatus

@@ -5,7 +5,7 @@ ghost use Rattle.muen_outside.specs.Puts.{Puts};
 ghost use Rattle.command_shell.specs.Texts.{error_line};
 ghost use Rattle.asm_top.specs.Refusals.{refusal_status, refusal_text};
 
-use crate::status::AssemblerStatus;
+use crate::status::{AssemblerStatus, Status};
 use asm_text::{SourceFault, Want};
 use command_shell::{Reason, put_error_line};
 use itoa::Buffer;
@@ -68,8 +68,8 @@ impl Reason for Refusal<'_> {
 
     ghost status = { refusal_status };
 
-    fn status(&self) -> AssemblerStatus {
-        AssemblerStatus::SourceRefused
+    fn status(&self) -> Status {
+        Status::Own(AssemblerStatus::SourceRefused)
     }
 
     fn put_line<E: Sink>(&self, program: &str, err: &mut E) -> Result<(), SinkFault> {

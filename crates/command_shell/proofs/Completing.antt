@@ -56,7 +56,7 @@ module _ {O : Type 0} (program : List ℕ) (e : Ends O) (puts : e.out'.faults �
     does_whole (writes name bytes) d =
         let all : e.after.writes ≡ e.before.writes ++ write name bytes d.0 ∷ [] = ap (λ h. h.writes) d.1 ∙ ap (λ ws. ws ++ write name bytes d.0 ∷ []) unwritten in
         wrote name bytes d.0 (behind e.before.writes (write name bytes d.0 ∷ []) e.after.writes all) d.2
-    does_whole (refuses own text) d = inr (refused (statuses.Own own) text (ap (λ h. h.writes) d.0 ∙ unwritten) d.1)
+    does_whole (refuses status text) d = inr (refused status text (ap (λ h. h.writes) d.0 ∙ unwritten) d.1)
 
     -- a file isn't read
     unread : (status : Status O) (text : List ℕ) → (e.after ≡ seen) × Stops program e status text → IsRefused program e status text
@@ -70,7 +70,7 @@ module _ {O : Type 0} (program : List ℕ) (e : Ends O) (puts : e.out'.faults �
   does_looks : (seen : History) (answer : Answer O) → DoesOrNot program e seen answer → e.after.looks ≡ seen.looks
   does_looks seen (prints text) (inl d) = ap (λ h. h.looks) d.0
   does_looks seen (writes name bytes) (inl d) = ap (λ h. h.looks) d.1
-  does_looks seen (refuses own text) (inl d) = ap (λ h. h.looks) d.0
+  does_looks seen (refuses status text) (inl d) = ap (λ h. h.looks) d.0
   does_looks seen answer (inr n) = ap (λ h. h.looks) n.0
 
   -- ---- of a plan

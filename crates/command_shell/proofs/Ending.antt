@@ -15,6 +15,7 @@ use Rattle.command_shell.specs.Reads.{NotRead, Saw, Wrote, WritesTo}
 use Rattle.command_shell.specs.Texts.{missing_text, too_long_text}
 use Rattle.command_shell.specs.declared.error.CommandError.{CommandError}
 use Rattle.command_shell.specs.declared.error.CommandError.TheVariants.{Usage, Missing, TooLong, FileFault, OutputFault, NoMemory, Own}
+use Rattle.command_shell.specs.declared.status.Status.{Status}
 use Rattle.command_shell.specs.declared.status.Status.TheVariants as statuses
 
 -- ---- looks
@@ -145,13 +146,13 @@ module _ {R O : Type 0} (t : Telling R O) where
 
   module _ (plan : Plan O) (held : Option Store) (old new : History) where
     -- what was asked for is refused
-    pub refused : (own : O) (text : List ℕ) → Reaches t.name plan (answers (refuses own text)) held old new → (reason : R) → t.status reason ≡ own → t.text reason ≡ text → StopsAt t plan held old new (Own reason)
-    refused own text r reason status says = record {
+    pub refused : (status : Status O) (text : List ℕ) → Reaches t.name plan (answers (refuses status text)) held old new → (reason : R) → t.status reason ≡ status → t.text reason ≡ text → StopsAt t plan held old new (Own reason)
+    refused status text r reason same says = record {
       looks = r.looks;
       history = r.history;
       told = r.told;
       comes = λ e after stops.
-          r.goes e (inl (after, subst (λ x. Stops t.name e (statuses.Own own) x) says (subst (λ s. Stops t.name e (statuses.Own s) (t.text reason)) status stops)));
+          r.goes e (inl (after, subst (λ x. Stops t.name e status x) says (subst (λ s. Stops t.name e s (t.text reason)) same stops)));
     }
 
     -- memory was refused for an answer

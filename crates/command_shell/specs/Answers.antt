@@ -1,5 +1,6 @@
 -- What a command answers, and by which files.
 use Rattle.std.specs.Prelude.{ℕ, List}
+use Rattle.command_shell.specs.declared.status.Status.{Status}
 
 -- an answer, where a program has these statuses of its own
 pub data Answer (O : Type 0) : Type 0 where
@@ -8,7 +9,7 @@ pub data Answer (O : Type 0) : Type 0 where
   -- these bytes are written under this name
   writes : List ℕ → List ℕ → Answer O
   -- what was asked for is refused: with this status and this text
-  refuses : O → List ℕ → Answer O
+  refuses : Status O → List ℕ → Answer O
 
 -- an answer that comes of files, looked at one after another: by the name of each, its limit, and what follows from its bytes
 pub data Plan (O : Type 0) : Type 0 where

@@ -59,7 +59,7 @@ abbrev pub Does : {O : Type 0} → List ℕ → Ends O → History → Answer O 
 Does program e seen (prints text) = (e.after ≡ seen) × (PutsAll e text ⊎ PutsFront program e text)
 Does program e seen (writes name bytes) =
     (end : Result (Unit {0}) FileError) × (e.after ≡ written seen (write name bytes end ∷ [])) × WriteEnds program e end
-Does program e seen (refuses own text) = (e.after ≡ seen) × Stops program e (statuses.Own own) text
+Does program e seen (refuses status text) = (e.after ≡ seen) × Stops program e status text
 
 -- memory was refused, and nothing is done after these calls on files
 abbrev pub LacksMemory : {O : Type 0} → List ℕ → Ends O → History → Type 0

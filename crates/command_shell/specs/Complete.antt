@@ -45,7 +45,7 @@ pub record IsWritten {O : Type 0} (e : Ends O) (name bytes : List ℕ) : Type 0 
 abbrev pub IsWhole : {O : Type 0} → List ℕ → Ends O → Answer O → Type 0
 IsWhole program e (prints text) = IsPrinted e text
 IsWhole program e (writes name bytes) = IsWritten e name bytes
-IsWhole program e (refuses own text) = IsRefused program e (statuses.Own own) text
+IsWhole program e (refuses status text) = IsRefused program e status text
 
 -- what comes of what a file of this name is seen to have: what follows from its bytes, or the line that says why there are none
 abbrev pub Follows : {O : Type 0} → List ℕ → Ends O → List ℕ → (List ℕ → Type 0) → Reading → Type 0

@@ -17,9 +17,9 @@ pub record Telling (R O : Type 0) : Type 0 where
   pub name : List ℕ
   pub usage : List ℕ
   pub text : R → List ℕ
-  pub status : R → O
+  pub status : R → Status O
 
-abbrev pub telling : {C R O : Type 0} → Program C → (R → List ℕ) → (R → O) → Telling R O
+abbrev pub telling : {C R O : Type 0} → Program C → (R → List ℕ) → (R → Status O) → Telling R O
 telling program text status = record { name = program.name.now; usage = usage_text (map form_shown program.forms.now); text = text; status = status }
 
 abbrev pub error_of_files : {R : Type 0} → FileError → CommandError R
@@ -35,16 +35,16 @@ error_text t OutputFault = sink_fault_text
 error_text t NoMemory = file_error_text FilesMemory
 error_text t (Own reason) = t.text reason
 
-abbrev pub error_status : {R O : Type 0} → (R → O) → CommandError R → Status O
+abbrev pub error_status : {R O : Type 0} → (R → Status O) → CommandError R → Status O
 error_status own Usage = statuses.Usage
 error_status own (Missing name) = statuses.FileMissing
 error_status own (TooLong name n) = statuses.FileMissing
 error_status own FileFault = statuses.FileFault
 error_status own OutputFault = statuses.OutputFault
 error_status own NoMemory = statuses.NoMemory
-error_status own (Own reason) = statuses.Own (own reason)
+error_status own (Own reason) = own reason
 
-abbrev pub status_of : {R O : Type 0} → (R → O) → Result (Unit {0}) (CommandError R) → Status O
+abbrev pub status_of : {R O : Type 0} → (R → Status O) → Result (Unit {0}) (CommandError R) → Status O
 status_of own (Ok u) = statuses.Done
 status_of own (Err error) = error_status own error
 

@@ -11,6 +11,9 @@ pub record Row (C : Type 0) : Type 0 where
   pub parameters : List (List ℕ)
   pub command : C
 
+abbrev pub row : {C : Type 0} → List ℕ → List (List ℕ) → C → Row C
+row word parameters command = record { word = word; parameters = parameters; command = command }
+
 -- a row of the code's own table
 abbrev pub form_shown : {C : Type 0} → Form C → Row C
 form_shown form = record { word = form.word.now; parameters = map (λ p. p.now) form.parameters.now; command = form.command }

@@ -2,8 +2,9 @@
 ghost use Rattle.std.specs.Prelude.{◌≡◌, ℕ, List};
 ghost use Rattle.muen_outside.specs.Puts.{Puts};
 ghost use Rattle.command_shell.specs.Texts.{error_line};
+ghost use Rattle.command_shell.specs.declared.status.Status.{Status};
 
-use crate::status::OwnStatus;
+use crate::status::{OwnStatus, Status};
 use muen_num::NoMemory;
 use muen_outside::{FileError, Sink, SinkFault};
 
@@ -14,10 +15,10 @@ pub trait Reason: Drop {
     /// What its line says.
     ghost text: { Self → List ℕ };
 
-    /// The status with which the call ends then.
-    ghost status: { Self → Self.Status };
+    /// The status with which the call ends then: one of the program's own, or of every program.
+    ghost status: { Self → Status Self.Status };
 
-    fn status(&self) -> Self::Status
+    fn status(&self) -> Status<Self::Status>
         ensures { result ≡ status self.now };
 
     /// Puts its line, which begins with the program's name.

@@ -71,7 +71,7 @@ fn error_status<R: Reason>(error: &CommandError<'_, R>) -> Status<R::Status>
         CommandError::FileFault => Status::FileFault,
         CommandError::OutputFault => Status::OutputFault,
         CommandError::NoMemory => Status::NoMemory,
-        CommandError::Own(reason) => Status::Own(reason.status()),
+        CommandError::Own(reason) => reason.status(),
     }
 }
 

@@ -1,2 +1,3 @@
 pub mod Leads
 pub mod Rows
+pub mod Texts

@@ -22,15 +22,15 @@ use Rattle.muen_top.specs.Headline.{HoldsBuilt, HoldsPolicy, TellsFault, TellsSo
 use Rattle.muen_top.specs.Verdicts.{Finds, HasVerdict}
 
 -- the verdict is answered of these
-record IsJudged (m : Store) (image policy : List ℕ) (Such : Answer → Type 0) : Type 0 where
-  p : Source
-  bytes : List ℕ
-  parts : Image
-  document : List ℕ
-  image_read : reading_of (get m image) IMAGE_MOST ≡ whole bytes
-  document_read : reading_of (get m policy) POLICY_MOST ≡ whole document
-  fits : fitting_policy_of m document ≡ Ok p
-  such : Such (judges p m bytes parts)
+pub record IsJudged (m : Store) (image policy : List ℕ) (Such : Answer → Type 0) : Type 0 where
+  pub p : Source
+  pub bytes : List ℕ
+  pub parts : Image
+  pub document : List ℕ
+  pub image_read : reading_of (get m image) IMAGE_MOST ≡ whole bytes
+  pub document_read : reading_of (get m policy) POLICY_MOST ≡ whole document
+  pub fits : fitting_policy_of m document ≡ Ok p
+  pub such : Such (judges p m bytes parts)
 
 -- of an answer that is such, where no reason to stop is
 module _ (m : Store) (image policy : List ℕ) (Such : Answer → Type 0) (never : (reason : Reason) → Such (stops reason) → ⊥) where
@@ -65,7 +65,7 @@ module _ (m : Store) (image policy : List ℕ) (Such : Answer → Type 0) (never
   of_reading absent read h = absurd (never (missing image) h)
   of_reading (long n) read h = absurd (never (too_long image n) h)
 
-  is_judged : Such (verify_answer m image policy) → Judged
+  pub is_judged : Such (verify_answer m image policy) → Judged
   unfolding verify_answer
   is_judged h = of_reading (reading_of (get m image) IMAGE_MOST) refl h
 

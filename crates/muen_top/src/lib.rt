@@ -18,7 +18,7 @@ mod build;
 mod call;
 mod command;
 mod laws;
-mod limits;
+pub mod limits;
 mod load;
 mod loading;
 mod outcome;
@@ -35,9 +35,11 @@ pub use generated_system::{Generated, generate};
 pub use laws::{ends_tell_refusals, generated_systems_are_accepted};
 use muen_outside::{Files, Sink};
 pub use over_held::muen_over_held;
+pub use outcome::CommandError;
 pub use status::Status;
 use std::alloc::Global;
 pub use twice::muen_twice;
+pub use verify::{ToJudge, read_to_judge};
 
 /// Does what the words after the program's name ask for, and answers the status.
 ///

@@ -11,7 +11,7 @@ use record_text::RecordFault;
 
 /// Why nothing was printed, and not all was written whole.
 #[derive(Drop)]
-pub(crate) enum CommandError<'a> {
+pub enum CommandError<'a> {
     /// The words have no command's form.
     Usage,
     /// There is no file of this name.

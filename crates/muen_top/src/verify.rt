@@ -138,16 +138,21 @@ fn read_contents<'a, F: Files>(
     read_without_image(alloc, policy, document, lawful, files)
 }
 
-// What is judged: an image, for a lawful policy, whose regions hold this at the start.
+/// What is judged: an image, for a lawful policy.
 #[derive(Drop)]
-struct ToJudge {
-    parts: Parts,
-    policy: Lawful,
-    things: Seq<Seq<u8>>,
+pub struct ToJudge {
+    pub parts: Parts,
+    pub policy: Lawful,
+    /// What the policy's regions hold at the start, by number.
+    pub things: Seq<Seq<u8>>,
 }
 
-// The image of the one file, the policy of the other, and what its contents name.
-fn read_all<'a, F: Files>(
+/// The image of the one file, the policy of the other, and what its contents name.
+///
+/// # Errors
+/// As `verify` tells them: a file isn't there, or is too long; the image is refused; the policy is, or a content
+/// of it; a look failed; memory is refused.
+pub fn read_to_judge<'a, F: Files>(
     alloc: Global,
     image: &'a str,
     policy: &'a str,
@@ -234,7 +239,7 @@ pub(crate) fn verify<'a, F: Files, S: Sink>(
 ) -> Outcome<'a>
     ensures { ComesOfCommand (Some (verify_command image.now policy.now)) (F.held files.old) (F.held files.new) (F.history files.old) (F.history files.new) (S.state out.old) (S.state out.new) result }
 {
-    match read_all(alloc, image, policy, files) {
+    match read_to_judge(alloc, image, policy, files) {
         Ok(read) => judge(alloc, read, out),
         Err(error) => Outcome::Stopped(error),
     }

@@ -1,7 +1,7 @@
 use Rattle.std.proofs.Common.{◌∙◌}
 use Rattle.std.proofs.lemmas.Result.{err_from_is_err_and}
 use Rattle.muen_top.proofs.Verifying.{contents_have, contents_lack, not_lawful}
-use Rattle.muen_top.proofs.verify.read_all.Goals as goal
+use Rattle.muen_top.proofs.verify.read_to_judge.Goals as goal
 
 -- the image isn't read
 pub returns-in_err-read-clause-err : goal.returns-in_err-read-clause-err

@@ -1,0 +1,4 @@
+pub mod Ending
+mod Examples
+pub mod FilesRead
+pub mod Placed

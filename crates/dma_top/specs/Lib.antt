@@ -1,0 +1,7 @@
+pub mod Answers
+pub mod Calls
+pub mod Commands
+pub mod Parsed
+pub mod Reads
+pub mod Refusals
+pub mod Statuses
