@@ -1,4 +1,5 @@
 pub mod Ending
 mod Examples
 pub mod FilesRead
+pub mod LinesRead
 pub mod Placed
