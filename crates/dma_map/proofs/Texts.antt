@@ -8,8 +8,10 @@ use Rattle.policy_lawful.specs.Dma.{dma_windows}
 use Rattle.policy_lawful.specs.Resolution.{source_of}
 use Rattle.policy_lawful.specs.Thing.{Thing, region, channel, provided, device_memory, state, thing_tag}
 use Rattle.policy_lawful.specs.Windows.{Window}
-use Rattle.region_alloc.specs.Placed.{Placement}
+use Rattle.region_alloc.specs.Placed.{IsPlaced, Placement}
 use Rattle.dma_map.specs.DmaMapText.{begins_at, device_windows, dma_map_text_of, rising_windows, shown_at, thing_address, window_shown, windows_text}
+use Rattle.dma_map.specs.Told.{HaveTextOf}
+use Rattle.dma_map.specs.declared.window.DeviceWindow.{DeviceWindow}
 
 module _ (x : Placement) where
   begins_so : (thing : Thing) → thing_address x thing ≡ begins_at (source_of x.expanded.lawful) x.addresses thing
@@ -27,3 +29,9 @@ module _ (x : Placement) where
   pub text_is : windows_text (device_windows x) ≡ dma_map_text_of (source_of x.expanded.lawful) x.addresses
   unfolding device_windows rising_windows dma_map_text_of source_of
   text_is i = windows_text (flat_map (λ d. map (λ w. shown_so d.name w i) (in_order is_lower (dma_windows (source_of x.expanded.lawful) d.name))) x.expanded.lawful.devices)
+
+  -- .. of these windows
+  pub has_text : IsPlaced x → (windows : List DeviceWindow) → windows ≡ device_windows x → HaveTextOf x windows
+  has_text placed windows are addresses is =
+      let same : x.addresses ≡ addresses = cc (sym placed.placement ∙ is) in
+      ap windows_text are ∙ text_is ∙ ap (dma_map_text_of (source_of x.expanded.lawful)) same

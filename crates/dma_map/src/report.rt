@@ -1,9 +1,8 @@
 //! The text of the windows of devices.
 ghost use Rattle.std.specs.Prelude.{◌≡◌, []};
 ghost use Rattle.muen_outside.specs.Puts.{Puts};
-ghost use Rattle.dma_map.specs.DmaMapText.{device_windows, dma_map_text_of, windows_text};
+ghost use Rattle.dma_map.specs.DmaMapText.{windows_text};
 ghost use Rattle.dma_map.specs.Told.{LeadAsTold, LeadNowhereElse, RiseApart};
-ghost use Rattle.policy_lawful.specs.Resolution.{source_of};
 ghost use Rattle.region_alloc.specs.Placed.{IsPlaced, Placement};
 
 use crate::window::DeviceWindow;
@@ -30,8 +29,6 @@ pub fn dma_map_text<S: Sink>(
 pub fn device_windows_told()
     // Those of a device share no address, and each ends before the next one.
     ensures rise { (x : Placement) → IsPlaced x → RiseApart x }
-    // Their text follows from the policy and the addresses of its regions.
-    ensures text { (x : Placement) → windows_text (device_windows x) ≡ dma_map_text_of (source_of x.expanded.lawful) x.addresses }
     // What the policy declares for a device leads through each window to the physical address that is told.
     ensures lead { (x : Placement) → IsPlaced x → LeadAsTold x }
     // And by no other address does the device reach anything.

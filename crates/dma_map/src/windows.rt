@@ -1,17 +1,18 @@
 //! The windows of the devices that stand in domains.
 ghost use Rattle.std.specs.Prelude.{◌≡◌, IfOk, option_map, position};
-ghost use Rattle.std.specs.List.{filter_map, list_any};
+ghost use Rattle.std.specs.List.{filter_map, flat_map, list_any};
 ghost use Rattle.std.specs.List.Sorted.{IsNonDecreasingBy, IsPermutation};
 ghost use Rattle.std.specs.Str.{bytes_eq};
 ghost use Rattle.dma_map.specs.DmaMapText.{device_windows, windows_shown};
 ghost use Rattle.dma_map.specs.Rows.{row};
+ghost use Rattle.dma_map.specs.Told.{HaveTextOf};
 ghost use Rattle.policy_lawful.specs.Dma.{domain_of};
 ghost use Rattle.policy_lawful.specs.Resolution.{source_of};
 
 use crate::window::DeviceWindow;
 use muen_num::{Name, NoMemory, Seq, Tag, TagPart};
 use policy_lawful::Resolved;
-use policy_lawful::source::{Domain, Mapping, Region};
+use policy_lawful::source::{Device, Domain, Mapping, Region};
 use region_alloc::Placed;
 use std::alloc::{AllocError, Global};
 
@@ -103,6 +104,22 @@ fn windows_shown(
     Ok(Seq::of(rising(windows)?))
 }
 
+// The windows of these devices, one after another.
+fn windows_of(
+    alloc: Global,
+    placed: &Placed,
+    devices: &[Device],
+) -> Result<Seq<DeviceWindow>, NoMemory>
+    ensures { IfOk result (λ windows. windows ≡ flat_map (λ d. windows_shown placed.now d.name) devices.now) }
+{
+    let mut windows = Vec::new(alloc);
+    for device in devices {
+        let more = windows_shown(alloc, placed, device.name)?;
+        windows.extend_from_slice(more.items())?;
+    }
+    Ok(Seq::of(windows))
+}
+
 /// The windows through which a policy's devices reach memory by themselves: device by device in the
 /// policy's order, each device's by ascending address. A device that stands in no domain has none.
 ///
@@ -110,13 +127,10 @@ fn windows_shown(
 /// Memory is refused.
 #[tactic(auto, unfolding(crate::specs::DmaMapText::device_windows))]
 pub fn device_windows(alloc: Global, placed: &Placed) -> Result<Seq<DeviceWindow>, NoMemory>
-    ensures { IfOk result (λ windows. windows ≡ device_windows placed.now) }
+    ensures are { IfOk result (λ windows. windows ≡ device_windows placed.now) }
+    // Their text follows from the policy and the addresses of its regions.
+    ensures text { IfOk result (HaveTextOf placed.now) }
 {
     let policy = placed.expanded().lawful().resolved();
-    let mut windows = Vec::new(alloc);
-    for device in policy.devices() {
-        let more = windows_shown(alloc, placed, device.name)?;
-        windows.extend_from_slice(more.items())?;
-    }
-    Ok(Seq::of(windows))
+    windows_of(alloc, placed, policy.devices())
 }
