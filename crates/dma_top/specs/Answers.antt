@@ -1,7 +1,7 @@
 -- What a command answers to the bytes of its files.
 use Rattle.std.specs.Prelude.{ℕ, List, Result, Ok, Err, Some}
 use Rattle.command_shell.specs.Answers.{Answer, Plan, prints, refuses, answers, looks_at, takes_memory}
-use Rattle.device_flows.specs.FlowText.{device_flow_text_of}
+use Rattle.device_flows.specs.DeviceFlows.{device_flow_text_of}
 use Rattle.dma_lines.specs.LinesText.{lines_text}
 use Rattle.dma_map.specs.DmaMapText.{dma_map_text_of}
 use Rattle.dma_tables.specs.DmaFile.{dma_file}

@@ -1,7 +1,7 @@
 //! The commands `map` and `flows`: a policy is read, and what follows from it is printed.
 ghost use Rattle.std.specs.Prelude.{◌≡◌, ℕ, List, Ok, IfErr, IfOk};
 ghost use Rattle.command_shell.specs.Outcomes.{ComesTo, PutsTo};
-ghost use Rattle.device_flows.specs.FlowText.{device_flow_text_of};
+ghost use Rattle.device_flows.specs.DeviceFlows.{device_flow_text_of};
 ghost use Rattle.dma_map.specs.DmaMapText.{dma_map_text_of};
 ghost use Rattle.policy_lawful.specs.Resolution.{source_of};
 ghost use Rattle.region_alloc.specs.Placement.{placement_of};

@@ -1,7 +1,7 @@
 use Rattle.std.proofs.Common.{refl}
 use Rattle.command_shell.specs.Answers.{answers, prints}
 use Rattle.command_shell.proofs.Ending.{printed, stopped}
-use Rattle.device_flows.specs.FlowText.{device_flow_text_of}
+use Rattle.device_flows.specs.DeviceFlows.{device_flow_text_of}
 use Rattle.policy_lawful.specs.Resolution.{source_of}
 use Rattle.dma_top.specs.Answers.{plan_of}
 use Rattle.dma_top.specs.Commands.{flows}
