@@ -1,9 +1,9 @@
 -- The forms of the commands, worked out by hand.
 use Rattle.std.proofs.Common.{◌≡◌, List, [], ◌∷◌, ℕ, None, Some, codes, refl}
 use Rattle.command_shell.specs.Forms.{usage_text}
-use Rattle.dma_top.specs.Commands.{command_of, flows, forms, lines, windows}
+use Rattle.dma_top.specs.Commands.{command_of, forms, lines, windows}
 
-usage_told : usage_text forms ≡ codes "usage: lines IMAGE RECORD DMA, map POLICY, flows POLICY"
+usage_told : usage_text forms ≡ codes "usage: lines IMAGE RECORD DMA, map POLICY"
 usage_told = refl
 
 lines_form : (image inputs tables : List ℕ) → command_of (codes "lines" ∷ image ∷ inputs ∷ tables ∷ []) ≡ Some (lines image inputs tables)
@@ -11,9 +11,6 @@ lines_form image inputs tables = refl
 
 map_form : (policy : List ℕ) → command_of (codes "map" ∷ policy ∷ []) ≡ Some (windows policy)
 map_form policy = refl
-
-flows_form : (policy : List ℕ) → command_of (codes "flows" ∷ policy ∷ []) ≡ Some (flows policy)
-flows_form policy = refl
 
 -- other words
 

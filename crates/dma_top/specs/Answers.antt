@@ -1,7 +1,6 @@
 -- What a command answers to the bytes of its files.
 use Rattle.std.specs.Prelude.{ℕ, List, Result, Ok, Err, Some}
 use Rattle.command_shell.specs.Answers.{Answer, Plan, prints, refuses, answers, looks_at, takes_memory}
-use Rattle.device_flows.specs.DeviceFlows.{device_flow_text_of}
 use Rattle.dma_lines.specs.LinesText.{lines_text}
 use Rattle.dma_map.specs.DmaMapText.{dma_map_text_of}
 use Rattle.dma_tables.specs.DmaFile.{dma_file}
@@ -21,7 +20,7 @@ use Rattle.record_text.specs.Steps.{mapped}
 use Rattle.record_text.specs.declared.record.Input.{Input}
 use Rattle.record_text.specs.declared.record.Record.{Record}
 use Rattle.region_alloc.specs.Placement.{placement_of}
-use Rattle.dma_top.specs.Commands.{Command, lines, windows, flows}
+use Rattle.dma_top.specs.Commands.{Command, lines, windows}
 use Rattle.dma_top.specs.Refusals.{refusal_status, refusal_text}
 use Rattle.dma_top.specs.declared.refusal.Refusal.{Refusal}
 use Rattle.dma_top.specs.declared.refusal.Refusal.TheVariants.{Policy, Image as ImageOf, Record as RecordOf, Tables as TablesOf}
@@ -62,4 +61,3 @@ abbrev pub plan_of : Command → Plan DmaStatus
 plan_of (lines image inputs tables) =
     image_plan image (λ i. tables_plan tables (λ t. record_plan i inputs (λ r. answers (prints (lines_text (Some t) i r)))))
 plan_of (windows policy) = policy_plan policy placed_plan
-plan_of (flows policy) = policy_plan policy (λ p. answers (prints (device_flow_text_of p)))

@@ -2,15 +2,13 @@
 use Rattle.std.specs.Prelude.{ℕ, List, [], ◌∷◌, Option, Some, None, option_and_then, codes}
 use Rattle.command_shell.specs.Forms.{Row, command_in, row}
 use Rattle.dma_top.specs.declared.command.Kind.{Kind}
-use Rattle.dma_top.specs.declared.command.Kind.TheVariants.{Lines, Map, Flows}
+use Rattle.dma_top.specs.declared.command.Kind.TheVariants.{Lines, Map}
 
 pub data Command : Type 0 where
   -- an image, a device record and a file of tables, by their names: what each line of direct memory access of the record did
   lines : List ℕ → List ℕ → List ℕ → Command
   -- a policy, by its file's name: where its devices reach memory by themselves
   windows : List ℕ → Command
-  -- .. on whom each subject can depend, through devices too
-  flows : List ℕ → Command
 
 -- ---- the forms
 
@@ -18,7 +16,6 @@ abbrev pub forms : List (Row Kind)
 forms =
     row (codes "lines") (codes "IMAGE" ∷ codes "RECORD" ∷ codes "DMA" ∷ []) Lines
     ∷ row (codes "map") (codes "POLICY" ∷ []) Map
-    ∷ row (codes "flows") (codes "POLICY" ∷ []) Flows
     ∷ []
 
 -- ---- the command of each form
@@ -31,14 +28,9 @@ abbrev pub windows_of : List (List ℕ) → Option Command
 windows_of (policy ∷ []) = Some (windows policy)
 windows_of _ = None
 
-abbrev pub flows_of : List (List ℕ) → Option Command
-flows_of (policy ∷ []) = Some (flows policy)
-flows_of _ = None
-
 abbrev pub command_at : Kind → List (List ℕ) → Option Command
 command_at Lines arguments = lines_of arguments
 command_at Map arguments = windows_of arguments
-command_at Flows arguments = flows_of arguments
 
 -- the command that the words after the program's name ask for; none where they have no command's form
 abbrev pub command_of : List (List ℕ) → Option Command

@@ -1,9 +1,8 @@
 -- The commands that calls are given, in the words of the definition.
-use Rattle.dma_top.specs.Commands.{Command as Asked, lines, windows, flows}
+use Rattle.dma_top.specs.Commands.{Command as Asked, lines, windows}
 use Rattle.dma_top.specs.declared.command.Command.{Command}
-use Rattle.dma_top.specs.declared.command.Command.TheVariants.{Lines, Map, Flows}
+use Rattle.dma_top.specs.declared.command.Command.TheVariants.{Lines, Map}
 
 abbrev pub asked : Command → Asked
 asked (Lines image inputs tables) = lines image.now inputs.now tables.now
 asked (Map policy) = windows policy.now
-asked (Flows policy) = flows policy.now

@@ -10,7 +10,7 @@ ghost use Rattle.dma_top.specs.Refusals.{devices};
 
 use crate::command::{Command, program};
 use crate::lines::lines;
-use crate::policies::{flows, map};
+use crate::policies::map;
 use crate::refusal::Refusal;
 use crate::status::Status;
 use command_shell::{CommandError, finish};
@@ -35,7 +35,6 @@ fn work<'a, F: Files, S: Sink>(
             tables,
         }) => lines(alloc, image, inputs, tables, files, out),
         Some(Command::Map(policy)) => map(alloc, policy, files, out),
-        Some(Command::Flows(policy)) => flows(alloc, policy, files, out),
     }
 }
 
