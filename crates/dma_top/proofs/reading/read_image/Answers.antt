@@ -16,6 +16,6 @@ returns-in_err-bytes-clause-err g c =
 pub returns-in-Ok-clause-ok : goal.returns-in-Ok-clause-ok
 returns-in-Ok-clause-ok g c = file_means c.args.name.now IMAGE_MOST (unpacked image_form) ImageOf _ _ _ c.in_ok-bytes.bytes c.in_ok-bytes.ensures.ok c.in-Ok.parts (rw c.items.ensures at c.in-Ok.ensures.exact)
 
-pub returns-in-Err-clause-err : goal.returns-in-Err-clause-err
-returns-in-Err-clause-err g c =
+pub returns-clause-err : goal.returns-clause-err
+returns-clause-err g c =
     file_refused c.args.name.now IMAGE_MOST (unpacked image_form) ImageOf _ _ _ c.in_ok-bytes.bytes c.in_ok-bytes.ensures.ok NoMemory c.in-Err.fault (wanted_answers _ c.in-Err.fault (rw c.items.ensures at c.in-Err.ensures.exact)) _ c.image_error.ensures

@@ -20,7 +20,7 @@ returns-in-Ok-clause-ok g c =
     file_means c.args.name.now RECORD_MOST (λ bytes. mapped (image_record c.args.image.now) (record_of bytes (image_bench c.args.image.now))) RecordOf _ _ _ c.in_ok-bytes.bytes c.in_ok-bytes.ensures.ok c.in-Ok.inputs
     (rw c.items.ensures at c.in-Ok.ensures.exact)
 
-pub returns-in-Err-clause-err : goal.returns-in-Err-clause-err
-returns-in-Err-clause-err g c =
+pub returns-clause-err : goal.returns-clause-err
+returns-clause-err g c =
     file_refused c.args.name.now RECORD_MOST (λ bytes. mapped (image_record c.args.image.now) (record_of bytes (image_bench c.args.image.now))) RecordOf _ _ _ c.in_ok-bytes.bytes c.in_ok-bytes.ensures.ok NoMemory c.in-Err.fault
     (rw c.items.ensures at c.in-Err.ensures.exact) _ c.record_error.ensures

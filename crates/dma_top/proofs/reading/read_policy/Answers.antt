@@ -17,6 +17,6 @@ pub returns-in-Ok-clause-ok : goal.returns-in-Ok-clause-ok
 returns-in-Ok-clause-ok g c =
     file_means c.args.name.now POLICY_MOST lawful_policy_of Policy _ _ _ c.in_ok-bytes.bytes c.in_ok-bytes.ensures.ok (source_of c.in-Ok.policy) (rw c.items.ensures at c.in-Ok.ensures)
 
-pub returns-in-Err-clause-err : goal.returns-in-Err-clause-err
-returns-in-Err-clause-err g c =
+pub returns-clause-err : goal.returns-clause-err
+returns-clause-err g c =
     file_refused c.args.name.now POLICY_MOST lawful_policy_of Policy _ _ _ c.in_ok-bytes.bytes c.in_ok-bytes.ensures.ok NoMemory c.in-Err.refusal (rw c.items.ensures at c.in-Err.ensures) _ c.policy_error.ensures
