@@ -250,9 +250,9 @@ number_low spans n a all h = elim (find (λ s. s.number == n) spans) as (λ o. f
   | Some s ↦ λ is e. span_low s a (found_all IsSpan (λ s. s.number == n) spans s all is) e
 ] refl h
 
-pub places_low : (i : Image) → IsParts i → AreLow (thing_addresses i.spans)
+pub places_low : (spans : List SpanPart) → All IsSpan spans → AreLow (thing_addresses spans)
 unfolding thing_addresses
-places_low i h = filter_all (λ a. a < 2 ^ 63) (address_of_number i.spans) (λ n a e. number_low i.spans n a (parts_keep i h).spans.each e) (numbers_below (length i.spans))
+places_low spans all = filter_all (λ a. a < 2 ^ 63) (address_of_number spans) (λ n a e. number_low spans n a all e) (numbers_below (length spans))
 
 low_at : (xs : List ℕ) (k : ℕ) → AreLow xs → slice_index_or xs k 0 < 2 ^ 63
 low_at [] k h = omega arith

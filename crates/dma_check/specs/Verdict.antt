@@ -13,7 +13,9 @@ use Rattle.dma_check.specs.declared.fault.TableFault.{TableFault}
 use Rattle.dma_tables.specs.DmaWalk.{dma_walk}
 use Rattle.dma_tables.specs.declared.file.DmaDevice.{DmaDevice}
 use Rattle.dma_tables.specs.declared.file.DmaFile.{DmaFile}
+use Rattle.image_pack.specs.Parts.{IsParts}
 use Rattle.image_pack.specs.declared.parts.Image.{Image}
+use Rattle.image_pack.specs.declared.parts.SpanPart.{SpanPart}
 use Rattle.image_soundness.specs.Sound.{address_of, led}
 use Rattle.muen_num.specs.Search.{first_in, first_of, unless}
 use Rattle.muen_num.specs.declared.access.AccessKind.TheVariants.{Read, Write}
@@ -54,6 +56,10 @@ of_tables fault = Tables fault
 
 abbrev pub verdict : Source → Image → DmaFile → Option DmaFault
 verdict p i t = first_of (option_map of_listing (listing_fault p t) ∷ option_map of_tables (table_fault (view_of p i t)) ∷ [])
+
+-- over whatever parts of an image have these spans
+abbrev pub OverImages : List SpanPart → (Image → Type 0) → Type 0
+OverImages spans Holds = (i : Image) → IsParts i → spans ≡ i.spans → Holds i
 
 -- ---- what it is for
 

@@ -2,7 +2,7 @@
 ghost use Rattle.std.specs.Prelude.{◌≡◌, ◌<◌, ◌^◌, ◌*◌, ℕ, None, IfOk, vec_len};
 ghost use Rattle.dma_check.specs.Faults.{table_fault};
 ghost use Rattle.dma_check.specs.Marked.{seen_in};
-ghost use Rattle.dma_check.specs.Verdict.{verdict};
+ghost use Rattle.dma_check.specs.Verdict.{OverImages, verdict};
 ghost use Rattle.dma_check.specs.Views.{view_of};
 ghost use Rattle.policy_lawful.specs.Resolution.{source_of};
 
@@ -10,6 +10,7 @@ use crate::fault::{DmaFault, TableFault};
 use crate::listing::listing_fault;
 use crate::path::Way;
 use crate::searching::source_fault;
+use crate::spans::ImageSpans;
 use crate::windows::{thing_addresses, windows_by};
 use dma_tables::{DmaFile, DmaTables};
 use image_pack::Parts;
@@ -34,26 +35,48 @@ fn no_ways(alloc: Global, tables: usize) -> Result<Vec<Option<Way>>, NoMemory>
 fn first_fault(
     alloc: Global,
     policy: &Resolved,
-    image: &Parts,
+    spans: &ImageSpans,
     file: &DmaFile,
 ) -> Result<Option<TableFault>, NoMemory>
-    ensures { IfOk result (λ o. o ≡ table_fault (view_of (source_of policy.now) image.now file.now)) }
+    ensures { OverImages spans.now (λ i. IfOk result (λ o. o ≡ table_fault (view_of (source_of policy.now) i file.now))) }
 {
-    let spans = image.image().spans.items();
-    let addresses = thing_addresses(alloc, image)?;
+    let items = spans.items();
+    let addresses = thing_addresses(alloc, items)?;
     let mut ways = no_ways(alloc, file.pages.len() / PAGE as usize)?;
     for source in 0..SOURCES {
         let windows = windows_by(alloc, policy, &addresses, source)?;
-        if let Some(fault) = source_fault(file, spans, &windows, &mut ways, source) {
+        if let Some(fault) = source_fault(file, items, &windows, &mut ways, source) {
             return Ok(Some(fault));
         }
     }
     Ok(None)
 }
 
-/// What is the first that is wrong with tables, for a policy and an image, whoever made them: with their
-/// list of devices, or else with where they lead each source of requests, source by source, and for each
-/// its addresses ascending; `None` where nothing is.
+/// What is the first that is wrong with tables, for a policy and an image with these spans, whoever made
+/// them: with their list of devices, or else with where they lead each source of requests, source by source,
+/// and for each its addresses ascending; `None` where nothing is.
+///
+/// # Errors
+/// Memory is refused.
+pub fn check_spans(
+    alloc: Global,
+    policy: &Resolved,
+    spans: &ImageSpans,
+    tables: &DmaTables,
+) -> Result<Option<DmaFault>, NoMemory>
+    ensures { OverImages spans.now (λ i. IfOk result (λ o. o ≡ verdict (source_of policy.now) i tables.now)) }
+{
+    let file = tables.file();
+    if let Some(device) = listing_fault(policy, file) {
+        return Ok(Some(DmaFault::Listing { device }));
+    }
+    match first_fault(alloc, policy, spans, file)? {
+        None => Ok(None),
+        Some(fault) => Ok(Some(DmaFault::Tables { fault })),
+    }
+}
+
+/// The same, for a policy and an image.
 ///
 /// # Errors
 /// Memory is refused.
@@ -65,12 +88,6 @@ pub fn check(
 ) -> Result<Option<DmaFault>, NoMemory>
     ensures { IfOk result (λ o. o ≡ verdict (source_of policy.now) image.now tables.now) }
 {
-    let file = tables.file();
-    if let Some(device) = listing_fault(policy, file) {
-        return Ok(Some(DmaFault::Listing { device }));
-    }
-    match first_fault(alloc, policy, image, file)? {
-        None => Ok(None),
-        Some(fault) => Ok(Some(DmaFault::Tables { fault })),
-    }
+    let spans = ImageSpans::of(alloc, image)?;
+    check_spans(alloc, policy, &spans, tables)
 }

@@ -13,9 +13,11 @@ mod path;
 mod pieces;
 mod reading;
 mod searching;
+mod spans;
 mod windows;
 
-pub use checking::check;
+pub use checking::{check, check_spans};
 pub use fault::{DmaFault, FaultKind, TableFault};
 pub use laws::verdicts_tell;
 pub use listing::listing_fault;
+pub use spans::ImageSpans;

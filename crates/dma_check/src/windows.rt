@@ -10,7 +10,7 @@ ghost use Rattle.policy_lawful.specs.source.Region.{Region};
 
 use crate::held::DmaWindow;
 use crate::listing::{device_of, domain_of};
-use image_pack::{Parts, SpanKind, SpanPart, span_numbered};
+use image_pack::{SpanKind, SpanPart, span_numbered};
 use muen_num::{Name, NoMemory};
 use policy_lawful::Resolved;
 use policy_lawful::source::{Domain, Mapping, Region};
@@ -48,10 +48,9 @@ fn push_some(addresses: &mut Vec<u64>, address: Option<u64>) -> Result<(), Alloc
 /// # Errors
 /// Memory is refused.
 #[tactic(auto, unfolding(crate::specs::Numbered::thing_addresses))]
-pub(crate) fn thing_addresses(alloc: Global, image: &Parts) -> Result<Vec<u64>, NoMemory>
-    ensures { IfOk result (λ v. v.items ≡ thing_addresses image.now.spans) }
+pub(crate) fn thing_addresses(alloc: Global, spans: &[SpanPart]) -> Result<Vec<u64>, NoMemory>
+    ensures { IfOk result (λ v. v.items ≡ thing_addresses spans.now) }
 {
-    let spans = image.image().spans.items();
     let mut addresses = Vec::new(alloc);
     for number in 0..spans.len() {
         push_some(&mut addresses, address_of_number(spans, number))?;

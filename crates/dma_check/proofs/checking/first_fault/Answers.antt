@@ -9,54 +9,59 @@ use Rattle.dma_check.specs.Sources.{declared}
 use Rattle.dma_check.specs.Views.{view_of}
 use Rattle.dma_tables.specs.DmaWalk.{root_page}
 use Rattle.ept_check.specs.Search.{first_from}
-use Rattle.image_pack.specs.declared.parts.Image.{Image}
+use Rattle.image_pack.specs.SpanConditions.{IsSpan}
 use Rattle.policy_lawful.specs.Resolution.{source_of}
 use Rattle.dma_check.proofs.checking.first_fault.Goals as goal
 
 pub loop-source-init : goal.loop-source-init
 loop-source-init c =
-    let v = view_of (source_of c.args.policy.now) c.args.image.now c.args.file.now in
     record {
-      none = none_yet v;
+      none = λ i parts same. none_yet (view_of (source_of c.args.policy.now) i c.args.file.now);
       long = c.in_ok-ways.ensures.long ∙ ap (λ n. n / 4096) c.len.ensures;
-      known = none_known v (seen_in (root_page c.args.file.now) c.in_ok-ways.ways.items) (c.in_ok-ways.ensures.none (root_page c.args.file.now));
+      known = λ i parts same. none_known (view_of (source_of c.args.policy.now) i c.args.file.now) (seen_in (root_page c.args.file.now) c.in_ok-ways.ways.items) (c.in_ok-ways.ensures.none (root_page c.args.file.now));
     }
 
 pub source_fault-requires-clause-low : goal.source_fault-requires-clause-low
 source_fault-requires-clause-low c =
     let p = source_of c.args.policy.now in
-    let places = subst (All (λ a. a < 2 ^ 63)) (sym (c.deref.ensures.value ∙ c.in_ok-addresses.ensures)) (places_low c.args.image.now c.image.ensures.parts) in
+    let each = subst (All IsSpan) (sym c.items-items.ensures.same) c.items-items.ensures.each in
+    let places = subst (All (λ a. a < 2 ^ 63)) (sym (c.deref.ensures.value ∙ c.in_ok-addresses.ensures)) (places_low c.items-items.result.now each) in
     subst (All IsLow) (sym (c.deref-in-loop-source.ensures.value ∙ c.in_ok-windows.ensures)) (windows_low p c.deref.result.now c.loop-source.source places)
 
 pub returns-in-Some : goal.returns-in-Some
-returns-in-Some c =
+returns-in-Some c = λ i parts same.
     let p = source_of c.args.policy.now in
-    let i = c.args.image.now in
     let told = declared p i in
     let source = c.loop-source.source in
-    let spans : c.items-spans.result.now ≡ i.spans = c.items-spans.ensures ∙ ap (λ (x : Image). x.spans) c.image.ensures.same in
-    let windows : c.deref-in-loop-source.result.now ≡ windows_by p (thing_addresses i.spans) source = c.deref-in-loop-source.ensures.value ∙ c.in_ok-windows.ensures ∙ ap (λ a. windows_by p a source) (c.deref.ensures.value ∙ c.in_ok-addresses.ensures) in
-    let own = subst (AreFor told source) (sym windows) (are_declared p i c.image.ensures.parts source) in
-    let known = subst (λ s. Marked (view_by c.args.file.now s told) (seen_in (root_page c.args.file.now) c.loop-source.ways.items) (6 * (2 ^ 48 * source))) (sym spans) c.loop-source.invariant.known in
-    one_source (view_of p i c.args.file.now) source c.in-Some.fault c.loop-source-test.true c.loop-source.invariant.none
+    let spans : c.items-items.result.now ≡ i.spans = c.items-items.ensures.same ∙ same in
+    let windows : c.deref-in-loop-source.result.now ≡ windows_by p (thing_addresses i.spans) source = c.deref-in-loop-source.ensures.value ∙ c.in_ok-windows.ensures ∙ ap (λ a. windows_by p a source) (c.deref.ensures.value ∙ c.in_ok-addresses.ensures ∙ ap thing_addresses spans) in
+    let own = subst (AreFor told source) (sym windows) (are_declared p i parts source) in
+    let known = subst (λ s. Marked (view_by c.args.file.now s told) (seen_in (root_page c.args.file.now) c.loop-source.ways.items) (6 * (2 ^ 48 * source))) (sym spans) (c.loop-source.invariant.known i parts same) in
+    one_source (view_of p i c.args.file.now) source c.in-Some.fault c.loop-source-test.true (c.loop-source.invariant.none i parts same)
     (subst (λ s. Some c.in-Some.fault ≡ first_from (fault_at (view_by c.args.file.now s told)) (2 ^ 48 * source) (2 ^ 48)) spans (c.in-Some.ensures.found told own known))
 
 pub loop-source-preserved : goal.loop-source-preserved
 loop-source-preserved c =
     let p = source_of c.args.policy.now in
-    let i = c.args.image.now in
-    let told = declared p i in
     let source = c.loop-source.source in
-    let spans : c.items-spans.result.now ≡ i.spans = c.items-spans.ensures ∙ ap (λ (x : Image). x.spans) c.image.ensures.same in
-    let windows : c.deref-in-loop-source.result.now ≡ windows_by p (thing_addresses i.spans) source = c.deref-in-loop-source.ensures.value ∙ c.in_ok-windows.ensures ∙ ap (λ a. windows_by p a source) (c.deref.ensures.value ∙ c.in_ok-addresses.ensures) in
-    let own = subst (AreFor told source) (sym windows) (are_declared p i c.image.ensures.parts source) in
-    let known = subst (λ s. Marked (view_by c.args.file.now s told) (seen_in (root_page c.args.file.now) c.loop-source.ways.items) (6 * (2 ^ 48 * source))) (sym spans) c.loop-source.invariant.known in
     record {
-      none = later_source (view_of p i c.args.file.now) source c.loop-source.invariant.none (subst (λ s. None ≡ first_from (fault_at (view_by c.args.file.now s told)) (2 ^ 48 * source) (2 ^ 48)) spans (c.in_default.ensures.found told own known));
+      none = λ i parts same.
+          let told = declared p i in
+          let spans : c.items-items.result.now ≡ i.spans = c.items-items.ensures.same ∙ same in
+          let windows : c.deref-in-loop-source.result.now ≡ windows_by p (thing_addresses i.spans) source = c.deref-in-loop-source.ensures.value ∙ c.in_ok-windows.ensures ∙ ap (λ a. windows_by p a source) (c.deref.ensures.value ∙ c.in_ok-addresses.ensures ∙ ap thing_addresses spans) in
+          let own = subst (AreFor told source) (sym windows) (are_declared p i parts source) in
+          let known = subst (λ s. Marked (view_by c.args.file.now s told) (seen_in (root_page c.args.file.now) c.loop-source.ways.items) (6 * (2 ^ 48 * source))) (sym spans) (c.loop-source.invariant.known i parts same) in
+          later_source (view_of p i c.args.file.now) source (c.loop-source.invariant.none i parts same) (subst (λ s. None ≡ first_from (fault_at (view_by c.args.file.now s told)) (2 ^ 48 * source) (2 ^ 48)) spans (c.in_default.ensures.found told own known));
       long = c.source_fault.ensures.long ∙ c.loop-source.invariant.long;
-      known = subst (λ s. Marked (view_by c.args.file.now s told) (seen_in (root_page c.args.file.now) c.source_fault.new.ways.items) (6 * (2 ^ 48 * (source + 1)))) spans (c.in_default.ensures.known told own known refl);
+      known = λ i parts same.
+          let told = declared p i in
+          let spans : c.items-items.result.now ≡ i.spans = c.items-items.ensures.same ∙ same in
+          let windows : c.deref-in-loop-source.result.now ≡ windows_by p (thing_addresses i.spans) source = c.deref-in-loop-source.ensures.value ∙ c.in_ok-windows.ensures ∙ ap (λ a. windows_by p a source) (c.deref.ensures.value ∙ c.in_ok-addresses.ensures ∙ ap thing_addresses spans) in
+          let own = subst (AreFor told source) (sym windows) (are_declared p i parts source) in
+          let known = subst (λ s. Marked (view_by c.args.file.now s told) (seen_in (root_page c.args.file.now) c.loop-source.ways.items) (6 * (2 ^ 48 * source))) (sym spans) (c.loop-source.invariant.known i parts same) in
+          subst (λ s. Marked (view_by c.args.file.now s told) (seen_in (root_page c.args.file.now) c.source_fault.new.ways.items) (6 * (2 ^ 48 * (source + 1)))) spans (c.in_default.ensures.known told own known refl);
     }
 
 pub returns : goal.returns
-returns c =
-    all_none (view_of (source_of c.args.policy.now) c.args.image.now c.args.file.now) c.loop-source.source (omega (arith, c.loop-source-test.false, c.loop-source.auto.source-end)) c.loop-source.invariant.none
+returns c = λ i parts same.
+    all_none (view_of (source_of c.args.policy.now) i c.args.file.now) c.loop-source.source (omega (arith, c.loop-source-test.false, c.loop-source.auto.source-end)) (c.loop-source.invariant.none i parts same)
