@@ -18,15 +18,15 @@ use Rattle.command_shell.specs.declared.status.Status.{Status}
 use Rattle.command_shell.specs.declared.status.Status.TheVariants as statuses
 
 -- what stands behind the front of a list
-behind : {A : Type 0} (front more all : List A) → all ≡ front ++ more → drop (length front) all ≡ more
+pub behind : {A : Type 0} (front more all : List A) → all ≡ front ++ more → drop (length front) all ≡ more
 behind front more all is = ap (drop (length front)) is ∙ drop-append_seam front more
 
-nothing_behind : {A : Type 0} (front all : List A) → all ≡ front → drop (length front) all ≡ []
+pub nothing_behind : {A : Type 0} (front all : List A) → all ≡ front → drop (length front) all ≡ []
 nothing_behind front all is = behind front [] all (is ∙ sym (append-nil front))
 
 module _ {O : Type 0} (program : List ℕ) (e : Ends O) (puts : e.out'.faults ≡ e.out.faults) (lines : e.err'.faults ≡ e.err.faults) (ends : All (λ w. w.end ≢ Err FilesFailed) (writes_since e.before e.after)) where
   -- memory was refused, or this
-  abbrev OrNoMemory : Type 0 → Type 0
+  abbrev pub OrNoMemory : Type 0 → Type 0
   OrNoMemory P = (e.status ≡ statuses.NoMemory) ⊎ P
 
   -- ---- what is done, where nothing fails
@@ -36,7 +36,7 @@ module _ {O : Type 0} (program : List ℕ) (e : Ends O) (puts : e.out'.faults �
   told_all text (inl a) = a
   told_all text (inr f) = absurd (omega (arith, ap (λ s. s.faults) f.state, lines))
 
-  refused : (status : Status O) (text : List ℕ) → e.after.writes ≡ e.before.writes → Stops program e status text → IsRefused program e status text
+  pub refused : (status : Status O) (text : List ℕ) → e.after.writes ≡ e.before.writes → Stops program e status text → IsRefused program e status text
   refused status text none s = record { ended = s.ended; unwritten = nothing_behind e.before.writes e.after.writes none; quiet = s.quiet; told = told_all text s.told }
 
   printed : (text : List ℕ) → e.after.writes ≡ e.before.writes → PutsAll e text ⊎ PutsFront program e text → OrNoMemory (IsWhole program e (prints text))
@@ -59,7 +59,7 @@ module _ {O : Type 0} (program : List ℕ) (e : Ends O) (puts : e.out'.faults �
     does_whole (refuses status text) d = inr (refused status text (ap (λ h. h.writes) d.0 ∙ unwritten) d.1)
 
     -- a file isn't read
-    unread : (status : Status O) (text : List ℕ) → (e.after ≡ seen) × Stops program e status text → IsRefused program e status text
+    pub unread : (status : Status O) (text : List ℕ) → (e.after ≡ seen) × Stops program e status text → IsRefused program e status text
     unread status text h = refused status text (ap (λ h. h.writes) h.0 ∙ unwritten) h.1
 
     or_not : (answer : Answer O) → DoesOrNot program e seen answer → OrNoMemory (IsWhole program e answer)
@@ -76,7 +76,7 @@ module _ {O : Type 0} (program : List ℕ) (e : Ends O) (puts : e.out'.faults �
   -- ---- of a plan
 
   -- the looks that the rest of a call has made, and that it does the whole of its plan where none of them has failed
-  record Ran (plan : Plan O) (before : History) : Type 0 where
+  pub record Ran (plan : Plan O) (before : History) : Type 0 where
     pub more : List Look
     pub looks : e.after.looks ≡ before.looks ++ more
     pub whole : AllByRecursion (λ l. l.got ≢ Err FilesFailed) more → OrNoMemory ((m : Store) → ShowAll m more → AnsweredBy m program e plan)
@@ -133,7 +133,7 @@ module _ {O : Type 0} (program : List ℕ) (e : Ends O) (puts : e.out'.faults �
   in_memory plan before rest (inl runs) = let r = rest runs in record { more = r.more; looks = r.looks; whole = r.whole }
   in_memory plan before rest (inr n) = record { more = []; looks = ap (λ h. h.looks) n.0 ∙ sym (append-nil before.looks); whole = λ none. inl n.1.ended }
 
-  ran : (plan : Plan O) (before : History) → before.writes ≡ e.before.writes → Runs program e plan before → Ran plan before
+  pub ran : (plan : Plan O) (before : History) → before.writes ≡ e.before.writes → Runs program e plan before → Ran plan before
   ran (answers answer) before unwritten d = answered answer before unwritten d
   ran (looks_at name most next) before unwritten h =
       after_look name most next before unwritten h.0 h.2 (λ bytes runs. ran (next bytes) (looked before (look name most (Ok (whole bytes)) ∷ [])) unwritten runs)

@@ -69,11 +69,11 @@ reaches_next program held name most next old new bytes saw =
 -- ---- one plan behind another
 
 -- these looks, and then those
-looked_more : (old mid new : History) (ls more : List Look) → mid ≡ looked old ls → new ≡ looked mid more → new ≡ looked old (ls ++ more)
+pub looked_more : (old mid new : History) (ls more : List Look) → mid ≡ looked old ls → new ≡ looked mid more → new ≡ looked old (ls ++ more)
 looked_more old mid new ls more first then =
     then ∙ ap (λ h. looked h more) first ∙ ap (λ x. record { looks = x; writes = old.writes }) (append_assoc old.looks ls more)
 
-told_more : (held : Option Store) (ls more : List Look) → IfSome held (λ m. ShowAll m ls) → IfSome held (λ m. ShowAll m more) → IfSome held (λ m. ShowAll m (ls ++ more))
+pub told_more : (held : Option Store) (ls more : List Look) → IfSome held (λ m. ShowAll m ls) → IfSome held (λ m. ShowAll m more) → IfSome held (λ m. ShowAll m (ls ++ more))
 told_more held [] more a b = b
 told_more held (l ∷ ls) more a b = told_then held l (ls ++ more) (told_first held a) (told_more held ls more (told_rest held a) b)
   where
@@ -179,7 +179,7 @@ module _ {R O : Type 0} (t : Telling R O) where
 
       -- ---- that puts a text
 
-      put_so : (text : List ℕ) (outcome : Outcome) → PutsTo text out out' outcome → (err err' : SinkState) → Reported t err err' outcome
+      pub put_so : (text : List ℕ) (outcome : Outcome) → PutsTo text out out' outcome → (err err' : SinkState) → Reported t err err' outcome
           → DoesOrNot t.name (ends_with t old new out out' outcome err err') new (prints text)
       put_so text (Ok u) put err err' told = inl (refl, inl (record { ended = refl; put = put; quiet = told }))
       put_so text (Err OutputFault) put err err' told = inl (refl, inr (record { ended = refl; put = put; told = told }))
@@ -229,10 +229,10 @@ module _ {R O : Type 0} (t : Telling R O) where
     called None u err err' told = (u.history, record { ended = ap (status_of t.status) u.is; quiet = u.quiet; told = subst (Reported t err err') u.is told })
     called (Some plan) p err err' told = p.comes err err' told
 
-    looks_are : (looks : List Look) (ws : List Write) → new ≡ went old looks ws → looks_since old new ≡ looks
+    pub looks_are : (looks : List Look) (ws : List Write) → new ≡ went old looks ws → looks_since old new ≡ looks
     looks_are looks ws is = ap (looks_since old) is ∙ drop-append_seam old.looks looks
 
-    writes_are : (looks : List Look) (ws : List Write) → new ≡ went old looks ws → writes_since old new ≡ ws
+    pub writes_are : (looks : List Look) (ws : List Write) → new ≡ went old looks ws → writes_since old new ≡ ws
     writes_are looks ws is = ap (writes_since old) is ∙ drop-append_seam old.writes ws
 
     nothing : new ≡ old → new ≡ went old [] []

@@ -1,5 +1,8 @@
+pub mod Completing
+pub mod Digits
 pub mod Ending
 mod Examples
 pub mod FilesRead
 pub mod LinesRead
 pub mod Placed
+pub mod TablesJudged

@@ -14,9 +14,8 @@ use Rattle.policy_lawful.specs.refusal.Refusal.{Refusal as PolicyRefusal}
 use Rattle.policy_lawful.specs.refusal.Refusal.TheVariants.{NoMemory as NoMemoryFor, NoRoom}
 use Rattle.policy_lawful.specs.source.Source.{Source}
 use Rattle.region_alloc.specs.Placement.{no_room, no_room_for, placement_of}
-use Rattle.dma_top.specs.Answers.{of_meaning, placed_plan, policy_plan}
-use Rattle.dma_top.specs.Reads.{Ends, Finds, FindsNone, IsErrorOf, IsToMap, IsToPrint}
-use Rattle.dma_top.specs.Commands.{windows}
+use Rattle.dma_top.specs.Answers.{of_meaning, placed_plan, policy_plan, windows_plan}
+use Rattle.dma_top.specs.Reads.{EndsFor, Finds, FindsNone, IsErrorOf, IsToMap, IsToPrint}
 use Rattle.dma_top.specs.Refusals.{devices}
 use Rattle.dma_top.specs.declared.refusal.Refusal.{Refusal}
 use Rattle.dma_top.specs.declared.refusal.Refusal.TheVariants.{Policy}
@@ -53,7 +52,7 @@ module _ (policy : List ℕ) (held : Option Store) (old new : History) (p : Sour
 
   -- one isn't, or memory was refused
   pub not_placed : (refusal : PolicyRefusal) → Explains NoMemoryFor (no_room p) refusal → (error : CommandError Refusal) → IsErrorOf NoMemoryFor Policy refusal error
-      → Ends (windows policy) held old new error
+      → EndsFor (windows_plan policy) held old new error
   unfolding no_room
   not_placed refusal h NoMemory is = without_room devices (policy_plan policy placed_plan) (of_meaning room_for prints_at (placement_of p)) held old new (found placed_plan)
   not_placed refusal h (Own reason) is =
@@ -61,7 +60,7 @@ module _ (policy : List ℕ) (held : Option Store) (old new : History) (p : Sour
         | inl e ↦ absurd (is.0 e)
         | inr e ↦
             let l = lacks_room (placement_of p) refusal e in
-            subst (λ x. Ends (windows policy) held old new (Own x)) (ap Policy l.2 ∙ sym is.1)
+            subst (λ x. EndsFor (windows_plan policy) held old new (Own x)) (ap Policy l.2 ∙ sym is.1)
             (refused_for room_for prints_at (policy_plan policy placed_plan) held old new (placement_of p) (found placed_plan) l.0 l.1)
       ]
   not_placed refusal h Usage is = absurd is

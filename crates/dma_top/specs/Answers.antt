@@ -1,6 +1,8 @@
 -- What a command answers to the bytes of its files.
-use Rattle.std.specs.Prelude.{ℕ, List, Result, Ok, Err, Some}
+use Rattle.std.specs.Prelude.{ℕ, List, Option, Result, Ok, Err, Some, None}
 use Rattle.command_shell.specs.Answers.{Answer, Plan, prints, refuses, answers, looks_at, takes_memory}
+use Rattle.dma_check.specs.Verdict.{verdict}
+use Rattle.dma_check.specs.declared.fault.DmaFault.{DmaFault}
 use Rattle.dma_lines.specs.LinesText.{lines_text}
 use Rattle.dma_map.specs.DmaMapText.{dma_map_text_of}
 use Rattle.dma_tables.specs.DmaFile.{dma_file}
@@ -13,6 +15,7 @@ use Rattle.image_pack.specs.declared.parts.Image.{Image}
 use Rattle.muen_build.specs.Refusals.{lawful_policy_of}
 use Rattle.muen_num.specs.declared.limits.TheConstants.{IMAGE_MOST, POLICY_MOST, RECORD_MOST}
 use Rattle.muen_top.specs.declared.limits.TheConstants.{DMA_MOST}
+use Rattle.muen_top.specs.Reports.{sound_text}
 use Rattle.policy_lawful.specs.refusal.Refusal.TheVariants.{NoRoom}
 use Rattle.policy_lawful.specs.source.Source.{Source}
 use Rattle.record_text.specs.Reading.{record_of}
@@ -20,10 +23,9 @@ use Rattle.record_text.specs.Steps.{mapped}
 use Rattle.record_text.specs.declared.record.Input.{Input}
 use Rattle.record_text.specs.declared.record.Record.{Record}
 use Rattle.region_alloc.specs.Placement.{placement_of}
-use Rattle.dma_top.specs.Commands.{Command, lines, windows}
 use Rattle.dma_top.specs.Refusals.{refusal_status, refusal_text}
 use Rattle.dma_top.specs.declared.refusal.Refusal.{Refusal}
-use Rattle.dma_top.specs.declared.refusal.Refusal.TheVariants.{Policy, Image as ImageOf, Record as RecordOf, Tables as TablesOf}
+use Rattle.dma_top.specs.declared.refusal.Refusal.TheVariants.{Policy, Image as ImageOf, Record as RecordOf, Tables as TablesOf, Unfit}
 use Rattle.dma_top.specs.declared.status.DmaStatus.{DmaStatus}
 
 -- what was asked for is refused, for this reason
@@ -56,8 +58,20 @@ policy_plan name next = file_plan name POLICY_MOST lawful_policy_of Policy next
 abbrev pub placed_plan : Source → Plan DmaStatus
 placed_plan p = takes_memory (of_meaning (λ (r : Region). Policy (NoRoom r.tag r.size)) (λ addresses. answers (prints (dma_map_text_of p addresses))) (placement_of p))
 
--- the files that a command looks at, and its answer to what they have
-abbrev pub plan_of : Command → Plan DmaStatus
-plan_of (lines image inputs tables) =
+-- the files that `lines` looks at, and its answer to what they have
+abbrev pub lines_plan : List ℕ → List ℕ → List ℕ → Plan DmaStatus
+lines_plan image inputs tables =
     image_plan image (λ i. tables_plan tables (λ t. record_plan i inputs (λ r. answers (prints (lines_text (Some t) i r)))))
-plan_of (windows policy) = policy_plan policy placed_plan
+
+-- .. `map`
+abbrev pub windows_plan : List ℕ → Plan DmaStatus
+windows_plan policy = policy_plan policy placed_plan
+
+-- ---- the verdict on tables, where the image is sound for the policy
+
+abbrev pub verdict_answer : Option DmaFault → Answer DmaStatus
+verdict_answer None = prints sound_text
+verdict_answer (Some fault) = refuses (refusal_status (Unfit fault)) (refusal_text (Unfit fault))
+
+abbrev pub verdict_plan : Source → Image → List ℕ → Plan DmaStatus
+verdict_plan p i tables = tables_plan tables (λ t. answers (verdict_answer (verdict p i t)))

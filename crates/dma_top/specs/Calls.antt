@@ -1,16 +1,20 @@
 -- What a call of the program does.
-use Rattle.std.specs.Prelude.{ℕ, List, option_map}
+use Rattle.std.specs.Prelude.{ℕ, List, Option, Some, None}
 use Rattle.command_shell.specs.Calls.{Ends, IsCallOf}
-use Rattle.command_shell.specs.Complete.{IsComplete as IsCompleteOf}
-use Rattle.dma_top.specs.Answers.{plan_of}
-use Rattle.dma_top.specs.Commands.{command_of}
+use Rattle.muen_outside.specs.Store.{Store}
+use Rattle.dma_top.specs.Answers.{lines_plan, windows_plan}
+use Rattle.dma_top.specs.Commands.{Command, command_of, lines, verify, windows}
 use Rattle.dma_top.specs.Refusals.{devices}
+use Rattle.dma_top.specs.Verdicts.{IsVerify}
 use Rattle.dma_top.specs.declared.status.DmaStatus.{DmaStatus}
 
--- it looks at the files of the command that the words ask for, and does what that is answered to what they have
-abbrev pub IsCall : List (List ℕ) → Ends DmaStatus → Type 0
-IsCall words e = IsCallOf devices.name devices.usage (option_map plan_of (command_of words)) e
+-- of a command: it looks at its files, and does what is answered to what they have
+abbrev pub IsAsked : Option Command → Option Store → Ends DmaStatus → Type 0
+IsAsked None held e = IsCallOf devices.name devices.usage None e
+IsAsked (Some (verify image policy tables)) held e = IsVerify image policy tables held e
+IsAsked (Some (lines image inputs tables)) held e = IsCallOf devices.name devices.usage (Some (lines_plan image inputs tables)) e
+IsAsked (Some (windows policy)) held e = IsCallOf devices.name devices.usage (Some (windows_plan policy)) e
 
--- .. the whole of it, where nothing fails and memory suffices
-abbrev pub IsComplete : List (List ℕ) → Ends DmaStatus → Type 0
-IsComplete words e = IsCompleteOf devices.name devices.usage (option_map plan_of (command_of words)) e
+-- .. of the command that the words ask for, over files that hold this, where they tell it
+abbrev pub IsCall : List (List ℕ) → Option Store → Ends DmaStatus → Type 0
+IsCall words held e = IsAsked (command_of words) held e

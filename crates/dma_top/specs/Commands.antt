@@ -2,9 +2,11 @@
 use Rattle.std.specs.Prelude.{ℕ, List, [], ◌∷◌, Option, Some, None, option_and_then, codes}
 use Rattle.command_shell.specs.Forms.{Row, command_in, row}
 use Rattle.dma_top.specs.declared.command.Kind.{Kind}
-use Rattle.dma_top.specs.declared.command.Kind.TheVariants.{Lines, Map}
+use Rattle.dma_top.specs.declared.command.Kind.TheVariants.{Verify, Lines, Map}
 
 pub data Command : Type 0 where
+  -- an image, a policy and a file of tables, by their names: whether the image is sound for the policy, and the tables fit both
+  verify : List ℕ → List ℕ → List ℕ → Command
   -- an image, a device record and a file of tables, by their names: what each line of direct memory access of the record did
   lines : List ℕ → List ℕ → List ℕ → Command
   -- a policy, by its file's name: where its devices reach memory by themselves
@@ -14,11 +16,16 @@ pub data Command : Type 0 where
 
 abbrev pub forms : List (Row Kind)
 forms =
-    row (codes "lines") (codes "IMAGE" ∷ codes "RECORD" ∷ codes "DMA" ∷ []) Lines
+    row (codes "verify") (codes "IMAGE" ∷ codes "POLICY" ∷ codes "DMA" ∷ []) Verify
+    ∷ row (codes "lines") (codes "IMAGE" ∷ codes "RECORD" ∷ codes "DMA" ∷ []) Lines
     ∷ row (codes "map") (codes "POLICY" ∷ []) Map
     ∷ []
 
 -- ---- the command of each form
+
+abbrev pub verify_of : List (List ℕ) → Option Command
+verify_of (image ∷ policy ∷ tables ∷ []) = Some (verify image policy tables)
+verify_of _ = None
 
 abbrev pub lines_of : List (List ℕ) → Option Command
 lines_of (image ∷ inputs ∷ tables ∷ []) = Some (lines image inputs tables)
@@ -29,6 +36,7 @@ windows_of (policy ∷ []) = Some (windows policy)
 windows_of _ = None
 
 abbrev pub command_at : Kind → List (List ℕ) → Option Command
+command_at Verify arguments = verify_of arguments
 command_at Lines arguments = lines_of arguments
 command_at Map arguments = windows_of arguments
 

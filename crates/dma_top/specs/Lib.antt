@@ -1,7 +1,11 @@
 pub mod Answers
 pub mod Calls
 pub mod Commands
+pub mod Complete
+pub mod FaultTexts
+pub mod Outcomes
 pub mod Parsed
 pub mod Reads
 pub mod Refusals
 pub mod Statuses
+pub mod Verdicts

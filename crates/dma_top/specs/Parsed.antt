@@ -1,8 +1,9 @@
 -- The commands that calls are given, in the words of the definition.
-use Rattle.dma_top.specs.Commands.{Command as Asked, lines, windows}
+use Rattle.dma_top.specs.Commands.{Command as Asked, lines, verify, windows}
 use Rattle.dma_top.specs.declared.command.Command.{Command}
-use Rattle.dma_top.specs.declared.command.Command.TheVariants.{Lines, Map}
+use Rattle.dma_top.specs.declared.command.Command.TheVariants.{Verify, Lines, Map}
 
 abbrev pub asked : Command → Asked
+asked (Verify image policy tables) = verify image.now policy.now tables.now
 asked (Lines image inputs tables) = lines image.now inputs.now tables.now
 asked (Map policy) = windows policy.now

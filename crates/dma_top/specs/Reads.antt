@@ -9,8 +9,7 @@ use Rattle.muen_outside.specs.States.{History}
 use Rattle.muen_outside.specs.Store.{Store}
 use Rattle.policy_lawful.specs.source.Source.{Source}
 use Rattle.region_alloc.specs.Placement.{placement_of}
-use Rattle.dma_top.specs.Answers.{plan_of}
-use Rattle.dma_top.specs.Commands.{Command, windows}
+use Rattle.dma_top.specs.Answers.{windows_plan}
 use Rattle.dma_top.specs.Refusals.{devices}
 use Rattle.dma_top.specs.declared.refusal.Refusal.{Refusal}
 use Rattle.dma_top.specs.declared.status.DmaStatus.{DmaStatus}
@@ -33,16 +32,16 @@ IsErrorOf memory reason fault _ = ⊥
 
 -- ---- the files of a command
 
--- they were read, and this text is printed
-abbrev pub IsToPrint : Command → List ℕ → Option Store → History → History → Type 0
-IsToPrint command text held old new = Reaches devices.name (plan_of command) (answers (prints text)) held old new
+-- those of a plan were read, and this text is printed
+abbrev pub IsToPrint : Plan DmaStatus → List ℕ → Option Store → History → History → Type 0
+IsToPrint plan text held old new = Reaches devices.name plan (answers (prints text)) held old new
 
 -- .. or that ends for this error
-abbrev pub Ends : Command → Option Store → History → History → CommandError Refusal → Type 0
-Ends command held old new error = StopsAt devices (plan_of command) held old new error
+abbrev pub EndsFor : Plan DmaStatus → Option Store → History → History → CommandError Refusal → Type 0
+EndsFor plan held old new error = StopsAt devices plan held old new error
 
 -- a policy was read, and its regions are placed, so that its devices' windows are printed
 pub record IsToMap (policy : List ℕ) (held : Option Store) (old new : History) (p : Source) : Type 0 where
   pub addresses : List ℕ
   pub placement : placement_of p ≡ Ok addresses
-  pub printed : IsToPrint (windows policy) (dma_map_text_of p addresses) held old new
+  pub printed : IsToPrint (windows_plan policy) (dma_map_text_of p addresses) held old new

@@ -1,18 +1,18 @@
 //! What the words ask for is done, and its end told.
-ghost use Rattle.std.specs.Prelude.{◌≡◌, IfSome, map, option_map, string_bytes};
+ghost use Rattle.std.specs.Prelude.{IfSome, map, string_bytes};
 ghost use Rattle.command_shell.specs.Calls.{ends};
-ghost use Rattle.command_shell.specs.Outcomes.{ComesOf};
 ghost use Rattle.muen_outside.specs.Looks.{HeldAfter, ShowAll, looks_since, writes_since};
-ghost use Rattle.dma_top.specs.Answers.{plan_of};
-ghost use Rattle.dma_top.specs.Calls.{IsCall, IsComplete};
+ghost use Rattle.dma_top.specs.Calls.{IsCall};
+ghost use Rattle.dma_top.specs.Complete.{IsComplete};
 ghost use Rattle.dma_top.specs.Commands.{command_of};
-ghost use Rattle.dma_top.specs.Refusals.{devices};
+ghost use Rattle.dma_top.specs.Outcomes.{ComesOf};
 
 use crate::command::{Command, program};
 use crate::lines::lines;
 use crate::policies::map;
 use crate::refusal::Refusal;
 use crate::status::Status;
+use crate::verify::verify;
 use command_shell::{CommandError, finish};
 use muen_outside::{Files, Sink};
 use std::alloc::Global;
@@ -25,10 +25,15 @@ fn work<'a, F: Files, S: Sink>(
     files: &mut F,
     out: &mut S,
 ) -> Result<(), CommandError<'a, Refusal>>
-    ensures { ComesOf devices (option_map plan_of (command_of (map string_bytes words.now))) (F.held files.old) (F.held files.new) (F.history files.old) (F.history files.new) (S.state out.old) (S.state out.new) result }
+    ensures { ComesOf (command_of (map string_bytes words.now)) (F.held files.old) (F.held files.new) (F.history files.old) (F.history files.new) (S.state out.old) (S.state out.new) result }
 {
     match Command::parse(words) {
         None => Err(CommandError::Usage),
+        Some(Command::Verify {
+            image,
+            policy,
+            tables,
+        }) => verify(alloc, image, policy, tables, files, out),
         Some(Command::Lines {
             image,
             inputs,
@@ -46,7 +51,7 @@ pub(crate) fn call<F: Files, S: Sink, E: Sink>(
     out: &mut S,
     err: &mut E,
 ) -> Status
-    ensures call { IsCall (map string_bytes words.now) (ends (F.history files.old) (F.history files.new) (S.state out.old) (S.state out.new) (E.state err.old) (E.state err.new) result) }
+    ensures call { IsCall (map string_bytes words.now) (F.held files.old) (ends (F.history files.old) (F.history files.new) (S.state out.old) (S.state out.new) (E.state err.old) (E.state err.new) result) }
     ensures complete { IsComplete (map string_bytes words.now) (ends (F.history files.old) (F.history files.new) (S.state out.old) (S.state out.new) (E.state err.old) (E.state err.new) result) }
     ensures agrees { IfSome (F.held files.old) (λ m. ShowAll m (looks_since (F.history files.old) (F.history files.new))) }
     ensures held { HeldAfter (writes_since (F.history files.old) (F.history files.new)) (F.held files.old) (F.held files.new) }

@@ -2,7 +2,7 @@
 ghost use Rattle.std.specs.Prelude.{◌≡◌, map, option_map, string_bytes};
 ghost use Rattle.command_shell.specs.Errors.{telling};
 ghost use Rattle.command_shell.specs.Forms.{form_shown};
-ghost use Rattle.dma_top.specs.Commands.{command_at, command_of, forms, lines_of, windows_of};
+ghost use Rattle.dma_top.specs.Commands.{command_at, command_of, forms, lines_of, verify_of, windows_of};
 ghost use Rattle.dma_top.specs.Parsed.{asked};
 ghost use Rattle.dma_top.specs.Refusals.{devices, refusal_status, refusal_text};
 
@@ -11,6 +11,7 @@ use command_shell::{Form, Program};
 /// A command without its names.
 #[derive(Clone, Copy, Debug)]
 pub(crate) enum Kind {
+    Verify,
     Lines,
     Map,
 }
@@ -18,6 +19,12 @@ pub(crate) enum Kind {
 /// What is asked for, with the names of files that were given.
 #[derive(Clone, Copy)]
 pub(crate) enum Command<'a> {
+    /// Whether an image is sound for a policy, and tables fit both.
+    Verify {
+        image: &'a str,
+        policy: &'a str,
+        tables: &'a str,
+    },
     /// What each line of direct memory access of a record did is printed.
     Lines {
         image: &'a str,
@@ -39,7 +46,8 @@ macro_rules! form {
 }
 
 // The forms, in the order in which they are told.
-static FORMS: [Form<Kind>; 2] = [
+static FORMS: [Form<Kind>; 3] = [
+    form!("verify", ["IMAGE", "POLICY", "DMA"], Verify),
     form!("lines", ["IMAGE", "RECORD", "DMA"], Lines),
     form!("map", ["POLICY"], Map),
 ];
@@ -56,6 +64,19 @@ pub(crate) fn program() -> Program<'static, Kind>
 }
 
 impl<'a> Command<'a> {
+    fn verify(arguments: &'a [String]) -> Option<Command<'a>>
+        ensures { option_map asked result ≡ verify_of (map string_bytes arguments.now) }
+    {
+        match arguments {
+            [image, policy, tables] => Some(Command::Verify {
+                image: image.as_str(),
+                policy: policy.as_str(),
+                tables: tables.as_str(),
+            }),
+            _ => None,
+        }
+    }
+
     fn lines(arguments: &'a [String]) -> Option<Command<'a>>
         ensures { option_map asked result ≡ lines_of (map string_bytes arguments.now) }
     {
@@ -83,6 +104,7 @@ impl<'a> Command<'a> {
         ensures { option_map asked result ≡ command_at kind (map string_bytes arguments.now) }
     {
         match kind {
+            Kind::Verify => Command::verify(arguments),
             Kind::Lines => Command::lines(arguments),
             Kind::Map => Command::map(arguments),
         }

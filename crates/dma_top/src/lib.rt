@@ -4,15 +4,18 @@
 ghost use Rattle.std.specs.Prelude.{IfSome, map, string_bytes};
 ghost use Rattle.muen_outside.specs.Looks.{HeldAfter, ShowAll, looks_since, writes_since};
 ghost use Rattle.command_shell.specs.Calls.{ends};
-ghost use Rattle.dma_top.specs.Calls.{IsCall, IsComplete};
+ghost use Rattle.dma_top.specs.Calls.{IsCall};
+ghost use Rattle.dma_top.specs.Complete.{IsComplete};
 
 mod call;
 mod command;
+mod hex_digits;
 mod lines;
 mod policies;
 mod reading;
 mod refusal;
 mod status;
+mod verify;
 
 use muen_outside::{Files, Sink};
 pub use status::{DmaStatus, Status};
@@ -47,7 +50,7 @@ pub fn muen_dma<F: Files, S: Sink, E: Sink>(
 ) -> Status
     // One look at each file that the words name, in this order, and exactly what is answered to what they gave: a text, or
     // the reason why not; each failed call, and refused memory, with its status.
-    ensures call { IsCall (map string_bytes words.now) (ends (F.history files.old) (F.history files.new) (S.state out.old) (S.state out.new) (E.state err.old) (E.state err.new) result) }
+    ensures call { IsCall (map string_bytes words.now) (F.held files.old) (ends (F.history files.old) (F.history files.new) (S.state out.old) (S.state out.new) (E.state err.old) (E.state err.new) result) }
     // Where no look and no put fails, and memory suffices, it does the whole of what the words are answered over each
     // store that agrees with the looks, and nothing else: so 4 and 7 come of a failure alone.
     ensures complete { IsComplete (map string_bytes words.now) (ends (F.history files.old) (F.history files.new) (S.state out.old) (S.state out.new) (E.state err.old) (E.state err.new) result) }

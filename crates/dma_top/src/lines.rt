@@ -3,9 +3,8 @@
 ghost use Rattle.std.specs.Prelude.{◌≡◌, Some, IfErr, IfOk};
 ghost use Rattle.command_shell.specs.Outcomes.{ComesTo, PutsTo};
 ghost use Rattle.dma_lines.specs.LinesText.{lines_text};
-ghost use Rattle.dma_top.specs.Answers.{plan_of};
-ghost use Rattle.dma_top.specs.Commands.{lines as lines_command};
-ghost use Rattle.dma_top.specs.Reads.{Ends, IsToPrint};
+ghost use Rattle.dma_top.specs.Answers.{lines_plan};
+ghost use Rattle.dma_top.specs.Reads.{EndsFor, IsToPrint};
 ghost use Rattle.dma_top.specs.Refusals.{devices};
 
 use crate::reading::{read_image, read_inputs, read_tables};
@@ -34,8 +33,8 @@ fn read_recorded<'a, F: Files>(
     tables: &'a str,
     files: &mut F,
 ) -> Result<Recorded, CommandError<'a, Refusal>>
-    ensures ok { IfOk result (λ x. IsToPrint (lines_command image.now inputs.now tables.now) (lines_text (Some x.tables) x.image x.inputs) (F.held files.old) (F.history files.old) (F.history files.new)) }
-    ensures err { IfErr result (Ends (lines_command image.now inputs.now tables.now) (F.held files.old) (F.history files.old) (F.history files.new)) }
+    ensures ok { IfOk result (λ x. IsToPrint (lines_plan image.now inputs.now tables.now) (lines_text (Some x.tables) x.image x.inputs) (F.held files.old) (F.history files.old) (F.history files.new)) }
+    ensures err { IfErr result (EndsFor (lines_plan image.now inputs.now tables.now) (F.held files.old) (F.history files.old) (F.history files.new)) }
     ensures held { F.held files.new ≡ F.held files.old }
 {
     let image = read_image(alloc, image, files)?;
@@ -79,7 +78,7 @@ pub(crate) fn lines<'a, F: Files, S: Sink>(
     files: &mut F,
     out: &mut S,
 ) -> Result<(), CommandError<'a, Refusal>>
-    ensures { ComesTo devices (plan_of (lines_command image.now inputs.now tables.now)) (F.held files.old) (F.held files.new) (F.history files.old) (F.history files.new) (S.state out.old) (S.state out.new) result }
+    ensures { ComesTo devices (lines_plan image.now inputs.now tables.now) (F.held files.old) (F.held files.new) (F.history files.old) (F.history files.new) (S.state out.old) (S.state out.new) result }
 {
     match read_recorded(alloc, image, inputs, tables, files) {
         Ok(recorded) => put_lines(alloc, &recorded, out),

@@ -4,9 +4,8 @@ ghost use Rattle.command_shell.specs.Outcomes.{ComesTo, PutsTo};
 ghost use Rattle.dma_map.specs.DmaMapText.{dma_map_text_of};
 ghost use Rattle.policy_lawful.specs.Resolution.{source_of};
 ghost use Rattle.region_alloc.specs.Placement.{placement_of};
-ghost use Rattle.dma_top.specs.Answers.{plan_of};
-ghost use Rattle.dma_top.specs.Commands.{windows};
-ghost use Rattle.dma_top.specs.Reads.{Ends, IsToMap};
+ghost use Rattle.dma_top.specs.Answers.{windows_plan};
+ghost use Rattle.dma_top.specs.Reads.{EndsFor, IsToMap};
 ghost use Rattle.dma_top.specs.Refusals.{devices};
 
 use crate::reading::{policy_error, read_policy};
@@ -25,7 +24,7 @@ fn read_placed<'a, F: Files>(
     files: &mut F,
 ) -> Result<Placed, CommandError<'a, Refusal>>
     ensures ok { IfOk result (λ x. IsToMap policy.now (F.held files.old) (F.history files.old) (F.history files.new) (source_of x.expanded.lawful)) }
-    ensures err { IfErr result (Ends (windows policy.now) (F.held files.old) (F.history files.old) (F.history files.new)) }
+    ensures err { IfErr result (EndsFor (windows_plan policy.now) (F.held files.old) (F.history files.old) (F.history files.new)) }
     ensures held { F.held files.new ≡ F.held files.old }
 {
     let policy = read_policy(alloc, policy, files)?;
@@ -61,7 +60,7 @@ pub(crate) fn map<'a, F: Files, S: Sink>(
     files: &mut F,
     out: &mut S,
 ) -> Result<(), CommandError<'a, Refusal>>
-    ensures { ComesTo devices (plan_of (windows policy.now)) (F.held files.old) (F.held files.new) (F.history files.old) (F.history files.new) (S.state out.old) (S.state out.new) result }
+    ensures { ComesTo devices (windows_plan policy.now) (F.held files.old) (F.held files.new) (F.history files.old) (F.history files.new) (S.state out.old) (S.state out.new) result }
 {
     match read_placed(alloc, policy, files) {
         Ok(placed) => put_map(alloc, &placed, out),

@@ -12,6 +12,8 @@ pub enum DmaStatus {
     ImageRefused,
     /// 6: the device record is refused.
     RecordRefused,
+    /// 9: the image isn't sound for the policy, or the tables don't fit both.
+    NotSound,
     /// 10: the tables are refused.
     TablesRefused,
 }
@@ -24,6 +26,7 @@ impl OwnStatus for DmaStatus {
             DmaStatus::PolicyRefused => 2,
             DmaStatus::ImageRefused => 5,
             DmaStatus::RecordRefused => 6,
+            DmaStatus::NotSound => 9,
             DmaStatus::TablesRefused => 10,
         }
     }

@@ -1,16 +1,15 @@
 use Rattle.std.proofs.Common.{refl, Some}
 use Rattle.command_shell.proofs.Ending.{printed, stopped}
 use Rattle.dma_lines.specs.LinesText.{lines_text}
-use Rattle.dma_top.specs.Answers.{plan_of}
-use Rattle.dma_top.specs.Commands.{lines}
+use Rattle.dma_top.specs.Answers.{lines_plan}
 use Rattle.dma_top.specs.Refusals.{devices}
 use Rattle.dma_top.proofs.lines.lines.Goals as goal
 
 pub returns-in-Ok : goal.returns-in-Ok
 returns-in-Ok g c =
-    printed devices (plan_of (lines c.args.image.now c.args.inputs.now c.args.tables.now)) _ _ _ _ c.read_recorded.ensures.held _ _
+    printed devices (lines_plan c.args.image.now c.args.inputs.now c.args.tables.now) _ _ _ _ c.read_recorded.ensures.held _ _
     (lines_text (Some c.in-Ok.recorded.tables) c.in-Ok.recorded.image c.in-Ok.recorded.inputs) c.in-Ok.ensures.ok _ c.put_lines.ensures
 
 pub returns-in-Err : goal.returns-in-Err
 returns-in-Err g c =
-    stopped devices (plan_of (lines c.args.image.now c.args.inputs.now c.args.tables.now)) _ _ _ _ c.read_recorded.ensures.held _ _ refl c.in-Err.error c.in-Err.ensures.err
+    stopped devices (lines_plan c.args.image.now c.args.inputs.now c.args.tables.now) _ _ _ _ c.read_recorded.ensures.held _ _ refl c.in-Err.error c.in-Err.ensures.err

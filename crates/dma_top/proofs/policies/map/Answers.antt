@@ -2,15 +2,14 @@ use Rattle.std.proofs.Common.{refl}
 use Rattle.command_shell.proofs.Ending.{printed, stopped}
 use Rattle.dma_map.specs.DmaMapText.{dma_map_text_of}
 use Rattle.policy_lawful.specs.Resolution.{source_of}
-use Rattle.dma_top.specs.Answers.{plan_of}
-use Rattle.dma_top.specs.Commands.{windows}
+use Rattle.dma_top.specs.Answers.{windows_plan}
 use Rattle.dma_top.specs.Refusals.{devices}
 use Rattle.dma_top.proofs.policies.map.Goals as goal
 
 pub returns-in-Ok : goal.returns-in-Ok
 returns-in-Ok g c =
     let is = c.in-Ok.ensures.ok in
-    printed devices (plan_of (windows c.args.policy.now)) _ _ _ _ c.read_placed.ensures.held _ _ (dma_map_text_of (source_of c.in-Ok.placed.expanded.lawful) is.addresses) is.printed _ (c.put_map.ensures is.addresses is.placement)
+    printed devices (windows_plan c.args.policy.now) _ _ _ _ c.read_placed.ensures.held _ _ (dma_map_text_of (source_of c.in-Ok.placed.expanded.lawful) is.addresses) is.printed _ (c.put_map.ensures is.addresses is.placement)
 
 pub returns-in-Err : goal.returns-in-Err
-returns-in-Err g c = stopped devices (plan_of (windows c.args.policy.now)) _ _ _ _ c.read_placed.ensures.held _ _ refl c.in-Err.error c.in-Err.ensures.err
+returns-in-Err g c = stopped devices (windows_plan c.args.policy.now) _ _ _ _ c.read_placed.ensures.held _ _ refl c.in-Err.error c.in-Err.ensures.err
