@@ -115,8 +115,8 @@ module _ (image policy tables : List ℕ) (held : Option Store) (e : Ends DmaSta
 
     told_so : IsJudgedSo tables i r things e seen → Told
     told_so (inl h) =
-        let is : e.after ≡ looked e.before read.looks = h.2.0 ∙ read.saw.history in
-        let whole = whole_line read.looks is (Own (Unsound h.0)) h.2.1 in
+        let is : e.after ≡ looked e.before read.looks = h.2 ∙ read.saw.history in
+        let whole = whole_line read.looks is (Own (Unsound h.0)) h.3 in
         inr (λ m all. judges_so m (Some h.0) (subst (ShowAll m) (since read.looks is) all) h.1 (λ v. inl (h.0, v, whole)))
     told_so (inr (inl h)) = inl h.1.ended
     told_so (inr (inr h)) =

@@ -1,5 +1,5 @@
 -- What a call does whose command has come to this.
-use Rattle.std.proofs.Common.{◌≡◌, ◌⊎◌, inl, inr, ℕ, List, [], Option, Some, None, IfSome, Result, Ok, Err, refl, sym, ap, subst, ◌∙◌, append-nil}
+use Rattle.std.proofs.Common.{◌≡◌, ◌⊎◌, inl, inr, ℕ, List, [], ◌++◌, Option, Some, None, IfSome, Result, Ok, Err, refl, sym, ap, subst, ◌∙◌, append-nil}
 use Rattle.command_shell.specs.Calls.{Ends, Stops}
 use Rattle.command_shell.specs.Errors.{Reported, error_status, error_text}
 use Rattle.command_shell.specs.Outcomes.{StopsAt, Reaches, PutsTo, ends_with}
