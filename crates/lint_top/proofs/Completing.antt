@@ -59,7 +59,7 @@ module _ (e : Ends LintStatus) (well : NothingFails e) where
   module _ (looks : List Look) (is : e.after ≡ looked e.before looks) where
     told_so : (refusals : List Refusal) → Tells e refusals → HasTold e refusals
     told_so [] t = record { ended = t.ended; unwritten = unwritten looks is; quiet = t.quiet; silent = t.silent }
-    told_so (refusal ∷ more) t = record { ended = t.ended; unwritten = unwritten looks is; put = t.put; told = told_all _ t.told }
+    told_so (refusal ∷ more) t = record { ended = t.ended; unwritten = unwritten looks is; put = t.put; told = told_all (count_text (length (refusal ∷ more))) t.told }
 
     put_all : (refusals : List Refusal) → Tells e refusals ⊎ PutsFront linter.name e (lines_of refusals) → HasTold e refusals
     put_all refusals (inl t) = told_so refusals t
@@ -105,7 +105,7 @@ module _ (e : Ends LintStatus) (well : NothingFails e) where
       not_found lint_errors.FileFault l told =
           let fault : EndsInFault l.looks = l.says in
           let all : AllByRecursion Answered (At (Ok (whole document)) ∷ l.looks) =
-              recursion_from_All Answered _ (subst (All Answered) (made (At (Ok (whole document)) ∷ l.looks) (all_looks l.looks l.looked.history)) well.looks) in
+              recursion_from_All Answered (At (Ok (whole document)) ∷ l.looks) (subst (All Answered) (made (At (Ok (whole document)) ∷ l.looks) (all_looks l.looks l.looked.history)) well.looks) in
           absurd (last_so fault.front (look fault.name fault.most (Err FilesFailed)) (subst (AllByRecursion Answered) fault.is all.1) refl)
 
       told_whole : IsTold policy document held e seen_whole → Whole
@@ -119,7 +119,7 @@ module _ (e : Ends LintStatus) (well : NothingFails e) where
     after_look (Ok (long n)) comes =
         unread (long n) statuses.FileMissing _ comes (λ r m sees. subst (Follows linter.name e policy (λ x. HasTold e (all_refusals m x))) (sym sees) r)
     after_look (Err FilesFailed) comes =
-        let all : AllByRecursion Answered (At (Err FilesFailed) ∷ []) = recursion_from_All Answered _ (subst (All Answered) (made (At (Err FilesFailed) ∷ []) comes.0) well.looks) in
+        let all : AllByRecursion Answered (At (Err FilesFailed) ∷ []) = recursion_from_All Answered (At (Err FilesFailed) ∷ []) (subst (All Answered) (made (At (Err FilesFailed) ∷ []) comes.0) well.looks) in
         absurd (all.0 refl)
     after_look (Err FilesMemory) comes = inl comes.1.ended
 

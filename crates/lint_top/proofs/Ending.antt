@@ -25,13 +25,13 @@ use Rattle.lint_top.specs.Lines.{lines_of}
 use Rattle.lint_top.specs.Outcomes.{ArePut, ComesSo, ComesTo, Outcome, PutsTo, TellsOf}
 use Rattle.lint_top.specs.Tellings.{count_text, linter}
 use Rattle.lint_top.specs.declared.refusal.PolicyRefused.{PolicyRefused}
-use Rattle.lint_top.specs.declared.status.LintStatus.TheVariants.{PolicyRefused as StatusRefused}
+use Rattle.lint_top.specs.declared.status.LintStatus.{LintStatus}
 
 -- ---- a document that was read
 
 module _ (policy document : List ℕ) (held : Option Store) (old new : History) (out out' : SinkState) where
   -- what this call finds and leaves
-  abbrev Made : History → Outcome → SinkState → SinkState → Ends _
+  abbrev Made : History → Outcome → SinkState → SinkState → Ends LintStatus
   Made before outcome err err' = ends before new out out' err err' (status_of linter.status outcome)
 
   -- all its refusals were found
@@ -106,10 +106,10 @@ module _ (policy : List ℕ) (held : Option Store) (old new : History) (out out'
     pub unread : (error : CommandError PolicyRefused) → NotRead policy POLICY_MOST held old new error → ComesTo (Some policy) held old new out out' (Err error)
     unread (Missing n) h =
         one_look (Ok absent) (Missing n) h.1
-        (λ err err' told. (Ok absent, h.1.possible, (h.1.history, subst (λ x. Stops linter.name (ends old new out out' err err' statuses.FileMissing) statuses.FileMissing (missing_text x)) h.0 (record { ended = refl; quiet = quiet; told = told }))))
+        (λ err err' told. (Ok absent, h.1.possible, (h.1.history, subst (λ x. Stops {O = LintStatus} linter.name (ends old new out out' err err' statuses.FileMissing) statuses.FileMissing (missing_text x)) h.0 (record { ended = refl; quiet = quiet; told = told }))))
     unread (TooLong n k) h =
         one_look (Ok (long k)) (TooLong n k) h.1
-        (λ err err' told. (Ok (long k), h.1.possible, (h.1.history, subst (λ x. Stops linter.name (ends old new out out' err err' statuses.FileMissing) statuses.FileMissing (too_long_text x k)) h.0 (record { ended = refl; quiet = quiet; told = told }))))
+        (λ err err' told. (Ok (long k), h.1.possible, (h.1.history, subst (λ x. Stops {O = LintStatus} linter.name (ends old new out out' err err' statuses.FileMissing) statuses.FileMissing (too_long_text x k)) h.0 (record { ended = refl; quiet = quiet; told = told }))))
     unread FileFault h = one_look (Err FilesFailed) FileFault h (λ err err' told. (Err FilesFailed, h.possible, (h.history, record { ended = refl; quiet = quiet; told = told })))
     unread NoMemory h = one_look (Err FilesMemory) NoMemory h (λ err err' told. (Err FilesMemory, h.possible, (h.history, record { ended = refl; quiet = quiet; told = told })))
     unread Usage h = absurd h

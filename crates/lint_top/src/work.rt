@@ -17,6 +17,7 @@ use policy_lint::{LintError, lint};
 use std::alloc::Global;
 
 // Puts all refusals of the document of this policy.
+#[tactic(auto, using(crate::proofs::Ending::put_so, crate::proofs::Ending::look_failed, crate::proofs::Ending::memory_failed))]
 fn tell<'a, F: Files, S: Sink>(
     alloc: Global,
     policy: &'a str,
@@ -35,6 +36,7 @@ fn tell<'a, F: Files, S: Sink>(
 }
 
 // The same of the policy of this file.
+#[tactic(auto, using(crate::proofs::Ending::read_then, crate::proofs::Ending::unread))]
 fn tell_file<'a, F: Files, S: Sink>(
     alloc: Global,
     policy: &'a str,
@@ -51,6 +53,7 @@ fn tell_file<'a, F: Files, S: Sink>(
 }
 
 // Does what the words ask for.
+#[tactic(auto, using(crate::proofs::Ending::no_policy, crate::proofs::Ending::named_as))]
 fn work<'a, F: Files, S: Sink>(
     alloc: Global,
     words: &'a [String],
