@@ -41,10 +41,9 @@ pub(crate) fn put_refusals<'a, S: Sink>(
     if refusals.is_empty() {
         return Ok(());
     }
+    let count = refusals.len();
     match put_lines(refusals, out) {
-        Ok(()) => Err(CommandError::Own(PolicyRefused {
-            count: refusals.len(),
-        })),
+        Ok(()) => Err(CommandError::Own(PolicyRefused { count })),
         Err(SinkFault) => Err(CommandError::OutputFault),
     }
 }

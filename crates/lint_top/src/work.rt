@@ -1,5 +1,5 @@
 //! What the words ask for: the policy is read, and all its refusals are put.
-ghost use Rattle.std.specs.Prelude.{◌≡◌, IfSome, map, string_bytes, Some};
+ghost use Rattle.std.specs.Prelude.{◌≡◌, IfSome, Some, map, option_map, string_bytes};
 ghost use Rattle.command_shell.specs.Calls.{ends};
 ghost use Rattle.muen_outside.specs.Looks.{ShowAll, looks_since};
 ghost use Rattle.lint_top.specs.Calls.{IsCall, policy_in};
@@ -52,6 +52,16 @@ fn tell_file<'a, F: Files, S: Sink>(
     }
 }
 
+// The name of the policy's file, where it is the only word.
+fn policy_in(words: &[String]) -> Option<&str>
+    ensures { option_map (λ policy. policy.now) result ≡ policy_in (map string_bytes words.now) }
+{
+    match words {
+        [policy] => Some(policy.as_str()),
+        _ => None,
+    }
+}
+
 // Does what the words ask for.
 #[tactic(auto, using(crate::proofs::Ending::no_policy, crate::proofs::Ending::named_as))]
 fn work<'a, F: Files, S: Sink>(
@@ -63,9 +73,9 @@ fn work<'a, F: Files, S: Sink>(
     ensures came { ComesTo (policy_in (map string_bytes words.now)) (F.held files.old) (F.history files.old) (F.history files.new) (S.state out.old) (S.state out.new) result }
     ensures held { F.held files.new ≡ F.held files.old }
 {
-    match words {
-        [policy] => tell_file(alloc, policy.as_str(), files, out),
-        _ => Err(CommandError::Usage),
+    match policy_in(words) {
+        Some(policy) => tell_file(alloc, policy, files, out),
+        None => Err(CommandError::Usage),
     }
 }
 

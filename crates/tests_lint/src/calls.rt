@@ -172,7 +172,8 @@ fn looks_that_fail(rt: HostRuntime) -> Result<(), Fail> {
     Ok(())
 }
 
-// A put fails behind three bytes: that of the first line, that of the last, or one more.
+// Each line is put in nine pieces. The first piece of the first line fails behind three bytes, that of the
+// last one, or what a further line would meet.
 #[test]
 fn an_output_that_fails(rt: HostRuntime) -> Result<(), Fail> {
     let alloc = rt.alloc();
@@ -180,11 +181,11 @@ fn an_output_that_fails(rt: HostRuntime) -> Result<(), Fail> {
     for (call_that_fails, want) in [
         (0, "7 muen_lint: output fault\nrul"),
         (
-            2,
+            18,
             "7 muen_lint: output fault\nrule 4: data data\nrule 5: code data\nrul",
         ),
         (
-            3,
+            27,
             "2 muen_lint: refusals: 3\nrule 4: data data\nrule 5: code data\nrule 18: low high\n",
         ),
     ] {
