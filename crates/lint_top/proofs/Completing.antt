@@ -22,7 +22,7 @@ use Rattle.policy_lint.specs.All.{all_refusals}
 use Rattle.policy_lint.specs.Linting.{LintFails, Lints}
 use Rattle.policy_lint.specs.declared.error.LintError.{LintError}
 use Rattle.policy_lint.specs.declared.error.LintError.TheVariants as lint_errors
-use Rattle.lint_top.specs.Calls.{IsCall, IsLint, IsTold, PutsLines, PutsNothing, Tells, error_ends, policy_in}
+use Rattle.lint_top.specs.Calls.{IsCall, IsLint, IsTold, Tells, error_ends, policy_in}
 use Rattle.lint_top.specs.Complete.{Answers, HasTold, IsComplete}
 use Rattle.lint_top.specs.Lines.{lines_of}
 use Rattle.lint_top.specs.Tellings.{count_text, linter}

@@ -1,5 +1,5 @@
 -- What a call comes to, from what was looked at.
-use Rattle.std.proofs.Common.{◌≡◌, inl, inr, ℕ, List, [], ◌∷◌, ◌++◌, length, Option, Some, None, IfSome, Result, Ok, Err, refl, sym, ap, subst, ◌∙◌}
+use Rattle.std.proofs.Common.{◌≡◌, inl, inr, ℕ, List, [], ◌∷◌, ◌++◌, Option, Some, None, IfSome, Result, Ok, Err, refl, sym, ap, subst, ◌∙◌}
 use Rattle.std.proofs.Math.Seq.{drop-append_seam}
 use Rattle.command_shell.specs.Calls.{Ends, Stops, ends}
 use Rattle.command_shell.specs.Errors.{Reported, error_status, status_of}
@@ -21,7 +21,6 @@ use Rattle.policy_lawful.specs.refusal.Refusal.{Refusal}
 use Rattle.policy_lint.specs.Linting.{LintFails, Lints}
 use Rattle.policy_lint.specs.declared.error.LintError.TheVariants as lint_errors
 use Rattle.lint_top.specs.Calls.{IsLint, IsTold, Tells}
-use Rattle.lint_top.specs.Lines.{lines_of}
 use Rattle.lint_top.specs.Outcomes.{ArePut, ComesSo, ComesTo, Outcome, PutsTo, TellsOf}
 use Rattle.lint_top.specs.Tellings.{count_text, linter}
 use Rattle.lint_top.specs.declared.refusal.PolicyRefused.{PolicyRefused}

@@ -1,4 +1,3 @@
-use Rattle.std.proofs.Common.{map}
 use Rattle.lint_top.proofs.Completing.{complete}
 use Rattle.lint_top.proofs.Ending.{agrees}
 use Rattle.lint_top.proofs.work.call.Goals as goal
