@@ -96,16 +96,16 @@ module _ (e : Ends LintStatus) (well : NothingFails e) where
       found : (refusals : List Refusal) → Lints policy document held seen_whole e.after refusals → HasTold e refusals → Whole
       found refusals l told =
           inr (λ m shown.
-            let s = seen (whole document) l.looks (all_looks l.looks l.looked.history) m shown in
-            let are : refusals ≡ all_refusals m document = subst (λ files. refusals ≡ all_refusals files document) (with_document m policy document s.0) (l.told m s.1) in
-            subst (Follows linter.name e policy (λ x. HasTold e (all_refusals m x))) (sym s.0) (subst (HasTold e) are told))
+          let s = seen (whole document) l.looks (all_looks l.looks l.looked.history) m shown in
+          let are : refusals ≡ all_refusals m document = subst (λ files. refusals ≡ all_refusals files document) (with_document m policy document s.0) (l.told m s.1) in
+          subst (Follows linter.name e policy (λ x. HasTold e (all_refusals m x))) (sym s.0) (subst (HasTold e) are told))
 
       not_found : (error : LintError) → LintFails policy document held seen_whole e.after error → error_ends e error → Whole
       not_found lint_errors.NoMemory l told = inl told.ended
       not_found lint_errors.FileFault l told =
           let fault : EndsInFault l.looks = l.says in
           let all : AllByRecursion Answered (At (Ok (whole document)) ∷ l.looks) =
-              recursion_from_All Answered (At (Ok (whole document)) ∷ l.looks) (subst (All Answered) (made (At (Ok (whole document)) ∷ l.looks) (all_looks l.looks l.looked.history)) well.looks) in
+          recursion_from_All Answered (At (Ok (whole document)) ∷ l.looks) (subst (All Answered) (made (At (Ok (whole document)) ∷ l.looks) (all_looks l.looks l.looked.history)) well.looks) in
           absurd (last_so fault.front (look fault.name fault.most (Err FilesFailed)) (subst (AllByRecursion Answered) fault.is all.1) refl)
 
       told_whole : IsTold policy document held e seen_whole → Whole

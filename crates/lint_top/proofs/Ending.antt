@@ -49,13 +49,13 @@ module _ (policy document : List ℕ) (held : Option Store) (old new : History) 
   pub put_so : (refusals : List Refusal) → Lints policy document held old new refusals → (outcome : Outcome) → PutsTo refusals out out' outcome → TellsOf policy document held old new out out' outcome
   put_so refusals l (Ok u) put =
       found_so (Ok u) refusals l (λ before err err' told.
-          inl (record { refusals = refusals; found = l; put = inl (subst (Tells (Made before (Ok u) err err')) (sym put.0) (record { ended = refl; quiet = put.1; silent = told })) }))
+      inl (record { refusals = refusals; found = l; put = inl (subst (Tells (Made before (Ok u) err err')) (sym put.0) (record { ended = refl; quiet = put.1; silent = told })) }))
   put_so refusals l (Err (Own reason)) put =
       found_so (Err (Own reason)) refusals l (λ before err err' told.
-          inl (record { refusals = refusals; found = l; put = inl (refused_so before reason refusals put err err' told) }))
+      inl (record { refusals = refusals; found = l; put = inl (refused_so before reason refusals put err err' told) }))
   put_so refusals l (Err OutputFault) put =
       found_so (Err OutputFault) refusals l (λ before err err' told.
-          inl (record { refusals = refusals; found = l; put = inr (record { ended = refl; put = put; told = told }) }))
+      inl (record { refusals = refusals; found = l; put = inr (record { ended = refl; put = put; told = told }) }))
   put_so refusals l (Err Usage) put = absurd put
   put_so refusals l (Err (Missing n)) put = absurd put
   put_so refusals l (Err (TooLong n k)) put = absurd put

@@ -105,10 +105,7 @@ const CALLS: &[(&[&str], &str)] = &[
         &["rules"],
         "2 muen_lint: refusals: 3\nrule 4: data data\nrule 5: code data\nrule 18: low high\n",
     ),
-    (
-        &["names"],
-        "2 muen_lint: refusals: 1\nrule 2: one text\n",
-    ),
+    (&["names"], "2 muen_lint: refusals: 1\nrule 2: one text\n"),
     (
         &["contents"],
         "2 muen_lint: refusals: 4\ncode: 4097 bytes in room for 4096\nmissing file absent\nrest: 4097 bytes in room for 4096\nno room for large of 262144 bytes\n",
@@ -140,10 +137,7 @@ fn the_longest_policy(rt: HostRuntime) -> Result<(), Fail> {
     let alloc = rt.alloc();
     for (length, want) in [
         (4_194_304, "2 muen_lint: refusals: 1\nnot JSON\n"),
-        (
-            4_194_305,
-            "3 muen_lint: file blank has 4194305 bytes\n",
-        ),
+        (4_194_305, "3 muen_lint: file blank has 4194305 bytes\n"),
     ] {
         let mut held = Vec::new(alloc);
         held.push((
