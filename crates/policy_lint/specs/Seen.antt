@@ -2,7 +2,7 @@
 use Rattle.std.specs.Prelude.{◌≡◌, ℕ, List, [], ◌∷◌, ◌++◌, length, map, Option, Some, None, Result, Ok, Err, if◌then◌else◌}
 use Rattle.std.specs.FinMap.{get}
 use Rattle.std.specs.Str.{bytes_eq}
-use Rattle.muen_build.specs.Accepting.{Files, Grows, LooksAt, WithGiven, part_length}
+use Rattle.muen_build.specs.Accepting.{Files, Grows, GrowsByThing, IsAskedBy, LooksAt, WithGiven, part_length, thing_names}
 use Rattle.muen_build.specs.Refusals.{too_long_for}
 use Rattle.muen_num.specs.declared.limits.TheConstants.{COMPONENT_FILE_MOST}
 use Rattle.muen_num.specs.declared.tag.Tag.{Tag}
@@ -13,6 +13,8 @@ use Rattle.muen_outside.specs.Store.{Reading, Store, absent, long, reading_of, w
 use Rattle.muen_outside.specs.declared.files.FileError.{FileError}
 use Rattle.muen_outside.specs.declared.files.FileError.TheVariants.{Failed, NoMemory as NoMemoryForFile}
 use Rattle.muen_outside.specs.declared.files.Found.{Found}
+use Rattle.policy_lawful.specs.Resolution.{Resolution}
+use Rattle.policy_lawful.specs.declared.thing.Thing.{Thing}
 use Rattle.policy_lawful.specs.refusal.Refusal.{Refusal}
 use Rattle.policy_lawful.specs.refusal.Refusal.TheVariants.{Missing as MissingFile, TooLong as FileTooLong}
 use Rattle.policy_lint.specs.declared.error.LintError.{LintError}
@@ -87,3 +89,21 @@ pub record StopsLooking (given : Files) (Asked : List Look → Look → Type 0) 
   pub after : List Look
   pub grows : Grows given Asked held old new before after
   pub says : LookingSays after error
+
+-- ---- of one content
+
+-- looks were made at the file of this name alone, and these are seen now
+abbrev pub SeesFile : Files → List ℕ → Option Store → History → History → List SeenFile → List SeenFile → Type 0
+SeesFile given file held old new before after = Grows given (IsAskedBy (bytes_eq file)) held old new (seen_looks before) (seen_looks after)
+
+-- .. and no answer came of them
+abbrev pub StopsAtFile : Files → List ℕ → Option Store → History → History → List SeenFile → LintError → Type 0
+StopsAtFile given file held old new before error = StopsLooking given (IsAskedBy (bytes_eq file)) held old new (seen_looks before) error
+
+-- looks were made at the file of a thing's content alone, and these are seen now
+abbrev pub SeesContent : Files → Resolution → Thing → Option Store → History → History → List SeenFile → List SeenFile → Type 0
+SeesContent given r t held old new before after = GrowsByThing given r t held old new (seen_looks before) (seen_looks after)
+
+-- .. and no answer came of them
+abbrev pub StopsAtContent : Files → Resolution → Thing → Option Store → History → History → List SeenFile → LintError → Type 0
+StopsAtContent given r t held old new before error = StopsLooking given (IsAskedBy (thing_names r t)) held old new (seen_looks before) error

@@ -1,9 +1,9 @@
 // Contents, each held against the room for it.
 ghost use Rattle.std.specs.Prelude.{◌≡◌, [], IfErr, IfOk};
-ghost use Rattle.muen_build.specs.Accepting.{Grows, IsAskedBy, WithGiven, given_files, thing_names, thing_refused};
+ghost use Rattle.muen_build.specs.Accepting.{IsAskedBy, WithGiven, given_files, thing_refused};
 ghost use Rattle.muen_build.specs.Looks.{names_file};
 ghost use Rattle.policy_lawful.specs.Resolution.{source_of};
-ghost use Rattle.policy_lint.specs.Seen.{StopsLooking, length_refused, seen_looks};
+ghost use Rattle.policy_lint.specs.Seen.{SeesContent, StopsAtContent, StopsLooking, length_refused, seen_looks};
 ghost use Rattle.policy_lint.specs.Linting.{TellsContents};
 
 use crate::error::LintError;
@@ -43,9 +43,9 @@ fn content_refused<F: Files>(
     seen: &mut Seq<SeenFile>,
     files: &mut F,
 ) -> Result<Option<Refusal>, LintError>
-    ensures grows { IfOk result (λ _. Grows (given_files given.now) (IsAskedBy (thing_names policy.now thing.now)) (F.held files.old) (F.history files.old) (F.history files.new) (seen_looks seen.old) (seen_looks seen.new)) }
+    ensures grows { IfOk result (λ _. SeesContent (given_files given.now) policy.now thing.now (F.held files.old) (F.history files.old) (F.history files.new) seen.old seen.new) }
     ensures told { IfOk result (λ refusal. WithGiven (given_files given.now) (seen_looks seen.new) (λ files. thing_refused policy.now thing.now files ≡ refusal)) }
-    ensures err { IfErr result (StopsLooking (given_files given.now) (IsAskedBy (thing_names policy.now thing.now)) (F.held files.old) (F.history files.old) (F.history files.new) (seen_looks seen.old)) }
+    ensures err { IfErr result (StopsAtContent (given_files given.now) policy.now thing.now (F.held files.old) (F.history files.old) (F.history files.new) seen.old) }
     ensures held { F.held files.new ≡ F.held files.old }
 {
     match policy.content(thing.content) {

@@ -1,11 +1,10 @@
 //! Component files that were looked at, with what was found.
 ghost use Rattle.std.specs.Prelude.{◌≡◌, IfErr, IfOk, None, Some, option_map};
-ghost use Rattle.std.specs.Str.{bytes_eq};
-ghost use Rattle.muen_build.specs.Accepting.{Grows, IsAskedBy, given_files};
+ghost use Rattle.muen_build.specs.Accepting.{given_files};
 ghost use Rattle.muen_num.specs.declared.limits.TheConstants.{COMPONENT_FILE_MOST as most_bytes};
 ghost use Rattle.muen_outside.specs.Found.{seen};
 ghost use Rattle.muen_outside.specs.Store.{reading_of};
-ghost use Rattle.policy_lint.specs.Seen.{HasLength, IsSeen, LookFails, StopsLooking, found_among, length_read, seen_looks};
+ghost use Rattle.policy_lint.specs.Seen.{HasLength, IsSeen, LookFails, SeesFile, StopsAtFile, found_among, length_read, seen_looks};
 
 use crate::error::LintError;
 use muen_build::{Given, given_bytes};
@@ -94,9 +93,9 @@ pub(crate) fn length_of<F: Files>(
     seen: &mut Seq<SeenFile>,
     files: &mut F,
 ) -> Result<FileLength, LintError>
-    ensures grows { IfOk result (λ _. Grows (given_files given.now) (IsAskedBy (bytes_eq file)) (F.held files.old) (F.history files.old) (F.history files.new) (seen_looks seen.old) (seen_looks seen.new)) }
+    ensures grows { IfOk result (λ _. SeesFile (given_files given.now) file (F.held files.old) (F.history files.old) (F.history files.new) seen.old seen.new) }
     ensures known { IfOk result (λ length. HasLength (given_files given.now) (seen_looks seen.new) file length) }
-    ensures err { IfErr result (StopsLooking (given_files given.now) (IsAskedBy (bytes_eq file)) (F.held files.old) (F.history files.old) (F.history files.new) (seen_looks seen.old)) }
+    ensures err { IfErr result (StopsAtFile (given_files given.now) file (F.held files.old) (F.history files.old) (F.history files.new) seen.old) }
     ensures held { F.held files.new ≡ F.held files.old }
 {
     if let Some(bytes) = given_bytes(given, file) {
