@@ -45,21 +45,17 @@ module _ (held held' : Option Store) (old new : History) (out out' : SinkState) 
   called (Some (lines image inputs tables)) c err err' told = shell_called devices held held' old new out out' outcome (Some (lines_plan image inputs tables)) c err err' told
   called (Some (windows policy)) c err err' told = shell_called devices held held' old new out out' outcome (Some (windows_plan policy)) c err err' told
 
-  -- looks alone
-  as_went : (looks : List Look) → new ≡ looked old looks → new ≡ went old looks []
-  as_went looks is = looked_alone old new looks is
-
   pub agrees : (command : Option Command) → ComesOf command held held' old new out out' outcome → IfSome held (λ m. ShowAll m (looks_since old new))
   agrees None c = shell_agrees devices held held' old new out out' outcome None c
   agrees (Some (verify image policy tables)) c =
-      subst (λ looks. IfSome held (λ m. ShowAll m looks)) (sym (looks_are devices held held' old new out out' outcome c.looks [] (as_went c.looks c.history))) c.told
+      subst (λ looks. IfSome held (λ m. ShowAll m looks)) (sym (looks_are devices held held' old new out out' outcome c.looks [] (looked_alone old new c.looks c.history))) c.told
   agrees (Some (lines image inputs tables)) c = shell_agrees devices held held' old new out out' outcome (Some (lines_plan image inputs tables)) c
   agrees (Some (windows policy)) c = shell_agrees devices held held' old new out out' outcome (Some (windows_plan policy)) c
 
   pub held_so : (command : Option Command) → ComesOf command held held' old new out out' outcome → HeldAfter (writes_since old new) held held'
   held_so None c = shell_held devices held held' old new out out' outcome None c
   held_so (Some (verify image policy tables)) c =
-      subst (λ ws. HeldAfter ws held held') (sym (writes_are devices held held' old new out out' outcome c.looks [] (as_went c.looks c.history))) c.left
+      subst (λ ws. HeldAfter ws held held') (sym (writes_are devices held held' old new out out' outcome c.looks [] (looked_alone old new c.looks c.history))) c.left
   held_so (Some (lines image inputs tables)) c = shell_held devices held held' old new out out' outcome (Some (lines_plan image inputs tables)) c
   held_so (Some (windows policy)) c = shell_held devices held held' old new out out' outcome (Some (windows_plan policy)) c
 

@@ -20,14 +20,10 @@ use Rattle.dma_top.specs.Refusals.{devices}
 use Rattle.dma_top.specs.declared.refusal.Refusal.{Refusal}
 use Rattle.dma_top.specs.declared.refusal.Refusal.TheVariants.{Policy}
 use Rattle.dma_top.specs.declared.status.DmaStatus.{DmaStatus}
+use Rattle.muen_top.proofs.PolicyCommands.{placement_there}
 use Rattle.dma_top.proofs.FilesRead.{goes_on_with, refused_for}
 
--- where no region lacks room there is a placement
-there_is : (a : Result (List ℕ) Region) → no_room_for a ≡ None → (addresses : List ℕ) × (a ≡ Ok addresses)
-there_is (Ok addresses) h = (addresses, refl)
-there_is (Err r) h = absurd (cc)
-
--- .. and else one that lacks it
+-- where there is no room, one region lacks it
 lacks_room : (a : Result (List ℕ) Region) (refusal : PolicyRefusal) → no_room_for a ≡ Some refusal → (r : Region) × (a ≡ Err r) × (NoRoom r.tag r.size ≡ refusal)
 lacks_room (Ok addresses) refusal h = absurd (cc)
 lacks_room (Err r) refusal h = (r, refl, cc)
@@ -43,7 +39,7 @@ module _ (policy : List ℕ) (held : Option Store) (old new : History) (p : Sour
   pub placed_so : no_room p ≡ None → IsToMap policy held old new p
   unfolding no_room
   placed_so h =
-      let there = there_is (placement_of p) h in
+      let there = placement_there (placement_of p) h in
       record {
         addresses = there.0;
         placement = there.1;

@@ -29,7 +29,7 @@ NoMore document more = more ≡ []
 -- ---- `map`
 
 -- where there is room, there is a placement
-placement_there : (a : Result (List ℕ) Region) → no_room_for a ≡ None → (addresses : List ℕ) × (a ≡ Ok addresses)
+pub placement_there : (a : Result (List ℕ) Region) → no_room_for a ≡ None → (addresses : List ℕ) × (a ≡ Ok addresses)
 placement_there (Ok addresses) h = (addresses, refl)
 placement_there (Err r) h = absurd (cc)
 

@@ -1,7 +1,7 @@
 use Rattle.std.proofs.Common.{◌*◌, ℕ, arith, length, length-take, replicate, subst, sym}
 use Rattle.std.specs.Str.{IsUtf8}
-use Rattle.image_verify.proofs.FaultText.{is_ok}
-use Rattle.dma_top.proofs.Digits.{digits_are_text, on_ok}
+use Rattle.image_verify.proofs.FaultText.{digits_are_text, is_ok}
+use Rattle.dma_top.proofs.Digits.{on_ok}
 use Rattle.dma_top.proofs.hex_digits.HexDigits.format.Goals as goal
 
 pub unwrap-requires : goal.unwrap-requires
