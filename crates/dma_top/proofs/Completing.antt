@@ -38,7 +38,7 @@ use Rattle.dma_top.specs.declared.status.DmaStatus.{DmaStatus}
 
 -- ---- looks in two parts
 
-show_both : (m : Store) (ls more : List Look) → ShowAll m (ls ++ more) → ShowAll m ls × ShowAll m more
+pub show_both : (m : Store) (ls more : List Look) → ShowAll m (ls ++ more) → ShowAll m ls × ShowAll m more
 show_both m [] more s = (tt, s)
 show_both m (l ∷ ls) more s = let b = show_both m ls more s.1 in ((s.0, b.0), b.1)
 

@@ -1,3 +1,4 @@
+pub mod Accepted
 pub mod Completing
 pub mod Digits
 pub mod Ending

@@ -1,3 +1,4 @@
+pub mod Accepting
 pub mod Answers
 pub mod Calls
 pub mod Commands

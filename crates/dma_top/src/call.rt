@@ -2,6 +2,7 @@
 ghost use Rattle.std.specs.Prelude.{IfSome, map, string_bytes};
 ghost use Rattle.command_shell.specs.Calls.{ends};
 ghost use Rattle.muen_outside.specs.Looks.{HeldAfter, ShowAll, looks_since, writes_since};
+ghost use Rattle.dma_top.specs.Accepting.{VerifyAccepts};
 ghost use Rattle.dma_top.specs.Calls.{IsCall};
 ghost use Rattle.dma_top.specs.Complete.{IsComplete};
 ghost use Rattle.dma_top.specs.Commands.{command_of};
@@ -53,6 +54,7 @@ pub(crate) fn call<F: Files, S: Sink, E: Sink>(
 ) -> Status
     ensures call { IsCall (map string_bytes words.now) (F.held files.old) (ends (F.history files.old) (F.history files.new) (S.state out.old) (S.state out.new) (E.state err.old) (E.state err.new) result) }
     ensures complete { IsComplete (map string_bytes words.now) (ends (F.history files.old) (F.history files.new) (S.state out.old) (S.state out.new) (E.state err.old) (E.state err.new) result) }
+    ensures accepts { VerifyAccepts (map string_bytes words.now) (looks_since (F.history files.old) (F.history files.new)) result }
     ensures agrees { IfSome (F.held files.old) (λ m. ShowAll m (looks_since (F.history files.old) (F.history files.new))) }
     ensures held { HeldAfter (writes_since (F.history files.old) (F.history files.new)) (F.held files.old) (F.held files.new) }
 {

@@ -4,6 +4,7 @@
 ghost use Rattle.std.specs.Prelude.{IfSome, map, string_bytes};
 ghost use Rattle.muen_outside.specs.Looks.{HeldAfter, ShowAll, looks_since, writes_since};
 ghost use Rattle.command_shell.specs.Calls.{ends};
+ghost use Rattle.dma_top.specs.Accepting.{VerifyAccepts};
 ghost use Rattle.dma_top.specs.Calls.{IsCall};
 ghost use Rattle.dma_top.specs.Complete.{IsComplete};
 
@@ -54,6 +55,8 @@ pub fn muen_dma<F: Files, S: Sink, E: Sink>(
     // Where no look and no put fails, and memory suffices, it does the whole of what the words are answered over each
     // store that agrees with the looks, and nothing else: so 4 and 7 come of a failure alone.
     ensures complete { IsComplete (map string_bytes words.now) (ends (F.history files.old) (F.history files.new) (S.state out.old) (S.state out.new) (E.state err.old) (E.state err.new) result) }
+    // `verify` with status 0 has found a policy whose contents fit, an image that is sound for it, and tables that fit both.
+    ensures accepts { VerifyAccepts (map string_bytes words.now) (looks_since (F.history files.old) (F.history files.new)) result }
     // What files tell of what they hold agrees with these looks, and stays.
     ensures agrees { IfSome (F.held files.old) (λ m. ShowAll m (looks_since (F.history files.old) (F.history files.new))) }
     ensures held { HeldAfter (writes_since (F.history files.old) (F.history files.new)) (F.held files.old) (F.held files.new) }
