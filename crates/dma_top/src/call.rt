@@ -30,16 +30,20 @@ fn work<'a, F: Files, S: Sink>(
 {
     match Command::parse(words) {
         None => Err(CommandError::Usage),
-        Some(Command::Verify {
-            image,
-            policy,
-            tables,
-        }) => verify(alloc, image, policy, tables, files, out),
-        Some(Command::Lines {
-            image,
-            inputs,
-            tables,
-        }) => lines(alloc, image, inputs, tables, files, out),
+        Some(
+            Command::Verify {
+                image,
+                policy,
+                tables,
+            },
+        ) => verify(alloc, image, policy, tables, files, out),
+        Some(
+            Command::Lines {
+                image,
+                inputs,
+                tables,
+            },
+        ) => lines(alloc, image, inputs, tables, files, out),
         Some(Command::Map(policy)) => map(alloc, policy, files, out),
     }
 }

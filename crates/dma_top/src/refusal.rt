@@ -76,11 +76,7 @@ fn table_fault_pieces<'a>(
 }
 
 // The line of a fault of tables.
-fn put_table_fault<E: Sink>(
-    program: &str,
-    fault: &TableFault,
-    err: &mut E,
-) -> Result<(), SinkFault>
+fn put_table_fault<E: Sink>(program: &str, fault: &TableFault, err: &mut E) -> Result<(), SinkFault>
     ensures { Puts (error_line program.now (unfit_text (InTables fault.now))) (E.state err.old) (E.state err.new) result }
 {
     let mut bus = HexDigits::new();
@@ -100,7 +96,11 @@ fn put_unfit<E: Sink>(program: &str, fault: &DmaFault, err: &mut E) -> Result<()
 {
     match fault {
         DmaFault::Listing { device } => {
-            put_error_line(program, &("not sound: device ", device.as_str()).into(), err)
+            put_error_line(
+                program,
+                &("not sound: device ", device.as_str()).into(),
+                err,
+            )
         }
         DmaFault::Tables { fault } => put_table_fault(program, fault, err),
     }
@@ -115,7 +115,8 @@ fn policy_status(refusal: &policy_lawful::Refusal) -> Status
         | policy_lawful::Refusal::Rule { .. }
         | policy_lawful::Refusal::FileFit { .. }
         | policy_lawful::Refusal::NoRoom { .. } => Status::Own(DmaStatus::PolicyRefused),
-        policy_lawful::Refusal::Missing { .. } | policy_lawful::Refusal::TooLong { .. } => Status::FileMissing,
+        policy_lawful::Refusal::Missing { .. } | policy_lawful::Refusal::TooLong { .. } =>
+            Status::FileMissing,
         policy_lawful::Refusal::NoMemory => Status::NoMemory,
     }
 }
