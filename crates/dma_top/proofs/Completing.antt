@@ -26,9 +26,9 @@ use Rattle.muen_top.specs.declared.outcome.CommandError.{CommandError as MuenErr
 use Rattle.muen_top.specs.declared.outcome.CommandError.TheVariants as muen
 use Rattle.muen_top.proofs.Verified.{is_judged}
 use Rattle.policy_lawful.specs.Resolution.{Resolution, source_of}
-use Rattle.dma_top.specs.Answers.{lines_plan, verdict_plan, windows_plan}
+use Rattle.dma_top.specs.Answers.{flows_plan, lines_plan, verdict_plan, windows_plan}
 use Rattle.dma_top.specs.Calls.{IsAsked}
-use Rattle.dma_top.specs.Commands.{Command, lines, verify, windows}
+use Rattle.dma_top.specs.Commands.{Command, flows, lines, verify, windows}
 use Rattle.dma_top.specs.Complete.{IsRefusedFor, IsStopped, IsVerdictTold, IsWhole}
 use Rattle.dma_top.specs.Refusals.{devices}
 use Rattle.dma_top.specs.Verdicts.{IsJudgedSo, IsVerify, StopsWith, judged, told_as, unread}
@@ -147,3 +147,4 @@ complete None held e c well = shell_complete devices.name devices.usage None e c
 complete (Some (verify image policy tables)) held e c well = of_verify image policy tables held e well c
 complete (Some (lines image inputs tables)) held e c well = shell_complete devices.name devices.usage (Some (lines_plan image inputs tables)) e c well
 complete (Some (windows policy)) held e c well = shell_complete devices.name devices.usage (Some (windows_plan policy)) e c well
+complete (Some (flows policy)) held e c well = shell_complete devices.name devices.usage (Some (flows_plan policy)) e c well

@@ -19,9 +19,9 @@ use Rattle.muen_top.specs.Reports.{sound_text}
 use Rattle.muen_top.specs.Verifying.{HasAllRead, IsFound}
 use Rattle.muen_top.specs.declared.outcome.CommandError.{CommandError as MuenError}
 use Rattle.policy_lawful.specs.Resolution.{Resolution, source_of}
-use Rattle.dma_top.specs.Answers.{lines_plan, verdict_plan, windows_plan}
+use Rattle.dma_top.specs.Answers.{flows_plan, lines_plan, verdict_plan, windows_plan}
 use Rattle.dma_top.specs.Calls.{IsAsked}
-use Rattle.dma_top.specs.Commands.{Command, lines, verify, windows}
+use Rattle.dma_top.specs.Commands.{Command, flows, lines, verify, windows}
 use Rattle.dma_top.specs.Outcomes.{ComesOf, ComesSo, Outcome}
 use Rattle.dma_top.specs.Refusals.{devices}
 use Rattle.dma_top.specs.Verdicts.{AreFit, AreUnfit, IsAccepted, IsJudgedSo, IsUnsound, IsVerify, judged, told_as, unread}
@@ -44,6 +44,7 @@ module _ (held held' : Option Store) (old new : History) (out out' : SinkState) 
   called (Some (verify image policy tables)) c err err' told = c.comes err err' told
   called (Some (lines image inputs tables)) c err err' told = shell_called devices held held' old new out out' outcome (Some (lines_plan image inputs tables)) c err err' told
   called (Some (windows policy)) c err err' told = shell_called devices held held' old new out out' outcome (Some (windows_plan policy)) c err err' told
+  called (Some (flows policy)) c err err' told = shell_called devices held held' old new out out' outcome (Some (flows_plan policy)) c err err' told
 
   pub agrees : (command : Option Command) → ComesOf command held held' old new out out' outcome → IfSome held (λ m. ShowAll m (looks_since old new))
   agrees None c = shell_agrees devices held held' old new out out' outcome None c
@@ -51,6 +52,7 @@ module _ (held held' : Option Store) (old new : History) (out out' : SinkState) 
       subst (λ looks. IfSome held (λ m. ShowAll m looks)) (sym (looks_are devices held held' old new out out' outcome c.looks [] (looked_alone old new c.looks c.history))) c.told
   agrees (Some (lines image inputs tables)) c = shell_agrees devices held held' old new out out' outcome (Some (lines_plan image inputs tables)) c
   agrees (Some (windows policy)) c = shell_agrees devices held held' old new out out' outcome (Some (windows_plan policy)) c
+  agrees (Some (flows policy)) c = shell_agrees devices held held' old new out out' outcome (Some (flows_plan policy)) c
 
   pub held_so : (command : Option Command) → ComesOf command held held' old new out out' outcome → HeldAfter (writes_since old new) held held'
   held_so None c = shell_held devices held held' old new out out' outcome None c
@@ -58,6 +60,7 @@ module _ (held held' : Option Store) (old new : History) (out out' : SinkState) 
       subst (λ ws. HeldAfter ws held held') (sym (writes_are devices held held' old new out out' outcome c.looks [] (looked_alone old new c.looks c.history))) c.left
   held_so (Some (lines image inputs tables)) c = shell_held devices held held' old new out out' outcome (Some (lines_plan image inputs tables)) c
   held_so (Some (windows policy)) c = shell_held devices held held' old new out out' outcome (Some (windows_plan policy)) c
+  held_so (Some (flows policy)) c = shell_held devices held held' old new out out' outcome (Some (flows_plan policy)) c
 
 -- ---- of `verify`
 

@@ -1,6 +1,7 @@
 -- What a command answers to the bytes of its files.
 use Rattle.std.specs.Prelude.{ℕ, List, Option, Result, Ok, Err, Some, None}
 use Rattle.command_shell.specs.Answers.{Answer, Plan, prints, refuses, answers, looks_at, takes_memory}
+use Rattle.device_flows.specs.DeviceFlows.{device_flow_text_of}
 use Rattle.dma_check.specs.Verdict.{verdict}
 use Rattle.dma_check.specs.declared.fault.DmaFault.{DmaFault}
 use Rattle.dma_lines.specs.LinesText.{lines_text}
@@ -66,6 +67,10 @@ lines_plan image inputs tables =
 -- .. `map`
 abbrev pub windows_plan : List ℕ → Plan DmaStatus
 windows_plan policy = policy_plan policy placed_plan
+
+-- .. `flows`
+abbrev pub flows_plan : List ℕ → Plan DmaStatus
+flows_plan policy = policy_plan policy (λ p. answers (prints (device_flow_text_of p)))
 
 -- ---- the verdict on tables, where the image is sound for the policy
 

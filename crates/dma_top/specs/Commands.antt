@@ -2,7 +2,7 @@
 use Rattle.std.specs.Prelude.{ℕ, List, [], ◌∷◌, Option, Some, None, option_and_then, codes}
 use Rattle.command_shell.specs.Forms.{Row, command_in, row}
 use Rattle.dma_top.specs.declared.command.Kind.{Kind}
-use Rattle.dma_top.specs.declared.command.Kind.TheVariants.{Verify, Lines, Map}
+use Rattle.dma_top.specs.declared.command.Kind.TheVariants.{Verify, Lines, Map, Flows}
 
 pub data Command : Type 0 where
   -- an image, a policy and a file of tables, by their names: whether the image is sound for the policy, and the tables fit both
@@ -11,6 +11,8 @@ pub data Command : Type 0 where
   lines : List ℕ → List ℕ → List ℕ → Command
   -- a policy, by its file's name: where its devices reach memory by themselves
   windows : List ℕ → Command
+  -- .. on whom each subject can depend, through devices too
+  flows : List ℕ → Command
 
 -- ---- the forms
 
@@ -19,6 +21,7 @@ forms =
     row (codes "verify") (codes "IMAGE" ∷ codes "POLICY" ∷ codes "DMA" ∷ []) Verify
     ∷ row (codes "lines") (codes "IMAGE" ∷ codes "RECORD" ∷ codes "DMA" ∷ []) Lines
     ∷ row (codes "map") (codes "POLICY" ∷ []) Map
+    ∷ row (codes "flows") (codes "POLICY" ∷ []) Flows
     ∷ []
 
 -- ---- the command of each form
@@ -35,10 +38,15 @@ abbrev pub windows_of : List (List ℕ) → Option Command
 windows_of (policy ∷ []) = Some (windows policy)
 windows_of _ = None
 
+abbrev pub flows_of : List (List ℕ) → Option Command
+flows_of (policy ∷ []) = Some (flows policy)
+flows_of _ = None
+
 abbrev pub command_at : Kind → List (List ℕ) → Option Command
 command_at Verify arguments = verify_of arguments
 command_at Lines arguments = lines_of arguments
 command_at Map arguments = windows_of arguments
+command_at Flows arguments = flows_of arguments
 
 -- the command that the words after the program's name ask for; none where they have no command's form
 abbrev pub command_of : List (List ℕ) → Option Command

@@ -10,8 +10,8 @@ use Rattle.muen_outside.specs.Looks.{ShowAll, looks_since}
 use Rattle.muen_outside.specs.Store.{Store}
 use Rattle.muen_top.specs.Answers.{Answer, Reason, usage, missing, too_long, refused, image_refused, dma_refused, record_refused, prints, writes, judges, stops, verify_answer}
 use Rattle.muen_top.specs.Verdicts.{HasVerdict}
-use Rattle.dma_top.specs.Answers.{lines_plan, verdict_plan, windows_plan}
-use Rattle.dma_top.specs.Commands.{Command, command_of, lines, verify, windows}
+use Rattle.dma_top.specs.Answers.{flows_plan, lines_plan, verdict_plan, windows_plan}
+use Rattle.dma_top.specs.Commands.{Command, command_of, flows, lines, verify, windows}
 use Rattle.dma_top.specs.Refusals.{devices, refusal_status, refusal_text}
 use Rattle.dma_top.specs.declared.refusal.Refusal.{Refusal}
 use Rattle.dma_top.specs.declared.refusal.Refusal.TheVariants.{Policy, Image as ImageOf, Record as RecordOf, Tables as TablesOf, Unsound}
@@ -45,6 +45,7 @@ IsWhole m None e = Answered m devices.name devices.usage e None
 IsWhole m (Some (verify image policy tables)) e = IsVerdictTold m tables e (verify_answer m image policy)
 IsWhole m (Some (lines image inputs tables)) e = Answered m devices.name devices.usage e (Some (lines_plan image inputs tables))
 IsWhole m (Some (windows policy)) e = Answered m devices.name devices.usage e (Some (windows_plan policy))
+IsWhole m (Some (flows policy)) e = Answered m devices.name devices.usage e (Some (flows_plan policy))
 
 -- where nothing fails, and memory suffices, that is so over every store that agrees with the looks
 abbrev pub IsComplete : List (List ℕ) → Ends DmaStatus → Type 0

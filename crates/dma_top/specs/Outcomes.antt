@@ -7,8 +7,8 @@ use Rattle.command_shell.specs.declared.error.CommandError.{CommandError}
 use Rattle.muen_outside.specs.Looks.{ShowAll}
 use Rattle.muen_outside.specs.States.{History, Look, SinkState, looked}
 use Rattle.muen_outside.specs.Store.{Store}
-use Rattle.dma_top.specs.Answers.{lines_plan, windows_plan}
-use Rattle.dma_top.specs.Commands.{Command, lines, verify, windows}
+use Rattle.dma_top.specs.Answers.{flows_plan, lines_plan, windows_plan}
+use Rattle.dma_top.specs.Commands.{Command, flows, lines, verify, windows}
 use Rattle.dma_top.specs.Refusals.{devices}
 use Rattle.dma_top.specs.Verdicts.{IsVerify}
 use Rattle.dma_top.specs.declared.refusal.Refusal.{Refusal}
@@ -30,3 +30,4 @@ ComesOf None held held' old new out out' outcome = IsUsage held held' old new ou
 ComesOf (Some (verify image policy tables)) held held' old new out out' outcome = ComesSo (IsVerify image policy tables held) held held' old new out out' outcome
 ComesOf (Some (lines image inputs tables)) held held' old new out out' outcome = ComesTo devices (lines_plan image inputs tables) held held' old new out out' outcome
 ComesOf (Some (windows policy)) held held' old new out out' outcome = ComesTo devices (windows_plan policy) held held' old new out out' outcome
+ComesOf (Some (flows policy)) held held' old new out out' outcome = ComesTo devices (flows_plan policy) held held' old new out out' outcome

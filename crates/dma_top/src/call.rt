@@ -10,7 +10,7 @@ ghost use Rattle.dma_top.specs.Outcomes.{ComesOf};
 
 use crate::command::{Command, program};
 use crate::lines::lines;
-use crate::policies::map;
+use crate::policies::{flows, map};
 use crate::refusal::Refusal;
 use crate::status::Status;
 use crate::verify::verify;
@@ -45,6 +45,7 @@ fn work<'a, F: Files, S: Sink>(
             },
         ) => lines(alloc, image, inputs, tables, files, out),
         Some(Command::Map(policy)) => map(alloc, policy, files, out),
+        Some(Command::Flows(policy)) => flows(alloc, policy, files, out),
     }
 }
 

@@ -2,7 +2,7 @@
 ghost use Rattle.std.specs.Prelude.{◌≡◌, map, option_map, string_bytes};
 ghost use Rattle.command_shell.specs.Errors.{telling};
 ghost use Rattle.command_shell.specs.Forms.{form_shown};
-ghost use Rattle.dma_top.specs.Commands.{command_at, command_of, forms, lines_of, verify_of, windows_of};
+ghost use Rattle.dma_top.specs.Commands.{command_at, command_of, flows_of, forms, lines_of, verify_of, windows_of};
 ghost use Rattle.dma_top.specs.Parsed.{asked};
 ghost use Rattle.dma_top.specs.Refusals.{devices, refusal_status, refusal_text};
 
@@ -14,6 +14,7 @@ pub(crate) enum Kind {
     Verify,
     Lines,
     Map,
+    Flows,
 }
 
 /// What is asked for, with the names of files that were given.
@@ -33,6 +34,8 @@ pub(crate) enum Command<'a> {
     },
     /// Where a policy's devices reach memory is printed.
     Map(&'a str),
+    /// On whom each subject can depend, through devices too, is printed.
+    Flows(&'a str),
 }
 
 macro_rules! form {
@@ -46,10 +49,11 @@ macro_rules! form {
 }
 
 // The forms, in the order in which they are told.
-static FORMS: [Form<Kind>; 3] = [
+static FORMS: [Form<Kind>; 4] = [
     form!("verify", ["IMAGE", "POLICY", "DMA"], Verify),
     form!("lines", ["IMAGE", "RECORD", "DMA"], Lines),
     form!("map", ["POLICY"], Map),
+    form!("flows", ["POLICY"], Flows),
 ];
 
 /// The program.
@@ -99,6 +103,15 @@ impl<'a> Command<'a> {
         }
     }
 
+    fn flows(arguments: &'a [String]) -> Option<Command<'a>>
+        ensures { option_map asked result ≡ flows_of (map string_bytes arguments.now) }
+    {
+        match arguments {
+            [policy] => Some(Command::Flows(policy.as_str())),
+            _ => None,
+        }
+    }
+
     // The command of this kind with these words behind its own.
     fn of_kind(kind: Kind, arguments: &'a [String]) -> Option<Command<'a>>
         ensures { option_map asked result ≡ command_at kind (map string_bytes arguments.now) }
@@ -107,6 +120,7 @@ impl<'a> Command<'a> {
             Kind::Verify => Command::verify(arguments),
             Kind::Lines => Command::lines(arguments),
             Kind::Map => Command::map(arguments),
+            Kind::Flows => Command::flows(arguments),
         }
     }
 
