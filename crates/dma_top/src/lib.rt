@@ -52,8 +52,8 @@ pub fn muen_dma<F: Files, S: Sink, E: Sink>(
     out: &mut S,
     err: &mut E,
 ) -> Status
-    // Exactly the looks of the command, at most one at each file that the words name, and exactly what is answered to what
-    // they gave: a text, or the reason why not; each failed call, and refused memory, with its status.
+    // Exactly the looks of the command, one at each of its files, and exactly what is answered to what they gave: a text,
+    // or the reason why not; each failed call, and refused memory, with its status.
     ensures call { IsCall (map string_bytes words.now) (F.held files.old) (ends (F.history files.old) (F.history files.new) (S.state out.old) (S.state out.new) (E.state err.old) (E.state err.new) result) }
     // Where no look and no put fails, and memory suffices, it does the whole of what the words are answered over each
     // store that agrees with the looks, and nothing else: so 4 and 7 come of a failure alone.
