@@ -52,13 +52,6 @@ module _ (held held' : Option Store) (old new : History) (out out' : SinkState) 
   agrees (Some (lines image inputs tables)) c = shell_agrees devices held held' old new out out' outcome (Some (lines_plan image inputs tables)) c
   agrees (Some (windows policy)) c = shell_agrees devices held held' old new out out' outcome (Some (windows_plan policy)) c
 
-  pub held_so : (command : Option Command) → ComesOf command held held' old new out out' outcome → HeldAfter (writes_since old new) held held'
-  held_so None c = shell_held devices held held' old new out out' outcome None c
-  held_so (Some (verify image policy tables)) c =
-      subst (λ ws. HeldAfter ws held held') (sym (writes_are devices held held' old new out out' outcome c.looks [] (looked_alone old new c.looks c.history))) c.left
-  held_so (Some (lines image inputs tables)) c = shell_held devices held held' old new out out' outcome (Some (lines_plan image inputs tables)) c
-  held_so (Some (windows policy)) c = shell_held devices held held' old new out out' outcome (Some (windows_plan policy)) c
-
 -- ---- of `verify`
 
 module _ (image policy tables : List ℕ) (held : Option Store) (old : History) (out : SinkState) where

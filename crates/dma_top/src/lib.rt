@@ -1,8 +1,8 @@
 //! The commands of the program `muen_dma`, on devices that reach memory by themselves.
 #![tactic(auto)]
 
-ghost use Rattle.std.specs.Prelude.{IfSome, map, string_bytes};
-ghost use Rattle.muen_outside.specs.Looks.{HeldAfter, ShowAll, looks_since, writes_since};
+ghost use Rattle.std.specs.Prelude.{◌≡◌, IfSome, map, string_bytes};
+ghost use Rattle.muen_outside.specs.Looks.{ShowAll, looks_since};
 ghost use Rattle.command_shell.specs.Calls.{ends};
 ghost use Rattle.dma_top.specs.Accepting.{VerifyAccepts};
 ghost use Rattle.dma_top.specs.Calls.{IsCall};
@@ -16,11 +16,13 @@ mod policies;
 mod reading;
 mod refusal;
 mod status;
+mod twice;
 mod verify;
 
 use muen_outside::{Files, Sink};
 pub use status::{DmaStatus, Status};
 use std::alloc::Global;
+pub use twice::muen_dma_twice;
 
 /// Does what the words after the program's name ask for, and answers the status.
 ///
@@ -62,7 +64,7 @@ pub fn muen_dma<F: Files, S: Sink, E: Sink>(
     ensures accepts { VerifyAccepts (map string_bytes words.now) (looks_since (F.history files.old) (F.history files.new)) result }
     // What files tell of what they hold agrees with these looks, and stays.
     ensures agrees { IfSome (F.held files.old) (λ m. ShowAll m (looks_since (F.history files.old) (F.history files.new))) }
-    ensures held { HeldAfter (writes_since (F.history files.old) (F.history files.new)) (F.held files.old) (F.held files.new) }
+    ensures held { F.held files.new ≡ F.held files.old }
 {
     call::call(alloc, words, files, out, err)
 }

@@ -60,7 +60,8 @@ pub(crate) fn map<'a, F: Files, S: Sink>(
     files: &mut F,
     out: &mut S,
 ) -> Result<(), CommandError<'a, Refusal>>
-    ensures { ComesTo devices (windows_plan policy.now) (F.held files.old) (F.held files.new) (F.history files.old) (F.history files.new) (S.state out.old) (S.state out.new) result }
+    ensures came { ComesTo devices (windows_plan policy.now) (F.held files.old) (F.held files.new) (F.history files.old) (F.history files.new) (S.state out.old) (S.state out.new) result }
+    ensures held { F.held files.new ≡ F.held files.old }
 {
     match read_placed(alloc, policy, files) {
         Ok(placed) => put_map(alloc, &placed, out),
