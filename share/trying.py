@@ -111,14 +111,14 @@ class Trial:
 
     @cached_property
     def programs(self):
-        """Both programs, made at the same time where they aren't there; in place of one that can't be, why."""
+        """All programs, made at the same time where they aren't there; in place of one that can't be, why."""
         def found(name):
             """A program, or why there is none."""
             try:
                 return running.program(name)
             except running.NoProgram as error:
                 return error
-        names = ("muen", "muen_asm")
+        names = ("muen", "muen_asm", "muen_lint")
         with ThreadPoolExecutor(len(names)) as pool:
             return dict(zip(names, pool.map(found, names)))
 
