@@ -4,6 +4,8 @@ A cause takes the policy and the two names of the refusal, and gives in words wh
 foremost; of several the first. It asks for no more than it needs for this: where a rule behind the first two is broken, the document
 follows the schema, and the names that those two rules ask for are declared.
 """
+from itertools import takewhile
+
 from looking.policy import first, name
 from looking.schema import nearest, number_of
 
@@ -50,8 +52,8 @@ def span(node, address="physicalAddress"):
 
 
 def clashes(ones, others, span_of):
-    """Each pair of one of the first and one of the others that overlap."""
-    return ((one, other) for other in others for one in ones if one is not other and overlap(span_of(one), span_of(other)))
+    """Each pair of one of the first and one of the others that overlap, the first one before the other where both lists have it."""
+    return ((one, other) for other in others for one in takewhile(lambda one: one is not other, ones) if overlap(span_of(one), span_of(other)))
 
 
 def repeats(nodes, key):

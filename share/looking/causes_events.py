@@ -50,8 +50,8 @@ def rule_13(policy, one, who):
         else:
             sources, targets = ([(end.subject, end.named) for end in policy.ends_of(thing) if end.role == role] for role in ("writer", "reader"))
         mode = thing.get("mode") or thing.get("hasEvent")
-        for target in targets[:1] if mode else ():
-            for source in [source for source in sources if name(source[0]) == who]:
+        for source in [source for source in sources if name(source[0]) == who] if mode else ():
+            for target in targets:
                 yield from mode_of(policy, mode, source, target)
 
 
