@@ -1,6 +1,7 @@
 -- What the first of two calls has found for the second.
 use Rattle.std.proofs.Common.{◌≡◌, ◌∙◌, refl, sym, ap, subst, ℕ, List, Option, Some, None, Ok}
 use Rattle.dma_check.specs.Verdict.{verdict}
+use Rattle.dma_tables.proofs.ConditionsHold.{conditions_kept}
 use Rattle.dma_tables.proofs.FileLaws.{file_laws}
 use Rattle.dma_tables.specs.DmaFile.{dma_file}
 use Rattle.dma_tables.specs.declared.file.DmaFile.{DmaFile}
@@ -31,7 +32,7 @@ module _ (m : Store) (image policy tables : List ℕ) (h : HoldsFit m image poli
       cc (both)
 
   they_fit : Fit h.p h.sound.parts (Some t)
-  they_fit = faultless_fit h.p h.sound.parts t h.lawful there.file.tables (subst (λ x. verdict h.p h.sound.parts x ≡ None) same_tables h.fit)
+  they_fit = faultless_fit h.p h.sound.parts t h.lawful (conditions_kept t there.file.tables) (subst (λ x. verdict h.p h.sound.parts x ≡ None) same_tables h.fit)
 
   pub prints_alone : (inputs : List ℕ) (p : Source) (r : DeviceRecord) (words : List (List ℕ)) (held : Option Store) (out out' : SinkState) (status : MuenStatus) → held ≡ Some m
       → muen_command_of words ≡ Some (run image inputs (Some tables)) → HoldsFitting m policy p → HoldsRecord m inputs p r → RunOfSoundPrintsHeld words held out out' status

@@ -1,4 +1,3 @@
-use Rattle.std.proofs.Common.{◌∙◌}
 use Rattle.muen_top.proofs.Judging.{are_of_files}
 use Rattle.dma_top.proofs.Ending.{fit, not_fit, not_read, not_sound}
 use Rattle.dma_top.proofs.verify.verify.Goals as goal
