@@ -45,9 +45,9 @@ returns-in-Some c = λ i parts same.
     let known = subst (λ s. Marked (view_by c.args.file.now s told) (seen_in (root_page c.args.file.now) c.loop-source.ways.items) (6 * (2 ^ 48 * source))) (sym spans) (c.loop-source.invariant.known i parts same) in
     let none = subst (λ s. HasNoneBefore (view_by c.args.file.now s told) source) (sym spans) (c.loop-source.invariant.none i parts same) in
     let is : c.in_ok-again.again ≡ true → IsKnown (view_by c.args.file.now c.items-items.result.now told) c.args.file.now c.deref-in-loop-source-4.result.now source = λ h.
-        let r = c.in_ok-again.ensures h in
-        let others = ap (λ a. windows_by p a r.earlier) (sym (c.deref-in-loop-source.ensures.value ∙ places)) ∙ r.windows ∙ ap (λ a. windows_by p a source) (c.deref-in-loop-source.ensures.value ∙ places) ∙ sym windows in
-        record { earlier = r.earlier; before = r.before; highest = r.highest; own = subst (AreFor told r.earlier) others (are_declared p i parts r.earlier); none = none } in
+    let r = c.in_ok-again.ensures h in
+    let others = ap (λ a. windows_by p a r.earlier) (sym (c.deref-in-loop-source.ensures.value ∙ places)) ∙ r.windows ∙ ap (λ a. windows_by p a source) (c.deref-in-loop-source.ensures.value ∙ places) ∙ sym windows in
+    record { earlier = r.earlier; before = r.before; highest = r.highest; own = subst (AreFor told r.earlier) others (are_declared p i parts r.earlier); none = none } in
     one_source (view_of p i c.args.file.now) source c.in-Some.fault c.loop-source-test.true (c.loop-source.invariant.none i parts same)
     (subst (λ s. Some c.in-Some.fault ≡ first_from (fault_at (view_by c.args.file.now s told)) (2 ^ 48 * source) (2 ^ 48)) spans (c.in-Some.ensures.found told own is known))
 
@@ -65,9 +65,9 @@ loop-source-preserved c =
           let known = subst (λ s. Marked (view_by c.args.file.now s told) (seen_in (root_page c.args.file.now) c.loop-source.ways.items) (6 * (2 ^ 48 * source))) (sym spans) (c.loop-source.invariant.known i parts same) in
           let none = subst (λ s. HasNoneBefore (view_by c.args.file.now s told) source) (sym spans) (c.loop-source.invariant.none i parts same) in
           let is : c.in_ok-again.again ≡ true → IsKnown (view_by c.args.file.now c.items-items.result.now told) c.args.file.now c.deref-in-loop-source-4.result.now source = λ h.
-              let r = c.in_ok-again.ensures h in
-              let others = ap (λ a. windows_by p a r.earlier) (sym (c.deref-in-loop-source.ensures.value ∙ places)) ∙ r.windows ∙ ap (λ a. windows_by p a source) (c.deref-in-loop-source.ensures.value ∙ places) ∙ sym windows in
-              record { earlier = r.earlier; before = r.before; highest = r.highest; own = subst (AreFor told r.earlier) others (are_declared p i parts r.earlier); none = none } in
+          let r = c.in_ok-again.ensures h in
+          let others = ap (λ a. windows_by p a r.earlier) (sym (c.deref-in-loop-source.ensures.value ∙ places)) ∙ r.windows ∙ ap (λ a. windows_by p a source) (c.deref-in-loop-source.ensures.value ∙ places) ∙ sym windows in
+          record { earlier = r.earlier; before = r.before; highest = r.highest; own = subst (AreFor told r.earlier) others (are_declared p i parts r.earlier); none = none } in
           later_source (view_of p i c.args.file.now) source (c.loop-source.invariant.none i parts same) (subst (λ s. None ≡ first_from (fault_at (view_by c.args.file.now s told)) (2 ^ 48 * source) (2 ^ 48)) spans (c.in_default.ensures.found told own is known));
       long = c.fault_of.ensures.long ∙ c.loop-source.invariant.long;
       earlier = c.note.ensures;
@@ -80,9 +80,9 @@ loop-source-preserved c =
           let known = subst (λ s. Marked (view_by c.args.file.now s told) (seen_in (root_page c.args.file.now) c.loop-source.ways.items) (6 * (2 ^ 48 * source))) (sym spans) (c.loop-source.invariant.known i parts same) in
           let none = subst (λ s. HasNoneBefore (view_by c.args.file.now s told) source) (sym spans) (c.loop-source.invariant.none i parts same) in
           let is : c.in_ok-again.again ≡ true → IsKnown (view_by c.args.file.now c.items-items.result.now told) c.args.file.now c.deref-in-loop-source-4.result.now source = λ h.
-              let r = c.in_ok-again.ensures h in
-              let others = ap (λ a. windows_by p a r.earlier) (sym (c.deref-in-loop-source.ensures.value ∙ places)) ∙ r.windows ∙ ap (λ a. windows_by p a source) (c.deref-in-loop-source.ensures.value ∙ places) ∙ sym windows in
-              record { earlier = r.earlier; before = r.before; highest = r.highest; own = subst (AreFor told r.earlier) others (are_declared p i parts r.earlier); none = none } in
+          let r = c.in_ok-again.ensures h in
+          let others = ap (λ a. windows_by p a r.earlier) (sym (c.deref-in-loop-source.ensures.value ∙ places)) ∙ r.windows ∙ ap (λ a. windows_by p a source) (c.deref-in-loop-source.ensures.value ∙ places) ∙ sym windows in
+          record { earlier = r.earlier; before = r.before; highest = r.highest; own = subst (AreFor told r.earlier) others (are_declared p i parts r.earlier); none = none } in
           subst (λ s. Marked (view_by c.args.file.now s told) (seen_in (root_page c.args.file.now) c.fault_of.new.ways.items) (6 * (2 ^ 48 * (source + 1)))) spans (c.in_default.ensures.known told own is known refl);
     }
 
