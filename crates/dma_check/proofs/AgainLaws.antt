@@ -1,5 +1,5 @@
 -- A source that an earlier one is like has no fault behind its first address.
-use Rattle.std.proofs.Common.{◌≡◌, IfSome, length, get_or-set_same, get_or-set_other, ℕ, zero, suc, ◌+◌, ◌-◌, ◌*◌, ◌/◌, ◌%◌, ◌^◌, ◌<◌, ◌≤◌, Bool, true, false, List, Option, Some, None, refl, sym, ap, subst, ◌∙◌, inl, inr, arith}
+use Rattle.std.proofs.Common.{◌≡◌, IfSome, length, get_or-set_same, get_or-set_other, ℕ, zero, suc, ◌+◌, ◌-◌, ◌*◌, ◌/◌, ◌%◌, ◌^◌, ◌<◌, ◌≤◌, Bool, false, List, Option, Some, None, refl, sym, ap, subst, ◌∙◌, inl, inr, arith}
 use Rattle.std.specs.Prelude.{◌==◌, ◌&&◌, not, option_and_then, option_map, slice_index_or, slice_set, unwrap_or}
 use Rattle.std.specs.Bool.{Decides}
 use Rattle.std.specs.Option.{option_map_or}
@@ -10,7 +10,7 @@ use Rattle.dma_check.proofs.Alike.{page_by, table_same}
 use Rattle.dma_check.proofs.Sounds.{contents_led, contents_only, each_step, in_range, in_source, inside, led_contents, no_step, once}
 use Rattle.dma_check.proofs.Ways.{itself, moves, once_by}
 use Rattle.dma_check.specs.Again.{AreEarlier, IsKnown, highest_of}
-use Rattle.dma_check.specs.Faults.{contents, expected, fault_at, is_outside, is_twice, walk}
+use Rattle.dma_check.specs.Faults.{contents, expected, fault_at, is_outside, walk}
 use Rattle.dma_check.specs.Held.{AreFor, view_by}
 use Rattle.dma_check.specs.Marked.{IsMarked, Marked, way_of}
 use Rattle.dma_check.specs.Pieces.{IsAlike}
