@@ -132,8 +132,9 @@ fn put_line<S: Sink>(
     put_end(out)
 }
 
+/// Puts a line for each subject, `flow SUBJECT from S1 S2 ..`, with the subjects that its marks tell.
 #[tactic(auto, using(crate::proofs::NumberedTexts::numbered))]
-fn put_lines<S: Sink>(
+pub fn put_lines<S: Sink>(
     subjects: &[Subject],
     sets: &[Seq<bool>],
     out: &mut BufferedSink<'_, S>,

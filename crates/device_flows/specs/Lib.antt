@@ -1,0 +1,5 @@
+pub use Rattle.flow_report.specs.FlowText
+pub mod ByIndex
+pub mod Closures
+pub mod DeviceFlows
+pub mod Ends
