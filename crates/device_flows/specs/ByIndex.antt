@@ -15,6 +15,8 @@ use Rattle.policy_lawful.specs.declared.view.View.{View}
 use Rattle.policy_lawful.specs.source.Device.{Device}
 use Rattle.policy_lawful.specs.source.Domain.{Domain}
 use Rattle.policy_lawful.specs.source.Mapping.{Mapping}
+use Rattle.flow_report.specs.Marks.{after_rounds}
+use Rattle.device_flows.specs.DeviceFlows.{is_subject}
 use Rattle.device_flows.specs.Ends.{End, subject, device, ends_of, has_device, leads_to}
 
 -- ---- what is granted of the device at an index
@@ -50,11 +52,11 @@ has_dma domains own other views d = option_map_or (domain_meets own other views)
 
 -- ---- both ways
 
-abbrev pub tells_at : Resolution → Subject → ℕ → Device → Bool
-tells_at r s k d = has_ports s k || has_registers (views_of r s) k || has_dma r.device_domains Read Write (views_of r s) d
+abbrev pub tells_at : List Domain → List View → Subject → ℕ → Device → Bool
+tells_at domains views s k d = has_ports s k || has_registers views k || has_dma domains Read Write views d
 
-abbrev pub hears_at : Resolution → Subject → ℕ → Device → Bool
-hears_at r s k d = has_ports s k || has_registers (views_of r s) k || has_interrupts s k || has_dma r.device_domains Write Read (views_of r s) d
+abbrev pub hears_at : List Domain → List View → Subject → ℕ → Device → Bool
+hears_at domains views s k d = has_ports s k || has_registers views k || has_interrupts s k || has_dma domains Write Read views d
 
 -- ---- rows of marks
 
@@ -67,3 +69,7 @@ subject_row r s = row_of r (subject (subject_named r s))
 
 abbrev pub device_row : Resolution → Device → List Bool
 device_row r d = row_of r (device d)
+
+-- for each subject the marks after so many rounds on these rows
+abbrev pub sets_after : Resolution → List (List Bool) → ℕ → List (List Bool)
+sets_after r rows n = map (λ s. after_rounds rows (map (is_subject s.name) (ends_of (source_of r))) n) r.subjects

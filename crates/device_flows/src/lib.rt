@@ -2,12 +2,11 @@
 #![tactic(auto)]
 
 mod closed;
-mod domains;
 mod laws;
 mod rows;
 mod text;
 mod touch;
 
 pub use closed::device_flows;
-pub use laws::{device_closures_are_least, every_access_counts};
+pub use laws::{declared_flows_are_held, device_closures_are_least, every_access_counts};
 pub use text::device_flow_text;

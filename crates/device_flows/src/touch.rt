@@ -1,8 +1,8 @@
 //! What a subject and a device have to do with each other.
 ghost use Rattle.std.specs.Prelude.{◌≡◌, ◌&&◌, slice_get, Some};
 ghost use Rattle.std.specs.List.{list_any};
-ghost use Rattle.policy_lawful.specs.Resolution.{source_of, subject_named};
-ghost use Rattle.device_flows.specs.ByIndex.{domain_meets, has_dma, has_interrupts, has_ports, has_registers, is_on_device, meets, shows_region};
+ghost use Rattle.policy_lawful.specs.Resolution.{IsResolved, source_of, subject_named};
+ghost use Rattle.device_flows.specs.ByIndex.{domain_meets, has_dma, has_interrupts, has_ports, has_registers, hears_at, is_on_device, meets, shows_region, tells_at};
 ghost use Rattle.device_flows.specs.Ends.{are_together, has_device, hears, tells};
 
 use muen_num::{AccessKind, Name};
@@ -96,6 +96,35 @@ fn has_dma(
     }
 }
 
+fn tells_at(
+    domains: &[Domain],
+    views: &[View],
+    subject: &Subject,
+    number: usize,
+    device: &Device,
+) -> bool
+    ensures { result ≡ tells_at domains.now views.now subject.now number device.now }
+{
+    has_ports(subject, number)
+        || has_registers(views, number)
+        || has_dma(domains, device, AccessKind::Read, AccessKind::Write, views)
+}
+
+fn hears_at(
+    domains: &[Domain],
+    views: &[View],
+    subject: &Subject,
+    number: usize,
+    device: &Device,
+) -> bool
+    ensures { result ≡ hears_at domains.now views.now subject.now number device.now }
+{
+    has_ports(subject, number)
+        || has_registers(views, number)
+        || has_interrupts(subject, number)
+        || has_dma(domains, device, AccessKind::Write, AccessKind::Read, views)
+}
+
 /// Whether what the subject at an index does can reach the device at an index: by its ports or its
 /// memory, in whatever way it may access these, or by memory that the subject may write and the device
 /// may read by itself.
@@ -106,15 +135,13 @@ pub(crate) fn tells(
     number: usize,
     device: &Device,
 ) -> bool
+    requires resolved { IsResolved policy.now }
     requires subject { slice_get policy.now.subjects index ≡ Some subject.now }
     requires device { slice_get policy.now.devices number ≡ Some device.now }
     ensures { result ≡ tells (source_of policy.now) (subject_named policy.now subject.now) device.now }
 {
-    let views = policy.views(index);
-    let domains = policy.device_domains();
-    has_ports(subject, number)
-        || has_registers(views, number)
-        || has_dma(domains, device, AccessKind::Read, AccessKind::Write, views)
+    let (views, domains) = (policy.views(index), policy.device_domains());
+    tells_at(domains, views, subject, number, device)
 }
 
 /// Whether what the device at an index does can reach the subject at an index: by its ports, its memory
@@ -126,19 +153,17 @@ pub(crate) fn hears(
     number: usize,
     device: &Device,
 ) -> bool
+    requires resolved { IsResolved policy.now }
     requires subject { slice_get policy.now.subjects index ≡ Some subject.now }
     requires device { slice_get policy.now.devices number ≡ Some device.now }
     ensures { result ≡ hears (source_of policy.now) (subject_named policy.now subject.now) device.now }
 {
-    let views = policy.views(index);
-    let domains = policy.device_domains();
-    has_ports(subject, number)
-        || has_registers(views, number)
-        || has_interrupts(subject, number)
-        || has_dma(domains, device, AccessKind::Write, AccessKind::Read, views)
+    let (views, domains) = (policy.views(index), policy.device_domains());
+    hears_at(domains, views, subject, number, device)
 }
 
 /// Whether two devices stand in one domain.
+#[tactic(auto, unfolding(crate::specs::Ends::are_together, policy_lawful::specs::Resolution::source_of))]
 pub(crate) fn are_together(policy: &Resolved, first: &Device, second: &Device) -> bool
     ensures { result ≡ are_together (source_of policy.now) first.now second.now }
 {

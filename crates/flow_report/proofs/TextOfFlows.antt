@@ -20,7 +20,7 @@ use Rattle.flow_report.proofs.IndexesOfSubjects.{at_number}
 abbrev spaced : List (List ℕ) → List ℕ
 spaced names = flat_map (λ m. codes " " ++ m) names
 
-marked_none : {X : Type 0} (bs : List Bool) → marked_elements {X = X} bs [] ≡ []
+pub marked_none : {X : Type 0} (bs : List Bool) → marked_elements {X = X} bs [] ≡ []
 unfolding marked_elements
 marked_none [] = refl
 marked_none (b ∷ bs) = refl

@@ -6,4 +6,4 @@ mod sets;
 mod text;
 
 pub use sets::{FlowSets, direct_flows, flows, marks_after};
-pub use text::{flow_text, put_lines};
+pub use text::{flow_text, marks_at, put_lines};

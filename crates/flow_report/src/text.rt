@@ -24,8 +24,8 @@ fn is_marked(set: &[bool], index: usize) -> bool
     }
 }
 
-// The marks at an index; none where there is no such index.
-fn marks_at(sets: &[Seq<bool>], index: usize) -> &[bool]
+/// The marks at an index; none where there is no such index.
+pub fn marks_at(sets: &[Seq<bool>], index: usize) -> &[bool]
     ensures { result.now ≡ slice_index_or sets.now index [] }
 {
     match sets.get(index) {
