@@ -7,6 +7,7 @@ use Rattle.std.proofs.lemmas.Bool.{and_from, and_parts, or_left, or_right}
 use Rattle.muen_num.specs.declared.access.AccessKind.{AccessKind}
 use Rattle.muen_num.specs.declared.access.AccessKind.TheVariants.{Read, Write}
 use Rattle.muen_num.proofs.Lookups.{same_names, same_self}
+use Rattle.muen_num.proofs.SameAnswers.{some_items}
 use Rattle.muen_num.proofs.Members.{In, all_from, any_in, any_some, at_in, filter_some, find_in, flat_some, map_some}
 use Rattle.policy_lawful.specs.Dma.{dma_access, dma_windows}
 use Rattle.policy_lawful.specs.Events.{Target, irq_of}
@@ -57,39 +58,40 @@ module _ (p : Source) where
 
   both_by_ports : (s : Subject) (d : Device) → by_ports s d ≡ true → LeadBothWays p s d
   unfolding tells hears
-  both_by_ports s d h = record {
-    tells = or_left (by_ports s d) (by_registers p s d || by_dma p Read Write s d) h;
-    hears = or_left (by_ports s d) (by_registers p s d || by_interrupt s d || by_dma p Write Read s d) h;
-  }
+  both_by_ports s d h =
+      let first = or_left (by_ports s d) (by_registers p s d) h in
+      record {
+        tells = or_left (by_ports s d || by_registers p s d) (by_dma p Read Write s d) first;
+        hears = or_left (by_ports s d || by_registers p s d || by_interrupt s d) (by_dma p Write Read s d) (or_left (by_ports s d || by_registers p s d) (by_interrupt s d) first);
+      }
 
   both_by_registers : (s : Subject) (d : Device) → by_registers p s d ≡ true → LeadBothWays p s d
   unfolding tells hears
-  both_by_registers s d h = record {
-    tells = or_right (by_ports s d) (by_registers p s d || by_dma p Read Write s d) (or_left (by_registers p s d) (by_dma p Read Write s d) h);
-    hears = or_right (by_ports s d) (by_registers p s d || by_interrupt s d || by_dma p Write Read s d) (or_left (by_registers p s d) (by_interrupt s d || by_dma p Write Read s d) h);
-  }
+  both_by_registers s d h =
+      let second = or_right (by_ports s d) (by_registers p s d) h in
+      record {
+        tells = or_left (by_ports s d || by_registers p s d) (by_dma p Read Write s d) second;
+        hears = or_left (by_ports s d || by_registers p s d || by_interrupt s d) (by_dma p Write Read s d) (or_left (by_ports s d || by_registers p s d) (by_interrupt s d) second);
+      }
 
   hears_by_interrupt : (s : Subject) (d : Device) → by_interrupt s d ≡ true → hears p s d ≡ true
   unfolding hears
   hears_by_interrupt s d h =
-      or_right (by_ports s d) (by_registers p s d || by_interrupt s d || by_dma p Write Read s d)
-      (or_right (by_registers p s d) (by_interrupt s d || by_dma p Write Read s d) (or_left (by_interrupt s d) (by_dma p Write Read s d) h))
+      or_left (by_ports s d || by_registers p s d || by_interrupt s d) (by_dma p Write Read s d) (or_right (by_ports s d || by_registers p s d) (by_interrupt s d) h)
 
   hears_by_dma : (s : Subject) (d : Device) → by_dma p Write Read s d ≡ true → hears p s d ≡ true
   unfolding hears
-  hears_by_dma s d h =
-      or_right (by_ports s d) (by_registers p s d || by_interrupt s d || by_dma p Write Read s d)
-      (or_right (by_registers p s d) (by_interrupt s d || by_dma p Write Read s d) (or_right (by_interrupt s d) (by_dma p Write Read s d) h))
+  hears_by_dma s d h = or_right (by_ports s d || by_registers p s d || by_interrupt s d) (by_dma p Write Read s d) h
 
   tells_by_dma : (s : Subject) (d : Device) → by_dma p Read Write s d ≡ true → tells p s d ≡ true
   unfolding tells
-  tells_by_dma s d h = or_right (by_ports s d) (by_registers p s d || by_dma p Read Write s d) (or_right (by_registers p s d) (by_dma p Read Write s d) h)
+  tells_by_dma s d h = or_right (by_ports s d || by_registers p s d) (by_dma p Read Write s d) h
 
   -- ---- each kind of access
 
   not_none : {X : Type 0} (xs : List X) (x : X) → In x xs → not (length xs == 0) ≡ true
   not_none [] x i = absurd i
-  not_none (y ∷ ys) x i = refl
+  not_none {X} (y ∷ ys) x i = sym (some_items {X = X} (λ z. z) (y ∷ ys))
 
   of_ports : (s : Subject) (d : Device) (port : List ℕ) → list_any (λ x. bytes_eq x.device d.name && list_any (λ name. bytes_eq name port) x.io_ports) s.devices ≡ true → by_ports s d ≡ true
   of_ports s d port h =

@@ -2,6 +2,6 @@ pub mod Accesses
 pub mod Closures
 pub mod Enumerated
 pub mod HeldFlows
+pub mod JoinedRows
 pub mod MarkedEnds
-pub mod Rows
 pub mod Touches

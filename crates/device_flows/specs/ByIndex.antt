@@ -28,7 +28,7 @@ abbrev pub has_interrupts : Subject → ℕ → Bool
 has_interrupts s k = list_any (λ x. (x.device == k) && not (length x.irqs == 0)) s.devices
 
 abbrev pub is_on_device : ℕ → Shown → Bool
-is_on_device k (OnDevice device memory) = device == k
+is_on_device k (OnDevice owner memory) = owner == k
 is_on_device k _ = false
 
 abbrev pub has_registers : List View → ℕ → Bool

@@ -1,6 +1,6 @@
 //! What a subject and a device have to do with each other.
-ghost use Rattle.std.specs.Prelude.{◌≡◌, ◌&&◌, slice_get, Some};
-ghost use Rattle.std.specs.List.{list_any};
+ghost use Rattle.std.specs.Prelude.{◌≡◌, option_map, slice_get, Some};
+ghost use Rattle.std.specs.List.{find};
 ghost use Rattle.policy_lawful.specs.Resolution.{IsResolved, source_of, subject_named};
 ghost use Rattle.device_flows.specs.ByIndex.{domain_meets, has_dma, has_interrupts, has_ports, has_registers, hears_at, is_on_device, meets, shows_region, tells_at};
 ghost use Rattle.device_flows.specs.Ends.{are_together, has_device, hears, tells};
@@ -77,6 +77,13 @@ fn has_device(domain: &Domain, device: &Name) -> bool
     domain.devices.items().iter().any(|name| *name == *device)
 }
 
+// The first domain in which the device of this name stands.
+fn domain_with<'a>(domains: &'a [Domain], device: &Name) -> Option<&'a Domain>
+    ensures { option_map (λ x. x.now) result ≡ find (λ x. has_device x device.now) domains.now }
+{
+    domains.iter().find(|domain| has_device(domain, device))
+}
+
 // Whether the device may access by itself, in one way, what one of the views may access in the other.
 fn has_dma(
     domains: &[Domain],
@@ -87,10 +94,7 @@ fn has_dma(
 ) -> bool
     ensures { result ≡ has_dma domains.now own other views.now device.now }
 {
-    match domains
-        .iter()
-        .find(|domain| has_device(domain, &device.name))
-    {
+    match domain_with(domains, &device.name) {
         None => false,
         Some(domain) => domain_meets(domain, own, other, views),
     }

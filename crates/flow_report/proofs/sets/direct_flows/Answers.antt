@@ -1,4 +1,4 @@
-use Rattle.std.proofs.Common.{◌≡◌, ap, subst, ◌∙◌}
+use Rattle.std.proofs.Common.{ap, ◌∙◌}
 use Rattle.policy_lawful.specs.Resolution.{source_of}
 use Rattle.flow_report.specs.ByIndex.{rows_of}
 use Rattle.flow_report.specs.Sets.{direct_flows_of}
