@@ -7,7 +7,6 @@ use Rattle.std.proofs.lemmas.Bool.{and_from, and_parts, or_left, or_right}
 use Rattle.muen_num.specs.declared.access.AccessKind.{AccessKind}
 use Rattle.muen_num.specs.declared.access.AccessKind.TheVariants.{Read, Write}
 use Rattle.muen_num.proofs.Lookups.{same_names, same_self}
-use Rattle.muen_num.proofs.SameAnswers.{some_items}
 use Rattle.muen_num.proofs.Members.{In, all_from, any_in, any_some, at_in, filter_some, find_in, flat_some, map_some}
 use Rattle.policy_lawful.specs.Dma.{dma_access, dma_windows}
 use Rattle.policy_lawful.specs.Events.{Target, irq_of}
@@ -91,7 +90,7 @@ module _ (p : Source) where
 
   not_none : {X : Type 0} (xs : List X) (x : X) → In x xs → not (length xs == 0) ≡ true
   not_none [] x i = absurd i
-  not_none {X} (y ∷ ys) x i = sym (some_items {X = X} (λ z. z) (y ∷ ys))
+  not_none (y ∷ ys) x i = grind (arith, nat_tests)
 
   of_ports : (s : Subject) (d : Device) (port : List ℕ) → list_any (λ x. bytes_eq x.device d.name && list_any (λ name. bytes_eq name port) x.io_ports) s.devices ≡ true → by_ports s d ≡ true
   of_ports s d port h =

@@ -70,6 +70,6 @@ subject_row r s = row_of r (subject (subject_named r s))
 abbrev pub device_row : Resolution → Device → List Bool
 device_row r d = row_of r (device d)
 
--- for each subject the marks after so many rounds on these rows
-abbrev pub sets_after : Resolution → List (List Bool) → ℕ → List (List Bool)
-sets_after r rows n = map (λ s. after_rounds rows (map (is_subject s.name) (ends_of (source_of r))) n) r.subjects
+-- for each of these subjects the marks after so many rounds on these rows
+abbrev pub sets_after : Resolution → List Subject → List (List Bool) → ℕ → List (List Bool)
+sets_after r subjects rows n = map (λ s. after_rounds rows (map (is_subject s.name) (ends_of (source_of r))) n) subjects

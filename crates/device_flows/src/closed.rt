@@ -1,28 +1,41 @@
 //! For each subject the set of those that can reach it where devices count.
-ghost use Rattle.std.specs.Prelude.{◌≡◌, map, IfOk};
+ghost use Rattle.std.specs.Prelude.{◌≡◌, false, map, IfOk};
+ghost use Rattle.std.specs.Str.{bytes_eq};
 ghost use Rattle.policy_lawful.specs.Resolution.{source_of};
 ghost use Rattle.device_flows.specs.ByIndex.{sets_after};
 ghost use Rattle.device_flows.specs.DeviceFlows.{AreDeviceFlows, is_subject};
 ghost use Rattle.device_flows.specs.Ends.{ends_of};
 
-use crate::rows::rows;
+use crate::rows::{joined, rows};
 use flow_report::{FlowSets, marks_after};
 use muen_num::{Name, NoMemory, Seq};
+use policy_lawful::resolved::Subject;
+use policy_lawful::source::Device;
 use policy_lawful::{Lawful, Resolved};
-use std::alloc::Global;
+use std::alloc::{AllocError, Global};
+
+fn named(alloc: Global, subjects: &[Subject], name: &Name) -> Result<Vec<bool>, AllocError>
+    ensures { IfOk result (λ v. v.items ≡ map (λ s. bytes_eq s.name name.now) subjects.now) }
+{
+    subjects
+        .iter()
+        .map(|subject| subject.name == *name)
+        .collect(alloc)
+}
+
+fn unmarked(alloc: Global, devices: &[Device]) -> Result<Vec<bool>, AllocError>
+    ensures { IfOk result (λ v. v.items ≡ map (λ _. false) devices.now) }
+{
+    devices.iter().map(|_| false).collect(alloc)
+}
 
 // Among all subjects and devices the subject of this name alone.
 fn alone_marked(alloc: Global, policy: &Resolved, name: &Name) -> Result<Vec<bool>, NoMemory>
     ensures { IfOk result (λ v. v.items ≡ map (is_subject name.now) (ends_of (source_of policy.now))) }
 {
-    let subjects = policy.subjects();
-    let mut marks: Vec<bool> = subjects
-        .iter()
-        .map(|subject| subject.name == *name)
-        .collect(alloc)?;
-    for _ in policy.devices() {
-        marks.push(false)?;
-    }
+    let front = named(alloc, policy.subjects(), name)?;
+    let back = unmarked(alloc, policy.devices())?;
+    let marks = joined(alloc, &front, &back)?;
     Ok(marks)
 }
 
@@ -30,13 +43,14 @@ fn alone_marked(alloc: Global, policy: &Resolved, name: &Name) -> Result<Vec<boo
 fn sets_after(
     alloc: Global,
     policy: &Resolved,
+    subjects: &[Subject],
     rows: &[Seq<bool>],
     rounds: usize,
 ) -> Result<Seq<Seq<bool>>, NoMemory>
-    ensures { IfOk result (λ s. s ≡ sets_after policy.now rows.now rounds) }
+    ensures { IfOk result (λ s. s ≡ sets_after policy.now subjects.now rows.now rounds) }
 {
     let mut sets = Seq::new(alloc);
-    for subject in policy.subjects() {
+    for subject in subjects {
         let alone = alone_marked(alloc, policy, &subject.name)?;
         sets.push(Seq::of(marks_after(alloc, rows, alone, rounds)?))?;
     }
@@ -56,6 +70,7 @@ pub fn device_flows(alloc: Global, policy: &Lawful) -> Result<FlowSets, NoMemory
     ensures { IfOk result (AreDeviceFlows (source_of policy.now)) }
 {
     let rows = rows(alloc, policy)?;
-    let sets = sets_after(alloc, policy.resolved(), &rows, rows.len())?;
+    let resolved = policy.resolved();
+    let sets = sets_after(alloc, resolved, resolved.subjects(), &rows, rows.len())?;
     Ok(FlowSets::of(sets))
 }

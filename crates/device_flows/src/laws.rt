@@ -10,7 +10,6 @@ ghost use Rattle.device_flows.specs.Ends.{ends_of, leads_to};
 
 /// The subjects and devices of a subject's set are the least closed set that has it: as many rounds as
 /// there are subjects and devices are enough. This holds of every policy, also of one that breaks rules.
-#[tactic(auto, using(crate::proofs::HeldFlows::reach_is_least))]
 pub fn device_closures_are_least()
     ensures { (p : Source) (name : List ℕ) → IsLeastFrom (leads_to p) (ends_of p) (is_subject name) (reaches_over_devices p name) }
 {}

@@ -58,8 +58,8 @@ fn companions(alloc: Global, policy: &Resolved, device: &Device) -> Result<Vec<b
         .collect(alloc)
 }
 
-// Marks, and others behind them.
-fn joined(alloc: Global, front: &[bool], back: &[bool]) -> Result<Vec<bool>, AllocError>
+/// Marks, and others behind them.
+pub(crate) fn joined(alloc: Global, front: &[bool], back: &[bool]) -> Result<Vec<bool>, AllocError>
     ensures { IfOk result (λ v. v.items ≡ front.now ++ back.now) }
 {
     let mut marks = Vec::new(alloc);

@@ -6,4 +6,4 @@ use Rattle.device_flows.specs.Ends.{ends_of}
 use Rattle.device_flows.proofs.closed.sets_after.Given as goal
 
 abbrev pub invariant-loop-subject : goal.invariant-loop-subject
-invariant-loop-subject l = l.sets ≡ map (λ s. after_rounds l.rows (map (is_subject s.name) (ends_of (source_of l.policy))) l.rounds) (take l.subject-index l.policy.subjects)
+invariant-loop-subject l = l.sets ≡ map (λ s. after_rounds l.rows (map (is_subject s.name) (ends_of (source_of l.policy))) l.rounds) (take l.subject-index l.subjects)
