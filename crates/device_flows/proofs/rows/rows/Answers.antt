@@ -1,7 +1,7 @@
-use Rattle.std.proofs.Common.{◌≡◌, ◌++◌, map, ap, ◌∙◌}
+use Rattle.std.proofs.Common.{◌++◌, map, sym, ap, ◌∙◌}
 use Rattle.policy_lawful.specs.Resolution.{source_of}
-use Rattle.device_flows.specs.ByIndex.{device_row, row_of, subject_row}
-use Rattle.device_flows.specs.Ends.{ends_of}
+use Rattle.flow_report.specs.Sets.{direct_flows_of}
+use Rattle.device_flows.specs.ByIndex.{device_row, subject_row}
 use Rattle.device_flows.proofs.JoinedRows.{rows_are}
 use Rattle.device_flows.proofs.rows.rows.Goals as goal
 
@@ -13,4 +13,4 @@ returns c =
     ∙ rows_are c.args.policy.now
 
 pub subject_rows-requires : goal.subject_rows-requires
-subject_rows-requires c = ?r
+subject_rows-requires c = c.deref.ensures.value ∙ c.in_ok-direct.ensures ∙ ap (λ r. direct_flows_of (source_of r)) (sym c.resolved.ensures.value)
