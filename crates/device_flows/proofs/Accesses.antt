@@ -1,6 +1,6 @@
 -- What an address may touch by a window counts as a flow.
-use Rattle.std.proofs.Common.{arith, ◌≡◌, ℕ, Bool, true, false, List, [], ◌∷◌, ◌++◌, length, map, filter, Option, Some, None, refl, sym, ap, subst, ◌∙◌}
-use Rattle.std.specs.Prelude.{◌==◌, ◌&&◌, ◌||◌, ◌-◌, not, slice_get, if◌then◌else◌}
+use Rattle.std.proofs.Common.{arith, ◌≡◌, ℕ, Bool, true, false, List, [], ◌∷◌, length, map, filter, Some, None, refl, ap, subst, ◌∙◌}
+use Rattle.std.specs.Prelude.{◌==◌, ◌&&◌, ◌||◌, ◌-◌, not, if◌then◌else◌}
 use Rattle.std.specs.List.{find, flat_map, list_any}
 use Rattle.std.specs.Str.{bytes_eq}
 use Rattle.std.proofs.lemmas.Bool.{and_from, and_parts, or_left, or_right}
@@ -9,12 +9,12 @@ use Rattle.muen_num.specs.declared.access.AccessKind.{AccessKind}
 use Rattle.muen_num.specs.declared.access.AccessKind.TheVariants.{Read, Write}
 use Rattle.muen_num.proofs.Lookups.{same_names, same_self}
 use Rattle.muen_num.proofs.Members.{In, all_from, any_in, any_some, at_in, filter_some, find_in, flat_some, map_some}
-use Rattle.policy_lawful.specs.Dma.{dma_access, dma_windows}
+use Rattle.policy_lawful.specs.Dma.{dma_windows}
 use Rattle.policy_lawful.specs.Events.{Target, irq_of}
 use Rattle.policy_lawful.specs.Lawful.{IsLawful}
 use Rattle.policy_lawful.specs.Rights.{allows}
 use Rattle.policy_lawful.specs.Thing.{Thing, region, channel, provided, device_memory, state, same_thing}
-use Rattle.policy_lawful.specs.Windows.{Access, Window, access_by, access_of, byte, holds, violation, windows_of}
+use Rattle.policy_lawful.specs.Windows.{Window, access_by, access_of, byte, holds, violation, windows_of}
 use Rattle.policy_lawful.specs.source.Device.{Device}
 use Rattle.policy_lawful.specs.source.DeviceUse.{DeviceUse}
 use Rattle.policy_lawful.specs.source.IrqUse.{IrqUse}

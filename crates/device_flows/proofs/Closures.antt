@@ -1,6 +1,6 @@
 -- The closure is the least closed set with its start: as many rounds as there are elements are enough.
 use Rattle.std.proofs.Common.{◌≡◌, ℕ, zero, suc, ◌<◌, Bool, true, List, length, filter, sym, subst, ◌⊎◌, inl, inr, arith}
-use Rattle.std.specs.Prelude.{◌&&◌, ◌||◌}
+use Rattle.std.specs.Prelude.{◌&&◌}
 use Rattle.std.specs.List.{All, list_any}
 use Rattle.std.proofs.lemmas.Bool.{and_from, and_parts, or_cases, or_left, or_right}
 use Rattle.muen_num.proofs.Members.{In, all_from, all_in, any_in, any_some, filter_fits, filter_grows, filter_in, filter_some}

@@ -8,13 +8,13 @@ use Rattle.policy_lawful.specs.source.Source.{Source}
 use Rattle.policy_lawful.specs.source.Subject.{Subject}
 use Rattle.policy_lawful.proofs.KeptRules.{rules_of}
 use Rattle.policy_lawful.proofs.UniqueNames.{unique}
-use Rattle.policy_flows.specs.Flows.{IsClosed, IsWithin, closure_of, flows_to, is_member}
+use Rattle.policy_flows.specs.Flows.{IsWithin, closure_of, flows_to, is_member}
 use Rattle.policy_flows.proofs.Closures.{closure_is_least as declared_is_least, member_in, member_some, passing}
 use Rattle.policy_flows.proofs.UniqueSubjects.{HasUniqueNames, unique_names}
 use Rattle.device_flows.specs.Accesses.{HoldsDeclaredFlows}
 use Rattle.device_flows.specs.Closures.{IsLeastFrom}
 use Rattle.device_flows.specs.DeviceFlows.{device_closure_of, is_subject, reaches_over_devices}
-use Rattle.device_flows.specs.Ends.{End, subject, device, ends_of, leads_to}
+use Rattle.device_flows.specs.Ends.{subject, device, ends_of, leads_to}
 use Rattle.device_flows.proofs.Closures.{closure_is_least}
 
 pub reach_is_least : (p : Source) (name : List ℕ) → IsLeastFrom (leads_to p) (ends_of p) (is_subject name) (reaches_over_devices p name)

@@ -14,7 +14,7 @@ use Rattle.flow_report.specs.Marks.{after_rounds}
 use Rattle.flow_report.specs.Sets.{direct_flows_of, members_of}
 use Rattle.device_flows.specs.DeviceFlows.{AreDeviceFlows, device_closure_of, is_subject}
 use Rattle.device_flows.specs.ByIndex.{device_row, row_of, sets_after, subject_row}
-use Rattle.device_flows.specs.Ends.{End, subject, device, are_together, ends_of, hears, leads_to, tells}
+use Rattle.device_flows.specs.Ends.{subject, device, are_together, ends_of, hears, leads_to, tells}
 use Rattle.device_flows.proofs.MarkedEnds.{ends_told, set_is}
 
 -- what is told of a policy's subjects is told of its resolved ones

@@ -1,10 +1,8 @@
 -- Rounds on marks are the rounds of a closure, and of the marks of subjects and devices those of the subjects tell the set.
-use Rattle.std.proofs.Common.{◌≡◌, ℕ, zero, suc, Bool, true, false, cond, List, [], ◌∷◌, ◌++◌, length, map, filter, refl, sym, ap, ◌∙◌}
+use Rattle.std.proofs.Common.{◌≡◌, ℕ, zero, suc, Bool, true, false, cond, List, [], ◌∷◌, ◌++◌, length, map, filter, refl, ap, ◌∙◌}
 use Rattle.std.proofs.lemmas.List.{map-append}
 use Rattle.muen_num.proofs.Lists.{map-map}
-use Rattle.policy_lawful.specs.source.Device.{Device}
 use Rattle.policy_lawful.specs.source.Source.{Source}
-use Rattle.policy_lawful.specs.source.Subject.{Subject}
 use Rattle.policy_flows.specs.Flows.{rounds}
 use Rattle.flow_report.specs.Marks.{after_rounds, round}
 use Rattle.flow_report.specs.Sets.{marked_elements, members_of}

@@ -1,8 +1,8 @@
 -- What a subject and a device have to do with each other, by names and by indexes.
-use Rattle.std.proofs.Common.{◌≡◌, ℕ, ◌<◌, Bool, true, false, List, [], length, map, Option, Some, None, refl, sym, ap, subst, ◌∙◌, arith}
+use Rattle.std.proofs.Common.{◌≡◌, ℕ, ◌<◌, Bool, true, false, List, [], length, map, Some, None, refl, sym, ap, ◌∙◌, arith}
 use Rattle.std.specs.Prelude.{◌==◌, ◌&&◌, ◌||◌, nat_lt, not, option_map, slice_get}
 use Rattle.std.specs.Option.{option_map_or}
-use Rattle.std.specs.List.{filter_map, find, list_all, list_any}
+use Rattle.std.specs.List.{find, list_all, list_any}
 use Rattle.std.specs.Str.{bytes_eq}
 use Rattle.std.proofs.lemmas.Bool.{and_parts, lt-ltb, ltb-true}
 use Rattle.std.proofs.lemmas.List.{length-map}
@@ -14,7 +14,7 @@ use Rattle.muen_num.proofs.Indexed.{found_some}
 use Rattle.muen_num.proofs.Lists.{list_any-map, passes_at}
 use Rattle.muen_num.proofs.Lookups.{found_passes, same_names, same_self}
 use Rattle.muen_num.proofs.Members.{any_agree, any_some, passes_in}
-use Rattle.policy_lawful.specs.Dma.{dma_windows, domain_windows}
+use Rattle.policy_lawful.specs.Dma.{domain_windows}
 use Rattle.policy_lawful.specs.Resolution.{IsResolved, Resolution, device_in_range, device_named, name_at, source_of, subject_in_range, subject_named}
 use Rattle.policy_lawful.specs.Rights.{allows}
 use Rattle.policy_lawful.specs.Thing.{Thing, region, same_thing}
@@ -27,7 +27,6 @@ use Rattle.policy_lawful.specs.declared.view.Shown.TheVariants.{Memory, Channel,
 use Rattle.policy_lawful.specs.declared.view.View.{View}
 use Rattle.policy_lawful.specs.source.Device.{Device}
 use Rattle.policy_lawful.specs.source.DeviceUse.{DeviceUse}
-use Rattle.policy_lawful.specs.source.Domain.{Domain}
 use Rattle.policy_lawful.specs.source.Mapping.{Mapping}
 use Rattle.policy_lawful.specs.source.Region.{Region}
 use Rattle.policy_lawful.proofs.EachView.{each_view}
@@ -38,7 +37,7 @@ use Rattle.policy_lawful.proofs.UniqueNames.{devices_unique}
 use Rattle.policy_lawful.proofs.WindowsByIndex.{name_there, subject_parts, windows_by_index}
 use Rattle.flow_report.proofs.IndexesOfSubjects.{any_filter_map}
 use Rattle.device_flows.specs.ByIndex.{domain_meets, has_dma, has_interrupts, has_ports, has_registers, hears_at, is_on_device, meets, shows_region, tells_at}
-use Rattle.device_flows.specs.Ends.{are_together, by_dma, by_interrupt, by_ports, by_registers, has_device, hears, is_memory_of, tells}
+use Rattle.device_flows.specs.Ends.{by_dma, by_interrupt, by_ports, by_registers, has_device, hears, is_memory_of, tells}
 
 -- ---- views on devices are on ones that are there
 

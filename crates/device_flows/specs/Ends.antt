@@ -1,6 +1,6 @@
 -- Flows over devices: from subjects to devices, from devices to subjects, and between devices (this project's own: what a policy
 -- grants of a device, and what a device may reach by itself).
-use Rattle.std.specs.Prelude.{ℕ, ◌==◌, ◌&&◌, ◌||◌, not, Bool, true, false, List, ◌++◌, length, map}
+use Rattle.std.specs.Prelude.{ℕ, ◌==◌, ◌&&◌, ◌||◌, not, Bool, false, List, ◌++◌, length, map}
 use Rattle.std.specs.List.{list_any}
 use Rattle.std.specs.Str.{bytes_eq}
 use Rattle.muen_num.specs.declared.access.AccessKind.{AccessKind}
@@ -9,9 +9,8 @@ use Rattle.policy_flows.specs.Flows.{flows_to}
 use Rattle.policy_lawful.specs.Dma.{dma_windows}
 use Rattle.policy_lawful.specs.Rights.{allows}
 use Rattle.policy_lawful.specs.Thing.{Thing, device_memory, same_thing}
-use Rattle.policy_lawful.specs.Windows.{Window, windows_of}
+use Rattle.policy_lawful.specs.Windows.{windows_of}
 use Rattle.policy_lawful.specs.source.Device.{Device}
-use Rattle.policy_lawful.specs.source.DeviceUse.{DeviceUse}
 use Rattle.policy_lawful.specs.source.Domain.{Domain}
 use Rattle.policy_lawful.specs.source.Source.{Source}
 use Rattle.policy_lawful.specs.source.Subject.{Subject}

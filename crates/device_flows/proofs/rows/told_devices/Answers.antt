@@ -2,7 +2,6 @@ use Rattle.std.proofs.Common.{◌∷◌, [], ◌++◌, sym, ◌∙◌}
 use Rattle.policy_lawful.specs.Resolution.{source_of, subject_named}
 use Rattle.device_flows.specs.Ends.{tells}
 use Rattle.device_flows.proofs.Enumerated.{mapped_read}
-use Rattle.muen_num.proofs.Lists.{read_at}
 use Rattle.device_flows.proofs.rows.told_devices.Goals as goal
 
 pub loop-number-preserved : goal.loop-number-preserved

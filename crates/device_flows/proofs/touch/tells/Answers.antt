@@ -1,4 +1,4 @@
-use Rattle.std.proofs.Common.{sym, ap, ◌∙◌}
+use Rattle.std.proofs.Common.{sym, ◌∙◌}
 use Rattle.policy_lawful.proofs.SeenAtIndex.{views_there}
 use Rattle.device_flows.specs.ByIndex.{tells_at}
 use Rattle.device_flows.proofs.Touches.{tells_same, subject_at_in_range}
