@@ -163,7 +163,7 @@ module _ (r : Resolution) (q : IsResolved r) (s : Subject) (in_range : subject_i
     unfolding source_of
     mapping_same m =
         elim (find (λ x. bytes_eq x.name m.region) r.memory) as (λ o. find (λ x. bytes_eq x.name m.region) r.memory ≡ o
-            → option_map_or window_meets (option_map (λ (x : Region). window m.virtual_address x.size m.rights (region x.name)) o) false ≡ (allows m.rights own && meets other (views_of r s) m)) [
+        → option_map_or window_meets (option_map (λ (x : Region). window m.virtual_address x.size m.rights (region x.name)) o) false ≡ (allows m.rights own && meets other (views_of r s) m)) [
           | None ↦ λ e. no_part (allows m.rights own) (meets other (views_of r s) m) (none_meets m e)
           | Some x ↦ λ e.
               let name : x.name ≡ m.region = same_names x.name m.region (found_passes (λ (x : Region). bytes_eq x.name m.region) r.memory x e) in

@@ -57,18 +57,14 @@ fn shows_region(view: &View, region: &Name) -> bool
 fn meets(mapping: &Mapping, other: AccessKind, views: &[View]) -> bool
     ensures { result ≡ meets other views.now mapping.now }
 {
-    views
-        .iter()
-        .any(|view| view.rights.allows(other) && shows_region(view, &mapping.region))
+    views.iter().any(|view| view.rights.allows(other) && shows_region(view, &mapping.region))
 }
 
 fn domain_meets(domain: &Domain, own: AccessKind, other: AccessKind, views: &[View]) -> bool
     ensures { result ≡ domain_meets own other views.now domain.now }
 {
     let mappings = domain.memory.items();
-    mappings
-        .iter()
-        .any(|mapping| mapping.rights.allows(own) && meets(mapping, other, views))
+    mappings.iter().any(|mapping| mapping.rights.allows(own) && meets(mapping, other, views))
 }
 
 fn has_device(domain: &Domain, device: &Name) -> bool
@@ -172,7 +168,5 @@ pub(crate) fn are_together(policy: &Resolved, first: &Device, second: &Device) -
     ensures { result ≡ are_together (source_of policy.now) first.now second.now }
 {
     let domains = policy.device_domains();
-    domains
-        .iter()
-        .any(|domain| has_device(domain, &first.name) && has_device(domain, &second.name))
+    domains.iter().any(|domain| has_device(domain, &first.name) && has_device(domain, &second.name))
 }
