@@ -9,6 +9,7 @@ use Rattle.muen_num.specs.declared.access.AccessKind.{AccessKind}
 use Rattle.muen_num.specs.declared.access.AccessKind.TheVariants.{Read, Write}
 use Rattle.muen_num.proofs.Lookups.{same_names, same_self}
 use Rattle.muen_num.proofs.Members.{In, all_from, any_in, any_some, at_in, filter_some, find_in, flat_some, map_some}
+use Rattle.policy_lawful.proofs.SameThings.{same_thing_self}
 use Rattle.policy_lawful.specs.Dma.{dma_windows}
 use Rattle.policy_lawful.specs.Events.{Target, irq_of}
 use Rattle.policy_lawful.specs.Lawful.{IsLawful}
@@ -45,13 +46,6 @@ window_on ws address offset kind thing h =
           let both = touched w address offset kind thing (allows w.rights kind) t in
           record { one = w; within = (find_in (λ w. holds w address) ws w e).0; right = both.0; on = both.1 }
     ] refl h
-
-thing_self : (t : Thing) → same_thing t t ≡ true
-thing_self (region a) = same_self a
-thing_self (channel a) = same_self a
-thing_self (provided s a) = and_from (bytes_eq s s) (bytes_eq a a) (same_self s) (same_self a)
-thing_self (device_memory d a) = and_from (bytes_eq d d) (bytes_eq a a) (same_self d) (same_self a)
-thing_self (state a) = same_self a
 
 module _ (p : Source) where
   -- ---- how a subject and a device come together
@@ -108,7 +102,7 @@ module _ (p : Source) where
 
   of_dma : (own other : AccessKind) (s : Subject) (d : Device) (thing : Thing) → WindowOn (dma_windows p d.name) own thing → WindowOn (windows_of p s) other thing → by_dma p own other s d ≡ true
   of_dma own other s d thing w v =
-      let same : same_thing w.one.thing v.one.thing ≡ true = ap (λ t. same_thing t v.one.thing) w.on ∙ ap (same_thing thing) v.on ∙ thing_self thing in
+      let same : same_thing w.one.thing v.one.thing ≡ true = ap (λ t. same_thing t v.one.thing) w.on ∙ ap (same_thing thing) v.on ∙ same_thing_self thing in
       any_in (λ (w : Window Thing). allows w.rights own && list_any (λ v. allows v.rights other && same_thing w.thing v.thing) (windows_of p s)) (dma_windows p d.name) w.one w.within
       (and_from (allows w.one.rights own) (list_any (λ v. allows v.rights other && same_thing w.one.thing v.thing) (windows_of p s)) w.right
       (any_in (λ (v : Window Thing). allows v.rights other && same_thing w.one.thing v.thing) (windows_of p s) v.one v.within

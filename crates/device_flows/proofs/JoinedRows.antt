@@ -22,10 +22,6 @@ pub of_resolved : {Y : Type 0} (f : NamedSubject → Y) (r : Resolution) → map
 unfolding source_of
 of_resolved f r = map-map f (subject_named r) r.subjects
 
-devices_are : (r : Resolution) → (source_of r).devices ≡ r.devices
-unfolding source_of
-devices_are r = refl
-
 direct_at : (r : Resolution) (k : ℕ) (s : Subject) → slice_get r.subjects k ≡ Some s → slice_index_or (direct_flows_of (source_of r)) k [] ≡ map (flows_to (source_of r) (subject_named r s)) (source_of r).subjects
 direct_at r k s at =
     let row : NamedSubject → List Bool = λ u. map (flows_to (source_of r) u) (source_of r).subjects in
@@ -37,25 +33,29 @@ direct_at r k s at =
 
 pub subject_row_is : (r : Resolution) (k : ℕ) (s : Subject) → slice_get r.subjects k ≡ Some s
     → slice_index_or (direct_flows_of (source_of r)) k [] ++ map (tells (source_of r) (subject_named r s)) r.devices ≡ subject_row r s
+unfolding source_of
 subject_row_is r k s at =
-    (λ i. direct_at r k s at i ++ map (tells (source_of r) (subject_named r s)) (sym (devices_are r) i))
+    (λ i. direct_at r k s at i ++ map (tells (source_of r) (subject_named r s)) r.devices)
     ∙ sym (ends_told (leads_to (source_of r) (subject (subject_named r s))) (source_of r))
 
 pub device_row_is : (r : Resolution) (d : Device)
     → map (λ s. hears (source_of r) (subject_named r s) d) r.subjects ++ map (are_together (source_of r) d) r.devices ≡ device_row r d
+unfolding source_of
 device_row_is r d =
-    (λ i. sym (of_resolved (λ s. hears (source_of r) s d) r) i ++ map (are_together (source_of r) d) (sym (devices_are r) i))
+    (λ i. sym (of_resolved (λ s. hears (source_of r) s d) r) i ++ map (are_together (source_of r) d) r.devices)
     ∙ sym (ends_told (leads_to (source_of r) (device d)) (source_of r))
 
 pub rows_are : (r : Resolution) → map (subject_row r) r.subjects ++ map (device_row r) r.devices ≡ map (row_of r) (ends_of (source_of r))
+unfolding source_of
 rows_are r =
-    (λ i. sym (of_resolved (λ s. row_of r (subject s)) r) i ++ map (device_row r) (sym (devices_are r) i))
+    (λ i. sym (of_resolved (λ s. row_of r (subject s)) r) i ++ map (device_row r) r.devices)
     ∙ sym (ends_told (row_of r) (source_of r))
 
 -- the marks of the subject of a name alone
 pub alone_is : (r : Resolution) (name : List ℕ) → map (λ s. bytes_eq s.name name) r.subjects ++ map (λ _. false) r.devices ≡ map (is_subject name) (ends_of (source_of r))
+unfolding source_of
 alone_is r name =
-    (λ i. sym (of_resolved (λ s. bytes_eq s.name name) r) i ++ map (λ _. false) (sym (devices_are r) i))
+    (λ i. sym (of_resolved (λ s. bytes_eq s.name name) r) i ++ map (λ _. false) r.devices)
     ∙ sym (ends_told (is_subject name) (source_of r))
 
 -- of the rows of all, the marks after as many rounds as there are subjects and devices are those of the sets

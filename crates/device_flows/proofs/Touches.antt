@@ -11,7 +11,7 @@ use Rattle.std.proofs.lemmas.Option.{slice_get_within}
 use Rattle.muen_num.specs.declared.access.AccessKind.{AccessKind}
 use Rattle.muen_num.specs.declared.access.AccessKind.TheVariants.{Read, Write}
 use Rattle.muen_num.proofs.Indexed.{found_some}
-use Rattle.muen_num.proofs.Lists.{list_any-map, passes_at}
+use Rattle.muen_num.proofs.Lists.{list_any-map}
 use Rattle.muen_num.proofs.Lookups.{found_passes, same_names, same_self}
 use Rattle.muen_num.proofs.Members.{any_agree, any_some, passes_in}
 use Rattle.policy_lawful.specs.Dma.{domain_windows}
@@ -32,7 +32,6 @@ use Rattle.policy_lawful.specs.source.Region.{Region}
 use Rattle.policy_lawful.proofs.EachView.{each_view}
 use Rattle.policy_lawful.proofs.Indexes.{same_name}
 use Rattle.policy_lawful.proofs.RegionsByIndex.{has_name, index_there, is_named, views_named}
-use Rattle.policy_lawful.proofs.SourceElements.{parts_in_range}
 use Rattle.policy_lawful.proofs.UniqueNames.{devices_unique}
 use Rattle.policy_lawful.proofs.WindowsByIndex.{name_there, subject_parts, windows_by_index}
 use Rattle.flow_report.proofs.IndexesOfSubjects.{any_filter_map}
@@ -187,6 +186,3 @@ module _ (r : Resolution) (q : IsResolved r) (s : Subject) (in_range : subject_i
   pub hears_same : hears (source_of r) (subject_named r s) d ≡ hears_at r.device_domains (views_of r s) s k d
   unfolding hears
   hears_same = λ i. ports_same i || registers_same i || interrupts_same i || dma_same Write Read i
-
-pub subject_at_in_range : (r : Resolution) → IsResolved r → (index : ℕ) (s : Subject) → slice_get r.subjects index ≡ Some s → subject_in_range r s ≡ true
-subject_at_in_range r q index s at = passes_at (subject_in_range r) r.subjects index s (parts_in_range r q.in_range).subjects at
