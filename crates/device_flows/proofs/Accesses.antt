@@ -14,7 +14,7 @@ use Rattle.policy_lawful.specs.Dma.{dma_windows}
 use Rattle.policy_lawful.specs.Events.{Target, irq_of}
 use Rattle.policy_lawful.specs.Lawful.{IsLawful}
 use Rattle.policy_lawful.specs.Rights.{allows}
-use Rattle.policy_lawful.specs.Thing.{Thing, region, channel, provided, device_memory, state, same_thing}
+use Rattle.policy_lawful.specs.Thing.{Thing, device_memory, same_thing}
 use Rattle.policy_lawful.specs.Windows.{Window, access_by, access_of, byte, holds, violation, windows_of}
 use Rattle.policy_lawful.specs.source.Device.{Device}
 use Rattle.policy_lawful.specs.source.DeviceUse.{DeviceUse}
