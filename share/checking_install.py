@@ -8,7 +8,7 @@ import tempfile
 import unittest
 
 import installing
-from checking import EXAMPLES, TOP, Case, call, want, with_assembler, with_program
+from checking import EXAMPLES, TOP, Case, call, want, with_assembler, with_devices, with_linter, with_program
 
 SHARE = TOP / "share"
 # what a shell in a clean root has
@@ -23,6 +23,8 @@ def missing(*tools):
 
 @with_program
 @with_assembler
+@with_devices
+@with_linter
 class Install(Case):
     """share/install, once for all tests."""
 
@@ -41,7 +43,7 @@ class Install(Case):
     def test_runs(self):
         """What is installed runs as in the clone, and says that it is."""
         self.want(sorted(file.name for file in (self.prefix / "bin").iterdir()), sorted(NAMES), "the tools")
-        for name, words in (("muen", ["map", "one_subject.json"]), ("muen_asm", ["hex", "one_subject/code.asm"]), ("muen-look", ["names", "gateway.json", "black"])):
+        for name, words in (("muen", ["map", "one_subject.json"]), ("muen_asm", ["hex", "one_subject/code.asm"]), ("muen_lint", ["one_subject.json"]), ("muen_dma", ["map", "device_domains.json"]), ("muen-look", ["names", "gateway.json", "black"])):
             here = call([SHARE / name.removeprefix("muen-"), *words])
             done = self.installed(name, *words)
             self.want((done.returncode, done.stdout.replace(b"muen-look", b"share/look"), done.stderr), (0, here.stdout, b""), f"{name} {words}")
@@ -92,6 +94,8 @@ class Install(Case):
 
 @with_program
 @with_assembler
+@with_devices
+@with_linter
 @unittest.skipIf(missing("dpkg", "dpkg-deb", "strip"), "dpkg-deb and strip aren't there")
 class Package(Case):
     """share/package."""

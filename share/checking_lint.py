@@ -5,7 +5,7 @@ import pathlib
 import re
 import tempfile
 
-from checking import EXAMPLES, TOP, Case, each, looked, said, want
+from checking import EXAMPLES, TOP, Case, each, looked, said, want, with_linter
 from checking_examples import REFUSED, RUNNING
 from checking_look import offsets, spread, told_by_look
 from checking_ring import CODE, word
@@ -101,15 +101,15 @@ SYSTEM = {"processor": {"logicalCpus": 1}, "memoryBlocks": [{"name": "ram", "phy
           "scheduling": {"groups": [{"name": "g", "cpu": 0, "subjects": ["one"]}], "majorFrames": [{"cpus": [{"cpu": 0, "minorFrames": [{"group": "g", "ticks": 9}]}]}]}}
 
 
+@with_linter
 class Lint(Case):
     """`look lint`: faults and warnings."""
 
-    # that there is no room, lint doesn't tell
-    @each((f"look lint of examples/{name}", name, line) for name, line in [*((name, None) for name in RUNNING), *REFUSED]
-          if not (line and "no room" in line))
+    @each((f"look lint of examples/{name}", name, line) for name, line in [*((name, None) for name in RUNNING), *REFUSED])
     def test_lint(self, name, line):
         """`look lint` finds no fault, or first the one of muen's line."""
-        status, lines = told_by_look("lint", EXAMPLES / name)
+        with contextlib.chdir(EXAMPLES):
+            status, lines = told_by_look("lint", name)
         told = [one for one in lines if ": fault: " in one]
         want((status, len(told) > 0), (1, True) if line else (0, False), f"look lint: {lines}")
         want(not line or line.removeprefix("muen: ") in told[0], True, f"the first fault of look lint: {lines}")

@@ -60,7 +60,7 @@ class Refusal(Case):
         with tempfile.TemporaryDirectory() as folder:
             policy = pathlib.Path(folder, "policy.json")
             policy.write_text(text, encoding="utf-8")
-            status, lines = told_by_look("refusal", policy, "--program", PROGRAM)
+            status, lines = told_by_look("refusal", policy)
         want((status, lines[:1]), (1, [line]), "look refusal")
         want(any(begin <= offset <= end for offset in offsets(text, lines)), True, f"a place is in the changed value: {lines}")
 

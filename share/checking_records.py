@@ -110,7 +110,7 @@ class Refused(Case):
 
     def asked(self, *words):
         """The status and the lines of `look refusal`."""
-        status, text = said("refusal", *words, "--program", PROGRAM)
+        status, text = said("refusal", *words)
         return status, text.splitlines()
 
     @each((f"look refusal of a record: row {row}, {why} at {column}", text, why, column, told) for row, (text, why, column, told) in enumerate(REFUSED))
@@ -194,7 +194,7 @@ class Sources(Case):
         with tempfile.TemporaryDirectory() as folder:
             file, number = pathlib.Path(folder, "code.asm"), line.count("\n") + 2
             file.write_text(f"loop: NOP\n{line}\n", encoding="ascii")
-            status, text = said("refusal", file, "--program", ASSEMBLER_PROGRAM)
+            status, text = said("refusal", file)
             self.want(status, 1, "the status")
             want(text.splitlines()[1], f"{file}:{number}:{column}: {told}", "the place")
             self.want(text.splitlines()[0], f"muen_asm: line {number}, column {column}: {told.split(': ')[0]}", "muen_asm's line")
@@ -205,9 +205,9 @@ class Sources(Case):
             file, names = pathlib.Path(folder, "code.asm"), pathlib.Path(folder, "names")
             file.write_text("LI r1, there\n", encoding="ascii")
             names.write_text("there = 5\n", encoding="ascii")
-            self.want(said("refusal", file, "--names", names, "--program", ASSEMBLER_PROGRAM), (0, "accepted\n"), "with names")
+            self.want(said("refusal", file, "--names", names), (0, "accepted\n"), "with names")
             names.write_text("here = 5\nthere == 5\n", encoding="ascii")
-            status, text = said("refusal", file, "--names", names, "--program", ASSEMBLER_PROGRAM)
+            status, text = said("refusal", file, "--names", names)
             self.want((status, text.splitlines()[1].startswith(f"{names}:2:8: ")), (1, True), f"a fault of the names: {text}")
 
 

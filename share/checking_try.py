@@ -53,7 +53,7 @@ FAULTS = [
      ["1 fault", "policy.json:9:60: display_code.asm has other bytes; --fill puts them into the policy"]),
     ("a policy that is no JSON", changed("policy.json", "", ","), ["lint"], ["1 fault, 0 warnings", "policy.json:23:1: fault: not JSON: "]),
     ("a policy that breaks a rule", changed("policy.json", '"region":"display_code"', '"region":"counter"'), ["lint"], ["1 fault, 2 warnings", "policy.json:17:"]),
-    ("a block that is too small", changed("policy.json", "0010_0000", "0000_5000"), ["build"], ["no room for display:ept of 20480 bytes", "policy.json:16:2: display:ept has no place"]),
+    ("a block that is too small", changed("policy.json", "0010_0000", "0000_5000"), ["build"], ["no room for display:ept of 20480 bytes", "policy.json:16:2: there is no place for it: the blocks have 20480 bytes; "]),
     ("a line of a record", changed("system.lines", "every", "evry"), ["run"], ["system.lines: line 3: want when: "]),
     ("a device of a record", changed("system.lines", "button", "knob"), ["run"], ["new.record: record refused at line 1: unknown", "irq 15 knob press", "new.record:1:8: no device is knob; "]),
     ("two files of lines", changed("more.lines", "", "end 5\n"), ["run"], ["more than one .lines: more.lines, system.lines"]),

@@ -111,14 +111,14 @@ class Trial:
 
     @cached_property
     def programs(self):
-        """Both programs, made at the same time where they aren't there; in place of one that can't be, why."""
+        """All programs, made at the same time where they aren't there; in place of one that can't be, why."""
         def found(name):
             """A program, or why there is none."""
             try:
                 return running.program(name)
             except running.NoProgram as error:
                 return error
-        names = ("muen", "muen_asm")
+        names = ("muen", "muen_asm", "muen_lint")
         with ThreadPoolExecutor(len(names)) as pool:
             return dict(zip(names, pool.map(found, names)))
 
@@ -151,7 +151,7 @@ class Trial:
 
     def explained(self, *words):
         """What look refusal tells behind the program's line."""
-        _, text = said("refusal", *words, "--program", self.program("muen"))
+        _, text = said("refusal", *words)
         return self.shown(text).splitlines()[1:]
 
 
@@ -200,8 +200,8 @@ def assemble(trial):
 
 
 def lint(trial):
-    """The policy has no fault."""
-    lines = trial.look("lint", trial.home.policy)
+    """The policy follows the schema and keeps the rules; its contents aren't there yet."""
+    lines = trial.look("lint", trial.home.policy, "--rules")
     return "\n".join([lines[-1], *lines[:-1][:MOST_LINES]])
 
 

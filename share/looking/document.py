@@ -1,9 +1,8 @@
 """A policy's file as the forms read it, and how they write places."""
 from looking.files import read_bytes
-from looking.places import NotJson, document_of
+from looking.places import document_of
 from looking.policy import Policy
-from looking.rules import broken
-from looking.schema import faults
+from looking.refused import refusals
 from looking.wrong import Wrong
 
 
@@ -18,21 +17,16 @@ def opened(file):
 
 
 def document_in_shape(file):
-    """The document of a file that doesn't break the schema, or Wrong."""
-    try:
-        document = opened(file)
-    except NotJson as error:
-        raise Wrong(f"{at(file, error.spot)}: not JSON: {error.why}") from None
-    for fault in faults(document):
-        raise Wrong(f"{at(file, fault.spot)}: {fault.line}: {fault.text}")
+    """The document of a file that is JSON and follows the schema, or Wrong."""
+    document, found = refusals(file)
+    if found and found[0].kind in ("not-json", "shape"):
+        raise Wrong(f"{at(file, found[0].spot)}: {found[0].line}: {found[0].text}")
     return document
 
 
 def lawful(file):
-    """The policy of a file that breaks neither the schema nor a rule, or Wrong."""
-    document = document_in_shape(file)
-    policy = Policy(document)
-    for finding in broken(policy):
-        spot = finding.nodes[0].spot if finding.nodes else document.spot
-        raise Wrong(f"{at(file, spot)}: {finding.line}: {finding.text}")
-    return policy
+    """The policy of a file that keeps the rules too, or Wrong; whether its contents are there isn't asked."""
+    document, found = refusals(file)
+    if found and found[0].of_policy:
+        raise Wrong(f"{at(file, found[0].spot)}: {found[0].line}: {found[0].text}")
+    return Policy(document)

@@ -1,24 +1,24 @@
-"""look lint: all faults of a policy that can be told without the program, and warnings."""
+"""look lint: all that muen_lint refuses of a policy, with where it stands and why, and warnings."""
 import json
 import pathlib
 import re
 from dataclasses import asdict, dataclass
 
-from looking.document import at, opened
 from looking.files import read_text
 from looking.hints import hints
 from looking.hints_code import hints_of_code
-from looking.places import NotJson
-from looking.policy import Policy, name
-from looking.rules import broken
-from looking.schema import faults, number_of
+from looking.policy import Policy
+from looking.refused import refusals
 from looking.words import counted
 from looking.wrong import Wrong
 
-HELP = "Tells all faults of a policy at once, the first as muen would, and warns of what is mostly not meant."
-LONG_HELP = """Tells all faults of a policy at once, the first as muen would, and warns of what is mostly not
-meant, each by a name; docs/rules.md, "Warnings", has them with their reasons. The status is 1
-where there is a fault.
+HELP = "Tells all that muen build would refuse of a policy, where it stands and why, and warns of what is mostly not meant."
+LONG_HELP = """Tells all that `muen build` would refuse of a policy, as muen_lint does, the first as muen would,
+with where it stands and why; and warns of what is mostly not meant, each by a name;
+docs/rules.md, "Warnings", has them with their reasons. The status is 1 where something is
+refused. What isn't JSON, or breaks the schema, or one of the rules 1 and 2, is told alone:
+nothing can be asked behind it. Contents are asked where all rules are kept; their files are
+looked for in the current folder.
 
 A file beside the policy, STEM.silenced for STEM.json, has on each line a warning that is meant,
 and why:
@@ -30,6 +30,8 @@ The first silences all warnings of this name, the second the one on the value of
 line that silences nothing is warned of. With --json a list of objects is printed, one for each
 fault and each warning: file, line, column, kind, name, place, text, and, where it is silenced,
 why."""
+# what isn't asked of a policy that is refused for this
+BEHIND = {"shape": "; the rules are asked behind this", "rule-1": "; all other rules are asked behind this", "rule-2": "; rules 3 to 24 are asked behind this"}
 LINE = re.compile(r"(?P<name>[a-z-]+)(?: at (?P<place>/\S*))?: (?P<reason>\S.*)")
 
 
@@ -53,11 +55,12 @@ def add_arguments(parser):
     """The words of the form."""
     parser.add_argument("policy", metavar="POLICY")
     parser.add_argument("--json", action="store_true", help="print a list of objects, for editors")
+    parser.add_argument("--rules", action="store_true", help="leave out contents and room")
 
 
 def run(arguments):
     """Prints each fault and each warning; 1 where there is a fault."""
-    found = all_told(arguments.policy)
+    found = all_told(arguments.policy, arguments.rules)
     print(json.dumps(list(map(asdict, found)), indent=1) if arguments.json else "\n".join(lines_of(found)))
     return 1 if any(one.kind == "fault" for one in found) else 0
 
@@ -76,24 +79,23 @@ def lines_of(found):
     return [*map(str, shown), ", ".join(counts + silenced)]
 
 
-def all_told(file):
-    """All faults, and behind them all warnings by their places."""
-    try:
-        document = opened(file)
-    except NotJson as error:
-        return [Told(file, error.spot.line, error.spot.column, "fault", "not-json", "", f"not JSON: {error.why}")]
+def all_told(file, of_rules=False):
+    """All refusals, and behind them all warnings by their places."""
+    document, refused = refusals(file)
+    wrong = [Told(file, one.spot.line, one.spot.column, "fault", one.kind, one.place, words_of(one)) for one in refused if one.of_policy or not of_rules]
+    if any(one.kind in ("not-json", "shape") for one in refused):
+        return wrong
     policy = Policy(document)
-    # what stands behind a key that isn't known may be all that is missing elsewhere
-    astray = [fault for fault in faults(document) if fault.place == "" and fault.want == "known keys"]
-    if astray:
-        return [Told(file, fault.spot.line, fault.spot.column, "fault", "shape", fault.place, f"{fault.text} ({fault.line}); the rules are asked behind this")
-                for fault in astray]
-    wrong = [Told(file, spot.line, spot.column, "fault", kind, place, text) for spot, kind, place, text in faults_of(policy)]
     # of a program only where the policy is one
     meant = [*hints(policy), *(() if wrong else hints_of_code(policy))]
     warnings = [Told(file, hint.spot.line, hint.spot.column, "warning", hint.name, hint.node.place, hint.text) for hint in meant]
     warnings.sort(key=lambda one: (one.line, one.column))
     return wrong + warnings + silence(file, warnings)
+
+
+def words_of(one):
+    """What is told of a refusal: why, the program's line, and what isn't asked behind it."""
+    return f"not JSON: {one.text}" if one.kind == "not-json" else f"{one.text} ({one.line}){BEHIND.get(one.kind, '')}"
 
 
 def silence(policy, warnings):
@@ -112,21 +114,3 @@ def silence(policy, warnings):
         if not meant:
             unmet.append(Told(str(file), number, 1, "warning", "silences-nothing", "", "there is no such warning"))
     return unmet
-
-
-def faults_of(policy):
-    """The spot, the kind, the place and the text of each fault: of the schema, of rules, of contents."""
-    for fault in faults(policy.document):
-        yield fault.spot, "shape", fault.place, f"{fault.text} ({fault.line})"
-    for finding in broken(policy):
-        node = finding.nodes[0] if finding.nodes else policy.document
-        yield node.spot, f"rule-{finding.rule}", node.place, f"{finding.text} ({finding.line})"
-    held = [(name(region), region) for region in policy.memory]
-    held += [(f"{name(subject)}|{name(region, 'logical')}", region) for subject in policy.subjects
-             if (component := policy.component(subject)) is not None for region in component.items("provides")]
-    for whose, region in held:
-        content, size = region.get("content"), number_of(region.get("size"))
-        digits = content.text("hex") if content is not None else None
-        if digits is not None and size is not None and len(digits) // 2 > size:
-            node = content.get("hex")
-            yield node.spot, "too-long", node.place, f"{whose}: {len(digits) // 2} bytes in room for {size}"

@@ -1,13 +1,11 @@
-"""What the program answers of a policy."""
-import pathlib
+"""What the programs answer."""
 import re
 import subprocess
-import tempfile
 
 import running
 from looking.wrong import Wrong
 
-NAME = re.compile("muen(_asm)?: ")
+NAME = re.compile("muen(_asm|_lint)?: ")
 
 
 def add_program(parser):
@@ -15,10 +13,13 @@ def add_program(parser):
     parser.add_argument("--program", metavar="PROGRAM", help="the program muen; without it, the one that share/muen runs")
 
 
-def program_of(arguments, name="muen"):
-    """The program of the option, or the one of this name that is built or kept, or Wrong."""
-    if arguments.program is not None:
-        return arguments.program
+def program_of(arguments):
+    """The program of the option, or the one that is built or kept, or Wrong."""
+    return arguments.program or program_named("muen")
+
+
+def program_named(name):
+    """The program of this name that is built or kept, or Wrong."""
     try:
         return str(running.program(name))
     except running.NoProgram as error:
@@ -38,10 +39,10 @@ def output(program, *words):
     return text.decode("ascii")
 
 
-def answer(program, *words):
-    """The status of a call, its line of errors without the program's name, and what it prints."""
+def answer(program, *words, given=b""):
+    """The status of a call that is given these bytes, its line of errors without the program's name, and what it prints."""
     try:
-        done = subprocess.run([program, *map(str, words)], stdin=subprocess.DEVNULL, capture_output=True, check=False)
+        done = subprocess.run([program, *map(str, words)], input=given, capture_output=True, check=False)
     except OSError as error:
         raise Wrong(f"the program {program}: {error.strerror}; README says how it is built") from None
     line = done.stderr.decode("utf-8", "replace").rstrip("\n")
@@ -49,12 +50,3 @@ def answer(program, *words):
     if done.returncode not in range(11) or done.returncode and not own:
         raise Wrong(f"{program} ended with status {done.returncode}: {line}")
     return done.returncode, line[own.end():] if own else line, done.stdout
-
-
-def refusal(program, policy):
-    """The status and the line of what `build` refuses, 0 and the empty line where it accepts; no file is left."""
-    status, line = call(program, "map", policy)
-    if status and not line.startswith("no room"):
-        return status, line
-    with tempfile.TemporaryDirectory() as folder:
-        return call(program, "build", policy, pathlib.Path(folder, "image"))

@@ -1,4 +1,4 @@
-"""The schema of policies, read from share/policy.schema.json: all faults of a document, in muen's order."""
+"""The schema of policies, read from share/policy.schema.json, and why a value breaks it where the program has told that it does."""
 from __future__ import annotations
 
 import difflib
@@ -8,14 +8,8 @@ import pathlib
 import re
 from dataclasses import dataclass
 
-from looking.places import Spot
-
 FILE = pathlib.Path(__file__).resolve().parent.parent / "policy.schema.json"
 LARGEST = 2**64 - 1
-# what muen wants of a kind, where the kind has another name
-WANTS = {"msrRights": "rights"}
-# of objects with one of several keys what muen wants of them
-ONE_OF = {"Content": "one content", "EventSource": "call or trap"}
 FILE_KEYS = ("offset", "length")
 
 
@@ -25,20 +19,6 @@ class Key:
     kind: str
     is_list: bool
     is_required: bool
-
-
-@dataclass(frozen=True)
-class Fault:
-    """What a place of a document lacks, as muen says it, and in words with its spot."""
-    place: str
-    want: str
-    spot: Spot
-    text: str
-
-    @property
-    def line(self):
-        """What muen would answer, were it the first."""
-        return f"shape at {self.place}: want {self.want}"
 
 
 @functools.cache
@@ -105,19 +85,19 @@ def number_of(node):
 
 
 def hexadecimal_fault(text):
-    """Of a text that spells no bytes the index of the first wrong character, and why; else none."""
+    """Of a text that spells no bytes the index of the first wrong character, and why."""
     for index, letter in enumerate(text):
         if letter not in "0123456789abcdefABCDEF":
             return index, f"digit {index} is {letter!r}, which is no hexadecimal digit"
-    return (len(text), f"{len(text)} digits, an odd number") if len(text) % 2 else None
+    return len(text), f"{len(text)} digits, an odd number"
 
 
 def name_fault(text):
-    """Of a text that is no name the index of the first wrong character, and why; else none."""
+    """Of a text that is no name the index of the first wrong character, and why."""
     match = re.match("[A-Za-z0-9_.-]*", text)
     if match.end() < len(text):
         return match.end(), f"{text[match.end()]!r} doesn't stand in names"
-    return None if 1 <= len(text) <= 63 else (0, f"a name has 1 to 63 characters, and this {len(text)}")
+    return 0, f"a name has 1 to 63 characters, and this {len(text)}"
 
 
 # ---- faults of values
@@ -129,26 +109,23 @@ def called(node):
 
 
 def scalar_fault(kind, node):
-    """The spot and the words of the fault of a value of a kind without keys, or none."""
+    """The spot and the words of the fault of a value of a kind without keys."""
     definition = definitions()[kind]
     if "enum" in definition:
-        if node.kind == "text" and node.value in definition["enum"]:
-            return None
         choices = ", ".join(f'"{each}"' for each in definition["enum"])
         return node.spot, f"stands {short(node)}; it may be {choices}"
     if kind in ("number", "byte"):
         return numeric_fault(kind, node)
     if node.kind != "text":
         return node.spot, f"stands {called(node)}, and a text is wanted"
-    fault = name_fault(node.value) if kind == "name" else hexadecimal_fault(node.value)
-    return fault and (node.spot_in(fault[0]), f"{short(node)}: {fault[1]}")
+    index, why = name_fault(node.value) if kind == "name" else hexadecimal_fault(node.value)
+    return node.spot_in(index), f"{short(node)}: {why}"
 
 
 def numeric_fault(kind, node):
     """As scalar_fault, of numbers and bytes."""
-    value = number_of(node)
-    if value is not None:
-        return None if kind == "number" or value < 256 else (node.spot, f"{short(node)}: a byte is below 256")
+    if kind == "byte" and number_of(node) is not None:
+        return node.spot, f"{short(node)}: a byte is below 256"
     if node.kind == "text":
         index, why = number_fault(node.value)
         return node.spot_in(index), f"{short(node)}: {why}"
@@ -165,37 +142,28 @@ def short(node):
     return raw if len(raw) <= 40 else f"{raw[:37]}.."
 
 
-def faults(node, kind="System", is_list=False):
-    """All faults of a value and of what stands below it, the first as muen has it."""
-    if is_list:
-        if node.kind != "list":
-            yield Fault(node.place, "list", node.spot, f"stands {called(node)}, and a list is wanted")
-        for item in node.items():
-            yield from faults(item, kind)
-    elif is_object(kind):
-        yield from object_faults(node, kind)
-    elif fault := scalar_fault(kind, node):
-        yield Fault(node.place, WANTS.get(kind, kind), *fault)
+def kind_at(path):
+    """The kind of the value at a place, or of the items of a list there."""
+    kind = "System"
+    for step in path:
+        kind = kind if isinstance(step, int) else keys_of(kind)[step].kind
+    return kind
 
 
-def object_faults(node, kind):
-    """As faults, of a value that should be an object."""
-    if node.kind != "object":
-        yield Fault(node.place, "object", node.spot, f"stands {called(node)}, and an object is wanted")
-        return
-    keys = keys_of(kind)
-    for name, value in node.members:
-        if name not in keys:
-            yield Fault(node.place, "known keys", value.key_spot, unknown_key(name, keys, node))
-    if kind in ONE_OF and (why := one_of_fault(node, kind)):
-        yield Fault(node.place, ONE_OF[kind], node.spot, why)
-    for name, key in keys.items():
-        value = node.get(name)
-        if value is None:
-            if key.is_required:
-                yield Fault(f"{node.place}/{name}", "present", node.spot, f'the object lacks the key "{name}"')
-        elif name != "description":
-            yield from faults(value, key.kind, key.is_list)
+def cause(document, place, want):
+    """Where and why a document breaks the schema first, which the program has told with its place and want."""
+    path = [int(step) if step.isdigit() else step for step in place.split("/")[1:]]
+    node = document.at(path[:-1] if want == "present" else path)
+    if want == "present":
+        return node.spot, f'the object lacks the key "{path[-1]}"'
+    if want in ("list", "object"):
+        return node.spot, f"stands {called(node)}, and {'a list' if want == 'list' else 'an object'} is wanted"
+    kind = kind_at(path)
+    if want == "known keys":
+        keys = keys_of(kind)
+        name, value = next((name, value) for name, value in node.members if name not in keys)
+        return value.key_spot, unknown_key(name, keys, node)
+    return (node.spot, one_of_fault(node, kind)) if is_object(kind) else scalar_fault(kind, node)
 
 
 def unknown_key(name, keys, node):
@@ -207,13 +175,12 @@ def unknown_key(name, keys, node):
 
 
 def one_of_fault(node, kind):
-    """What an object with one of several keys has too many or too few of, or none."""
+    """What an object with one of several keys has too many or too few of."""
     choices = [each["required"][0] for each in definitions()[kind]["oneOf"]]
     there = [key for key in choices if node.get(key) is not None]
-    if len(there) != 1:
-        return f"exactly one of {', '.join(choices)} stands here, not {' and '.join(there) or 'none'}"
-    loose = [key for key in FILE_KEYS if kind == "Content" and node.get(key) is not None]
-    return f'"{loose[0]}" stands with "file" alone' if loose and there != ["file"] else None
+    if len(there) == 1:
+        return f'"{next(key for key in FILE_KEYS if node.get(key) is not None)}" stands with "file" alone'
+    return f"exactly one of {', '.join(choices)} stands here, not {' and '.join(there) or 'none'}"
 
 
 def repeated_keys(document):

@@ -50,7 +50,7 @@ module _ (v : View) where
   below_same a b level (Some t) e = ap (λ i. option_and_then (λ entry. if is_present entry then Some (page_in entry) else None) (v.word t i)) e
 
   -- down to the level, and one below it
-  table_same : (p x level n : ℕ) → level ≤ 4 → IsAlike p x level → n + level ≤ 6 → n < 6 → table_at v p n ≡ table_at v x n
+  pub table_same : (p x level n : ℕ) → level ≤ 4 → IsAlike p x level → n + level ≤ 6 → n < 6 → table_at v p n ≡ table_at v x n
   unfolding table_at
   table_same p x level zero few h low deep = refl
   table_same p x level (suc zero) few h low deep = ap (λ s. context_table v.word v.root (bus_of s)) h.source

@@ -9,3 +9,4 @@ pub mod PieceLaws
 pub mod Found
 pub mod NumberedLaws
 pub mod SourcesLaws
+pub mod AgainLaws

@@ -33,7 +33,7 @@ any_step test (suc (suc (suc (suc (suc zero))))) l h =
     or_right (test 0) _ (or_right (test 1) _ (or_right (test 2) _ (or_right (test 3) _ (or_right (test 4) _ (or_left (test 5) _ h)))))
 any_step test (suc (suc (suc (suc (suc (suc n)))))) l h = absurd (omega (arith, l))
 
-each_step : (test : ℕ → Bool) → list_any test steps ≡ false → (n : ℕ) → n < 6 → test n ≡ false
+pub each_step : (test : ℕ → Bool) → list_any test steps ≡ false → (n : ℕ) → n < 6 → test n ≡ false
 each_step test none n l = elim (cases_Bool (test n)) [
   | inl e ↦ absurd (true≢false (sym (any_step test n l e) ∙ none))
   | inr e ↦ e
@@ -146,7 +146,7 @@ inside v q h = elim (cases_Bool (is_outside v q)) [
   | inl e ↦ let bad = sym h ∙ outside_first v q e in absurd (cc)
 ]
 
-once : (v : View) (q : ℕ) → fault_at v q ≡ None → is_twice v q ≡ false
+pub once : (v : View) (q : ℕ) → fault_at v q ≡ None → is_twice v q ≡ false
 once v q h = elim (cases_Bool (is_twice v q)) [
   | inr e ↦ e
   | inl e ↦ let bad = sym h ∙ twice_first v q (inside v q h) e in absurd (cc)

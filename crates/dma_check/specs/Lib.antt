@@ -7,3 +7,4 @@ pub mod Held
 pub mod Marked
 pub mod Pieces
 pub mod Numbered
+pub mod Again

@@ -6,10 +6,11 @@ ghost use Rattle.dma_check.specs.Verdict.{OverImages, verdict};
 ghost use Rattle.dma_check.specs.Views.{view_of};
 ghost use Rattle.policy_lawful.specs.Resolution.{source_of};
 
+use crate::again::{is_again, no_sources, note};
 use crate::fault::{DmaFault, TableFault};
 use crate::listing::listing_fault;
 use crate::path::Way;
-use crate::searching::source_fault;
+use crate::searching::fault_of;
 use crate::spans::ImageSpans;
 use crate::windows::{thing_addresses, windows_by};
 use dma_tables::{DmaFile, DmaTables};
@@ -42,12 +43,16 @@ fn first_fault(
 {
     let items = spans.items();
     let addresses = thing_addresses(alloc, items)?;
-    let mut ways = no_ways(alloc, file.pages.len() / PAGE as usize)?;
+    let pages = file.pages.len() / PAGE as usize;
+    let mut ways = no_ways(alloc, pages)?;
+    let mut earlier = no_sources(alloc, pages)?;
     for source in 0..SOURCES {
         let windows = windows_by(alloc, policy, &addresses, source)?;
-        if let Some(fault) = source_fault(file, items, &windows, &mut ways, source) {
+        let again = is_again(alloc, policy, &addresses, file, &earlier, &windows, source)?;
+        if let Some(fault) = fault_of(file, items, &windows, &mut ways, source, again) {
             return Ok(Some(fault));
         }
+        note(file, &mut earlier, source);
     }
     Ok(None)
 }

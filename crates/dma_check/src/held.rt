@@ -2,7 +2,7 @@
 use policy_lawful::Rights;
 
 /// Addresses of a source, and where they lead.
-#[derive(Clone, Copy, Debug)]
+#[derive(Clone, Copy, PartialEq, Eq, Debug)]
 pub(crate) struct DmaWindow {
     /// The first of the addresses.
     pub(crate) guest: u64,

@@ -3,6 +3,7 @@
 //! wrong with them.
 #![tactic(auto)]
 
+mod again;
 mod checking;
 mod fault;
 mod held;

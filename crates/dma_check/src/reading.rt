@@ -1,6 +1,7 @@
 //! The tables of a file, entry by entry (Intel VT-d specification, legacy mode: the formats of the root
 //! entry, the context entry, and the second-level paging entry).
 ghost use Rattle.std.specs.Prelude.{◌≡◌, ◌<◌, ◌^◌, ◌*◌, ◌+◌, ◌%◌, ℕ, Bool, List, Option, IfSome, option_and_then, option_map};
+ghost use Rattle.dma_check.specs.Again.{highest_of};
 ghost use Rattle.dma_check.specs.Held.{view_by};
 ghost use Rattle.dma_check.specs.Marked.{IsPath};
 ghost use Rattle.dma_check.specs.Views.{bus_of, devfn_of, has_page, is_present, table_below};
@@ -201,6 +202,15 @@ pub(crate) fn walk(file: &DmaFile, addr: u64, write: bool, table: Option<u64>) -
     };
     let page = paged(file, addr, write, table)?;
     Some(PAGE * page + addr % PAGE)
+}
+
+/// The highest second-level table of a source.
+pub(crate) fn highest_of(file: &DmaFile, source: u32) -> Option<u64>
+    requires { source < 65536 }
+    ensures { result ≡ highest_of file.now source }
+{
+    let context = context_table(file, (source / 256) as u8);
+    highest_table(file, context, (source % 256) as u8)
 }
 
 /// The tables to which the walk for an address of a source comes.

@@ -3,6 +3,7 @@ ghost use Rattle.std.specs.Prelude.{◌≡◌, ◌<◌, ◌^◌, ◌*◌, ◌+�
 ghost use Rattle.std.specs.List.{find};
 ghost use Rattle.std.specs.Option.{option_map_or};
 ghost use Rattle.muen_num.specs.declared.limits.TheConstants.{PAGE};
+ghost use Rattle.dma_check.specs.Again.{WhereKnown};
 ghost use Rattle.dma_check.specs.Faults.{astray, contents, fault_at, fault_of_kind, is_lack, same_end};
 ghost use Rattle.dma_check.specs.Held.{IsLow, KeepsMarks, KeepsMarksOf, MarkedTo, OverDeclared, contents_at, has_address, told, told_by};
 ghost use Rattle.dma_check.specs.Views.{table_at};
@@ -226,9 +227,9 @@ fn fault_here(
     contents_fault(file, spans, windows, source, addr, path.level_3)
 }
 
-/// The first fault at the addresses of a source that has these windows. Where the walk comes to no
-/// other table, and no window begins or ends, one address is looked at.
-pub(crate) fn source_fault(
+// The first fault at the addresses of a source that has these windows. Where the walk comes to no
+// other table, and no window begins or ends, one address is looked at.
+fn source_fault(
     file: &DmaFile,
     spans: &[SpanPart],
     windows: &[DmaWindow],
@@ -251,4 +252,27 @@ pub(crate) fn source_fault(
         addr += kept(windows, addr, end - addr);
     }
     None
+}
+
+/// The first fault at the addresses of a source that has these windows. Where it is said that an earlier
+/// source with these has its highest table, and so has no fault by that, one address is looked at.
+pub(crate) fn fault_of(
+    file: &DmaFile,
+    spans: &[SpanPart],
+    windows: &[DmaWindow],
+    ways: &mut Vec<Option<Way>>,
+    source: u32,
+    again: bool,
+) -> Option<TableFault>
+    requires low { All IsLow windows.now }
+    requires source { source < 65536 }
+    requires long { vec_len ways.old ≡ page_count_of file.now }
+    ensures long { vec_len ways.new ≡ vec_len ways.old }
+    ensures found { WhereKnown file.now spans.now windows.now source again (λ v. MarkedTo file.now ways.old.items (2 ^ 48 * source) v → result ≡ first_from (fault_at v) (2 ^ 48 * source) (2 ^ 48)) }
+    ensures known { WhereKnown file.now spans.now windows.now source again (KeepsMarksOf file.now ways.old.items ways.new.items result source) }
+{
+    if again {
+        return fault_here(file, spans, windows, ways, source, 0);
+    }
+    source_fault(file, spans, windows, ways, source)
 }

@@ -6,7 +6,6 @@ use Rattle.command_shell.specs.Calls.{Comes, DoesOrNot, Ends, LacksMemory, Runs}
 use Rattle.command_shell.specs.Errors.{error_status}
 use Rattle.command_shell.specs.declared.error.CommandError.{CommandError}
 use Rattle.command_shell.specs.declared.error.CommandError.TheVariants.{Usage, Missing, TooLong, FileFault, OutputFault, NoMemory, Own}
-use Rattle.command_shell.specs.declared.status.Status.{Status}
 use Rattle.command_shell.specs.declared.status.Status.TheVariants as statuses
 use Rattle.command_shell.proofs.Completing.{behind}
 use Rattle.dma_check.specs.Verdict.{verdict}
@@ -20,22 +19,20 @@ use Rattle.image_verify.proofs.VerdictLaws.{no_fault_is_sound}
 use Rattle.muen_build.specs.Refusals.{fitting_policy_of}
 use Rattle.muen_num.specs.declared.limits.TheConstants.{IMAGE_MOST}
 use Rattle.muen_outside.specs.Looks.{ShowAll, looks_since}
-use Rattle.muen_outside.specs.States.{History, Look, look, looked}
+use Rattle.muen_outside.specs.States.{History, look, looked}
 use Rattle.muen_outside.specs.Store.{Reading, Store, absent, long, reading_of, whole}
 use Rattle.muen_outside.specs.declared.files.FileError.{FileError}
 use Rattle.muen_outside.specs.declared.files.FileError.TheVariants.{Failed as FilesFailed, NoMemory as FilesMemory}
-use Rattle.muen_top.specs.Answers.{Answer, judges, stops}
-use Rattle.muen_top.specs.Headline.{HoldsFitting, HoldsSound}
+use Rattle.muen_top.specs.Answers.{judges}
 use Rattle.muen_top.specs.Verdicts.{HasVerdict}
 use Rattle.muen_top.specs.Verifying.{HasAllRead, IsFound}
 use Rattle.muen_top.specs.declared.limits.TheConstants.{DMA_MOST}
-use Rattle.muen_top.specs.declared.outcome.CommandError.{CommandError as MuenError}
 use Rattle.muen_top.proofs.Verified.{is_judged}
 use Rattle.policy_lawful.specs.Resolution.{Resolution, source_of}
 use Rattle.policy_lawful.specs.refusal.Refusal.{Refusal as PolicyRefusal}
 use Rattle.policy_lawful.specs.refusal.Refusal.TheVariants.{NotJson, Shape, Rule, Missing as MissingFile, TooLong as TooLongFile, FileFit, NoRoom, NoMemory as NoMemoryFor}
 use Rattle.policy_lawful.specs.source.Source.{Source}
-use Rattle.dma_top.specs.Accepting.{HoldsFit, VerifyAccepts}
+use Rattle.dma_top.specs.Accepting.{HoldsFit}
 use Rattle.dma_top.specs.Answers.{of_meaning, verdict_answer, verdict_plan}
 use Rattle.dma_top.specs.Calls.{IsAsked}
 use Rattle.dma_top.specs.Commands.{Command, verify}

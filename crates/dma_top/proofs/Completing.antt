@@ -1,8 +1,8 @@
 -- A call in which nothing fails does the whole of what its command is answered.
-use Rattle.std.proofs.Common.{◌≡◌, ◌≢◌, ◌⊎◌, inl, inr, ℕ, List, [], ◌∷◌, ◌++◌, length, drop, Option, Some, None, Result, Ok, Err, refl, sym, ap, subst, ◌∙◌, append_assoc}
+use Rattle.std.proofs.Common.{◌≡◌, ◌≢◌, ◌⊎◌, inl, inr, ℕ, List, [], ◌∷◌, ◌++◌, Option, Some, None, Err, refl, sym, ap, subst, ◌∙◌, append_assoc}
 use Rattle.std.specs.List.{All, AllByRecursion}
 use Rattle.std.proofs.lemmas.List.Elements.{recursion_from_All}
-use Rattle.command_shell.specs.Calls.{Ends, Stops}
+use Rattle.command_shell.specs.Calls.{Ends}
 use Rattle.command_shell.specs.Complete.{IsRefused, NothingFails}
 use Rattle.command_shell.specs.Errors.{error_status, error_text}
 use Rattle.command_shell.specs.declared.error.CommandError.{CommandError}
@@ -17,8 +17,6 @@ use Rattle.muen_outside.specs.Store.{Store}
 use Rattle.muen_outside.specs.declared.files.FileError.TheVariants.{Failed as FilesFailed}
 use Rattle.muen_top.specs.Answers.{Answer, Reason, usage, missing, too_long, refused, image_refused, dma_refused, record_refused, judges, prints, stops, verify_answer, writes}
 use Rattle.muen_top.specs.Calls.{FaultOfFiles, StopsFor, Unwritten}
-use Rattle.muen_top.specs.Commands.{verify as muen_verify}
-use Rattle.muen_top.specs.PolicyCommands.{StopsCommand}
 use Rattle.muen_top.specs.FilesSeen.{OverLooks}
 use Rattle.muen_top.specs.Verdicts.{Finds, HasVerdict}
 use Rattle.muen_top.specs.Verifying.{HasAllRead, IsFound}

@@ -1,22 +1,20 @@
 -- What a call does whose command has come to this.
-use Rattle.std.proofs.Common.{◌≡◌, ◌⊎◌, inl, inr, ℕ, List, [], ◌++◌, Option, Some, None, IfSome, Result, Ok, Err, refl, sym, ap, subst, ◌∙◌, append-nil}
-use Rattle.command_shell.specs.Calls.{Ends, Stops}
-use Rattle.command_shell.specs.Errors.{Reported, error_status, error_text}
+use Rattle.std.proofs.Common.{◌≡◌, inl, inr, ℕ, List, [], ◌++◌, Option, Some, None, IfSome, Err, refl, sym, subst, ◌∙◌}
+use Rattle.command_shell.specs.Errors.{Reported}
 use Rattle.command_shell.specs.Outcomes.{StopsAt, Reaches, PutsTo, ends_with}
 use Rattle.command_shell.specs.Answers.{Plan, answers, prints}
 use Rattle.command_shell.specs.declared.error.CommandError.{CommandError}
 use Rattle.command_shell.specs.declared.error.CommandError.TheVariants.{Usage, Missing, TooLong, FileFault, OutputFault, NoMemory, Own}
-use Rattle.command_shell.proofs.Ending.{agrees as shell_agrees, called as shell_called, held_so as shell_held, looked_more, looks_are, put_so, told_more, writes_are}
+use Rattle.command_shell.proofs.Ending.{agrees as shell_agrees, called as shell_called, looked_more, looks_are, put_so, told_more}
 use Rattle.image_pack.specs.declared.parts.Image.{Image}
-use Rattle.image_pack.specs.Parts.{IsParts}
-use Rattle.muen_outside.specs.Looks.{HeldAfter, ShowAll, looks_since, writes_since}
-use Rattle.muen_outside.specs.States.{History, Look, SinkState, looked, went}
+use Rattle.muen_outside.specs.Looks.{ShowAll, looks_since}
+use Rattle.muen_outside.specs.States.{History, SinkState}
 use Rattle.muen_outside.specs.Store.{Store}
 use Rattle.muen_outside.proofs.Histories.{looked_alone}
 use Rattle.muen_top.specs.Commands.{verify as muen_verify}
 use Rattle.muen_top.specs.PolicyCommands.{StopsCommand}
 use Rattle.muen_top.specs.Reports.{sound_text}
-use Rattle.muen_top.specs.Verifying.{HasAllRead, IsFound}
+use Rattle.muen_top.specs.Verifying.{HasAllRead}
 use Rattle.muen_top.specs.declared.outcome.CommandError.{CommandError as MuenError}
 use Rattle.policy_lawful.specs.Resolution.{Resolution, source_of}
 use Rattle.dma_top.specs.Answers.{flows_plan, lines_plan, verdict_plan, windows_plan}
@@ -53,14 +51,6 @@ module _ (held held' : Option Store) (old new : History) (out out' : SinkState) 
   agrees (Some (lines image inputs tables)) c = shell_agrees devices held held' old new out out' outcome (Some (lines_plan image inputs tables)) c
   agrees (Some (windows policy)) c = shell_agrees devices held held' old new out out' outcome (Some (windows_plan policy)) c
   agrees (Some (flows policy)) c = shell_agrees devices held held' old new out out' outcome (Some (flows_plan policy)) c
-
-  pub held_so : (command : Option Command) → ComesOf command held held' old new out out' outcome → HeldAfter (writes_since old new) held held'
-  held_so None c = shell_held devices held held' old new out out' outcome None c
-  held_so (Some (verify image policy tables)) c =
-      subst (λ ws. HeldAfter ws held held') (sym (writes_are devices held held' old new out out' outcome c.looks [] (looked_alone old new c.looks c.history))) c.left
-  held_so (Some (lines image inputs tables)) c = shell_held devices held held' old new out out' outcome (Some (lines_plan image inputs tables)) c
-  held_so (Some (windows policy)) c = shell_held devices held held' old new out out' outcome (Some (windows_plan policy)) c
-  held_so (Some (flows policy)) c = shell_held devices held held' old new out out' outcome (Some (flows_plan policy)) c
 
 -- ---- of `verify`
 

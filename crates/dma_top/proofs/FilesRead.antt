@@ -1,6 +1,6 @@
 -- What a file that is looked at means, and what comes of it.
-use Rattle.std.proofs.Common.{◌≡◌, ◌⊎◌, inl, inr, ℕ, List, Option, Result, Ok, Err, refl, sym, subst}
-use Rattle.command_shell.specs.Answers.{Plan, looks_at, takes_memory}
+use Rattle.std.proofs.Common.{◌≡◌, inl, inr, ℕ, List, Option, Result, Ok, Err, refl, sym, subst}
+use Rattle.command_shell.specs.Answers.{Plan, takes_memory}
 use Rattle.command_shell.specs.Outcomes.{Reaches, StopsAt}
 use Rattle.command_shell.specs.Reads.{NotRead, Saw}
 use Rattle.command_shell.specs.declared.error.CommandError.{CommandError}

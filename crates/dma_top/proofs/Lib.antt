@@ -7,3 +7,4 @@ pub mod FilesRead
 pub mod LinesRead
 pub mod Placed
 pub mod TablesJudged
+pub mod TwoCalls

@@ -1,5 +1,5 @@
 -- What comes of the files of `lines`, one after another.
-use Rattle.std.proofs.Common.{◌≡◌, ℕ, List, Option, Some, refl, sym, subst, ◌∙◌}
+use Rattle.std.proofs.Common.{◌≡◌, ℕ, List, Option, Some, subst, ◌∙◌}
 use Rattle.command_shell.specs.Answers.{Plan, answers, prints}
 use Rattle.command_shell.specs.Outcomes.{Reaches}
 use Rattle.command_shell.specs.declared.error.CommandError.{CommandError}

@@ -1,7 +1,6 @@
 -- What comes of a policy whose regions are placed, or aren't.
-use Rattle.std.proofs.Common.{◌≡◌, ◌⊎◌, inl, inr, ℕ, List, Option, Some, None, Result, Ok, Err, refl, sym, ap, subst, ◌∙◌}
+use Rattle.std.proofs.Common.{◌≡◌, inl, inr, ℕ, List, Option, Some, None, Result, Ok, Err, refl, sym, ap, subst, ◌∙◌}
 use Rattle.command_shell.specs.Answers.{Plan, answers, prints}
-use Rattle.command_shell.specs.Outcomes.{Reaches}
 use Rattle.command_shell.specs.declared.error.CommandError.{CommandError}
 use Rattle.command_shell.specs.declared.error.CommandError.TheVariants.{Usage, Missing, TooLong, FileFault, OutputFault, NoMemory, Own}
 use Rattle.command_shell.proofs.Ending.{without_room}
@@ -15,7 +14,7 @@ use Rattle.policy_lawful.specs.refusal.Refusal.TheVariants.{NoMemory as NoMemory
 use Rattle.policy_lawful.specs.source.Source.{Source}
 use Rattle.region_alloc.specs.Placement.{no_room, no_room_for, placement_of}
 use Rattle.dma_top.specs.Answers.{of_meaning, placed_plan, policy_plan, windows_plan}
-use Rattle.dma_top.specs.Reads.{EndsFor, Finds, FindsNone, IsErrorOf, IsToMap, IsToPrint}
+use Rattle.dma_top.specs.Reads.{EndsFor, Finds, IsErrorOf, IsToMap}
 use Rattle.dma_top.specs.Refusals.{devices}
 use Rattle.dma_top.specs.declared.refusal.Refusal.{Refusal}
 use Rattle.dma_top.specs.declared.refusal.Refusal.TheVariants.{Policy}

@@ -1,6 +1,6 @@
 -- What comes of tables that were read, by their verdict.
 use Rattle.std.proofs.Common.{◌≡◌, List, ℕ, Option, Some, None, refl, sym, subst}
-use Rattle.command_shell.specs.Answers.{Plan, answers, prints}
+use Rattle.command_shell.specs.Answers.{Plan, answers}
 use Rattle.command_shell.proofs.Ending.{refused as refused_at, without_memory}
 use Rattle.command_shell.specs.Outcomes.{Reaches}
 use Rattle.command_shell.specs.declared.error.CommandError.TheVariants.{NoMemory, Own}
@@ -13,7 +13,7 @@ use Rattle.muen_outside.specs.Store.{Store}
 use Rattle.muen_top.specs.Reports.{sound_text}
 use Rattle.policy_lawful.specs.source.Source.{Source}
 use Rattle.dma_top.specs.Answers.{tables_plan, verdict_answer, verdict_plan}
-use Rattle.dma_top.specs.Reads.{EndsFor, Finds, FindsNone, IsToPrint}
+use Rattle.dma_top.specs.Reads.{EndsFor, Finds, IsToPrint}
 use Rattle.dma_top.specs.Refusals.{devices, refusal_status, refusal_text}
 use Rattle.dma_top.specs.declared.refusal.Refusal.TheVariants.{Unfit}
 use Rattle.dma_top.specs.declared.status.DmaStatus.{DmaStatus}

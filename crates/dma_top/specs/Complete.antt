@@ -2,7 +2,6 @@
 use Rattle.std.specs.Prelude.{◌≡◌, ◌⊎◌, ℕ, List, Option, Some, None}
 use Rattle.command_shell.specs.Calls.{Ends}
 use Rattle.command_shell.specs.Complete.{Answered, AnsweredBy, IsRefused, NothingFails}
-use Rattle.command_shell.specs.Errors.{error_text}
 use Rattle.command_shell.specs.Texts.{missing_text, too_long_text}
 use Rattle.command_shell.specs.declared.status.Status.TheVariants as statuses
 use Rattle.image_verify.specs.declared.fault.Fault.{Fault}

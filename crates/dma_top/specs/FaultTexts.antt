@@ -6,7 +6,6 @@ use Rattle.dma_check.specs.declared.fault.DmaFault.{DmaFault}
 use Rattle.dma_check.specs.declared.fault.DmaFault.TheVariants.{Listing, Tables}
 use Rattle.dma_check.specs.declared.fault.FaultKind.{FaultKind}
 use Rattle.dma_check.specs.declared.fault.FaultKind.TheVariants.{Outside, Twice, Leak, Lacks}
-use Rattle.dma_check.specs.declared.fault.TableFault.{TableFault}
 
 abbrev pub kind_word : FaultKind → List ℕ
 kind_word Outside = codes "not sound: outside "

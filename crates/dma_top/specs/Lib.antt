@@ -9,4 +9,5 @@ pub mod Parsed
 pub mod Reads
 pub mod Refusals
 pub mod Statuses
+pub mod TwoCalls
 pub mod Verdicts

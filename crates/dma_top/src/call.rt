@@ -1,7 +1,7 @@
 //! What the words ask for is done, and its end told.
-ghost use Rattle.std.specs.Prelude.{IfSome, map, string_bytes};
+ghost use Rattle.std.specs.Prelude.{◌≡◌, IfSome, map, string_bytes};
 ghost use Rattle.command_shell.specs.Calls.{ends};
-ghost use Rattle.muen_outside.specs.Looks.{HeldAfter, ShowAll, looks_since, writes_since};
+ghost use Rattle.muen_outside.specs.Looks.{ShowAll, looks_since};
 ghost use Rattle.dma_top.specs.Accepting.{VerifyAccepts};
 ghost use Rattle.dma_top.specs.Calls.{IsCall};
 ghost use Rattle.dma_top.specs.Complete.{IsComplete};
@@ -26,7 +26,8 @@ fn work<'a, F: Files, S: Sink>(
     files: &mut F,
     out: &mut S,
 ) -> Result<(), CommandError<'a, Refusal>>
-    ensures { ComesOf (command_of (map string_bytes words.now)) (F.held files.old) (F.held files.new) (F.history files.old) (F.history files.new) (S.state out.old) (S.state out.new) result }
+    ensures came { ComesOf (command_of (map string_bytes words.now)) (F.held files.old) (F.held files.new) (F.history files.old) (F.history files.new) (S.state out.old) (S.state out.new) result }
+    ensures held { F.held files.new ≡ F.held files.old }
 {
     match Command::parse(words) {
         None => Err(CommandError::Usage),
@@ -61,7 +62,7 @@ pub(crate) fn call<F: Files, S: Sink, E: Sink>(
     ensures complete { IsComplete (map string_bytes words.now) (ends (F.history files.old) (F.history files.new) (S.state out.old) (S.state out.new) (E.state err.old) (E.state err.new) result) }
     ensures accepts { VerifyAccepts (map string_bytes words.now) (looks_since (F.history files.old) (F.history files.new)) result }
     ensures agrees { IfSome (F.held files.old) (λ m. ShowAll m (looks_since (F.history files.old) (F.history files.new))) }
-    ensures held { HeldAfter (writes_since (F.history files.old) (F.history files.new)) (F.held files.old) (F.held files.new) }
+    ensures held { F.held files.new ≡ F.held files.old }
 {
     let outcome = work(alloc, words, files, out);
     finish(&program(), &outcome, err)

@@ -1,8 +1,8 @@
 //! The commands of the program `muen_dma`, on devices that reach memory by themselves.
 #![tactic(auto)]
 
-ghost use Rattle.std.specs.Prelude.{IfSome, map, string_bytes};
-ghost use Rattle.muen_outside.specs.Looks.{HeldAfter, ShowAll, looks_since, writes_since};
+ghost use Rattle.std.specs.Prelude.{◌≡◌, IfSome, map, string_bytes};
+ghost use Rattle.muen_outside.specs.Looks.{ShowAll, looks_since};
 ghost use Rattle.command_shell.specs.Calls.{ends};
 ghost use Rattle.dma_top.specs.Accepting.{VerifyAccepts};
 ghost use Rattle.dma_top.specs.Calls.{IsCall};
@@ -16,11 +16,13 @@ mod policies;
 mod reading;
 mod refusal;
 mod status;
+mod twice;
 mod verify;
 
 use muen_outside::{Files, Sink};
 pub use status::{DmaStatus, Status};
 use std::alloc::Global;
+pub use twice::muen_dma_twice;
 
 /// Does what the words after the program's name ask for, and answers the status.
 ///
@@ -29,8 +31,9 @@ use std::alloc::Global;
 /// `out` where they lead each source of requests where the policy and the image declare it, and nowhere else. `lines
 /// IMAGE RECORD DMA` reads an image, a file of tables and a device record for the image, and puts what each line `dma`
 /// of the record did: where it wrote, or why it was dropped. `map POLICY` reads a policy and puts where its devices
-/// reach memory by themselves; it looks at no component file. On every status but 0 one line that begins with
-/// `muen_dma: ` is put to `err`; a fault of `err` changes no status.
+/// reach memory by themselves, `flows POLICY` on whom each subject can depend, through devices too; neither looks at a
+/// component file. On every status but 0 one line that begins with `muen_dma: ` is put to `err`; a fault of `err`
+/// changes no status.
 ///
 /// | Status | Comes | Line |
 /// |---|---|---|
@@ -52,8 +55,8 @@ pub fn muen_dma<F: Files, S: Sink, E: Sink>(
     out: &mut S,
     err: &mut E,
 ) -> Status
-    // Exactly the looks of the command, at most one at each file that the words name, and exactly what is answered to what
-    // they gave: a text, or the reason why not; each failed call, and refused memory, with its status.
+    // Exactly the looks of the command, one at each of its files, and exactly what is answered to what they gave: a text,
+    // or the reason why not; each failed call, and refused memory, with its status.
     ensures call { IsCall (map string_bytes words.now) (F.held files.old) (ends (F.history files.old) (F.history files.new) (S.state out.old) (S.state out.new) (E.state err.old) (E.state err.new) result) }
     // Where no look and no put fails, and memory suffices, it does the whole of what the words are answered over each
     // store that agrees with the looks, and nothing else: so 4 and 7 come of a failure alone.
@@ -62,7 +65,7 @@ pub fn muen_dma<F: Files, S: Sink, E: Sink>(
     ensures accepts { VerifyAccepts (map string_bytes words.now) (looks_since (F.history files.old) (F.history files.new)) result }
     // What files tell of what they hold agrees with these looks, and stays.
     ensures agrees { IfSome (F.held files.old) (λ m. ShowAll m (looks_since (F.history files.old) (F.history files.new))) }
-    ensures held { HeldAfter (writes_since (F.history files.old) (F.history files.new)) (F.held files.old) (F.held files.new) }
+    ensures held { F.held files.new ≡ F.held files.old }
 {
     call::call(alloc, words, files, out, err)
 }

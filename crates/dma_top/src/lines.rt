@@ -78,7 +78,8 @@ pub(crate) fn lines<'a, F: Files, S: Sink>(
     files: &mut F,
     out: &mut S,
 ) -> Result<(), CommandError<'a, Refusal>>
-    ensures { ComesTo devices (lines_plan image.now inputs.now tables.now) (F.held files.old) (F.held files.new) (F.history files.old) (F.history files.new) (S.state out.old) (S.state out.new) result }
+    ensures came { ComesTo devices (lines_plan image.now inputs.now tables.now) (F.held files.old) (F.held files.new) (F.history files.old) (F.history files.new) (S.state out.old) (S.state out.new) result }
+    ensures held { F.held files.new ≡ F.held files.old }
 {
     match read_recorded(alloc, image, inputs, tables, files) {
         Ok(recorded) => put_lines(alloc, &recorded, out),

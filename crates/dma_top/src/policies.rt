@@ -63,7 +63,8 @@ pub(crate) fn map<'a, F: Files, S: Sink>(
     files: &mut F,
     out: &mut S,
 ) -> Result<(), CommandError<'a, Refusal>>
-    ensures { ComesTo devices (windows_plan policy.now) (F.held files.old) (F.held files.new) (F.history files.old) (F.history files.new) (S.state out.old) (S.state out.new) result }
+    ensures came { ComesTo devices (windows_plan policy.now) (F.held files.old) (F.held files.new) (F.history files.old) (F.history files.new) (S.state out.old) (S.state out.new) result }
+    ensures held { F.held files.new ≡ F.held files.old }
 {
     match read_placed(alloc, policy, files) {
         Ok(placed) => put_map(alloc, &placed, out),
@@ -97,7 +98,8 @@ pub(crate) fn flows<'a, F: Files, S: Sink>(
     files: &mut F,
     out: &mut S,
 ) -> Result<(), CommandError<'a, Refusal>>
-    ensures { ComesTo devices (flows_plan policy.now) (F.held files.old) (F.held files.new) (F.history files.old) (F.history files.new) (S.state out.old) (S.state out.new) result }
+    ensures came { ComesTo devices (flows_plan policy.now) (F.held files.old) (F.held files.new) (F.history files.old) (F.history files.new) (S.state out.old) (S.state out.new) result }
+    ensures held { F.held files.new ≡ F.held files.old }
 {
     match read_policy(alloc, policy, files) {
         Ok(policy) => put_flows(alloc, &policy, out),

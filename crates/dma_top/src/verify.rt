@@ -104,7 +104,8 @@ pub(crate) fn verify<'a, F: Files, S: Sink>(
     files: &mut F,
     out: &mut S,
 ) -> Result<(), CommandError<'a, Refusal>>
-    ensures { ComesSo (IsVerify image.now policy.now tables.now (F.held files.old)) (F.held files.old) (F.held files.new) (F.history files.old) (F.history files.new) (S.state out.old) (S.state out.new) result }
+    ensures came { ComesSo (IsVerify image.now policy.now tables.now (F.held files.old)) (F.held files.old) (F.held files.new) (F.history files.old) (F.history files.new) (S.state out.old) (S.state out.new) result }
+    ensures held { F.held files.new ≡ F.held files.old }
 {
     let read = match read_to_judge(alloc, image, policy, files) {
         Ok(read) => read,

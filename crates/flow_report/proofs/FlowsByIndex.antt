@@ -14,7 +14,7 @@ use Rattle.policy_flows.specs.Flows.{closure_of, flows_to}
 use Rattle.muen_num.proofs.Members.{In, all_from, map_agree}
 use Rattle.flow_report.specs.ByIndex.{all_contacts_of, contacts_of, flows_between, rows_of}
 use Rattle.flow_report.specs.Marks.{after_rounds, alone_marked, sets_after}
-use Rattle.flow_report.specs.Sets.{AreFlows, HaveMarksOf, members_of}
+use Rattle.flow_report.specs.Sets.{AreFlows, HaveMarksOf, direct_flows_of, members_of}
 use Rattle.flow_report.specs.declared.contacts.Contacts.{Contacts}
 use Rattle.flow_report.proofs.DirectFlows.{flows_same, names_unique}
 use Rattle.flow_report.proofs.MarkedSets.{marks_many, members_are}
@@ -52,7 +52,7 @@ module _ (r : Resolution) (q : IsResolved r) where
   contacts_flow : (a b : ℕ × Subject) → In a numbered → In b numbered → flows_between (contacts_of r a) (contacts_of r b) ≡ flows_to (source_of r) (named a) (named b)
   contacts_flow (i, u) (j, s) h k = sym (flows_same r q i j u s (at_its_number (i, u) h) (at_its_number (j, s) k))
 
-  rows_same : rows_of (all_contacts_of r) ≡ map (λ u. map (flows_to (source_of r) u) (source_of r).subjects) (source_of r).subjects
+  pub rows_same : rows_of (all_contacts_of r) ≡ direct_flows_of (source_of r)
   rows_same =
       table_of flows_between (contacts_of r) numbered
       ∙ map_agree (λ a. map (λ b. flows_between (contacts_of r a) (contacts_of r b)) numbered) (λ a. map (λ b. flows_to (source_of r) (named a) (named b)) numbered) numbered

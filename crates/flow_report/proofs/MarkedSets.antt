@@ -25,7 +25,7 @@ map_zip h f g [] = refl
 map_zip h f g (x ∷ xs) = ap (λ ys. h (f x, g x) ∷ ys) (map_zip h f g xs)
 
 -- a round on the marks of a test
-round_by : {X : Type 0} (test : X → Bool) (flows : X → X → Bool) (xs : List X) → round (map (λ u. map (flows u) xs) xs) (map test xs) ≡ map (λ u. test u || list_any (λ s. test s && flows u s) xs) xs
+pub round_by : {X : Type 0} (test : X → Bool) (flows : X → X → Bool) (xs : List X) → round (map (λ u. map (flows u) xs) xs) (map test xs) ≡ map (λ u. test u || list_any (λ s. test s && flows u s) xs) xs
 round_by test flows xs =
     map_zip (λ x. x.0 || have_common_mark (map test xs) x.1) test (λ u. map (flows u) xs) xs
     ∙ map_agree (λ u. test u || have_common_mark (map test xs) (map (flows u) xs)) (λ u. test u || list_any (λ s. test s && flows u s) xs) xs (λ u _. ap (λ b. test u || b) (touches_by test (flows u) xs))

@@ -20,7 +20,7 @@ use Rattle.flow_report.proofs.IndexesOfSubjects.{at_number}
 abbrev spaced : List (List ℕ) → List ℕ
 spaced names = flat_map (λ m. codes " " ++ m) names
 
-marked_none : {X : Type 0} (bs : List Bool) → marked_elements {X = X} bs [] ≡ []
+pub marked_none : {X : Type 0} (bs : List Bool) → marked_elements {X = X} bs [] ≡ []
 unfolding marked_elements
 marked_none [] = refl
 marked_none (b ∷ bs) = refl
@@ -66,21 +66,26 @@ line_is : (name : List ℕ) (members : List (List ℕ)) → line_start name ++ s
 unfolding line_start line_end
 line_is name members = refl
 
-module _ (r : Resolution) (sets : List (List Bool)) (flows : AreFlows (source_of r) sets) where
-  line_same : (x : ℕ × Subject) → slice_get r.subjects x.0 ≡ Some x.1 → flow_line_at r.subjects sets x ≡ flow_line x.1.name (closure_of (source_of r) x.1.name)
+-- sets that have these members, by the name of their subject
+module _ (r : Resolution) (sets : List (List Bool)) (members : List ℕ → List (List ℕ)) (are : map (members_of (source_of r)) sets ≡ map (λ s. members s.name) (source_of r).subjects) where
+  line_same : (x : ℕ × Subject) → slice_get r.subjects x.0 ≡ Some x.1 → flow_line_at r.subjects sets x ≡ flow_line x.1.name (members x.1.name)
   unfolding source_of
   line_same (k, s) at =
       let here : slice_get (source_of r).subjects k ≡ Some (subject_named r s) = slice_get-map (subject_named r) r.subjects k ∙ ap (option_map (subject_named r)) at in
-      let members : members_of (source_of r) (slice_index_or sets k []) ≡ closure_of (source_of r) s.name =
-      same_image (members_of (source_of r)) (λ (t : NamedSubject). closure_of (source_of r) t.name) sets (source_of r).subjects k (subject_named r s) [] flows here in
+      let same : members_of (source_of r) (slice_index_or sets k []) ≡ members s.name =
+      same_image (members_of (source_of r)) (λ (t : NamedSubject). members t.name) sets (source_of r).subjects k (subject_named r s) [] are here in
       line_is s.name (marked_elements (slice_index_or sets k []) (subject_names r))
       ∙ ap (λ names. flow_line s.name (marked_elements (slice_index_or sets k []) names)) (sym (names_of_subjects r))
-      ∙ ap (flow_line s.name) members
+      ∙ ap (flow_line s.name) same
 
-  pub text_same : lines_text r.subjects sets ≡ flow_text_of (source_of r)
-  unfolding flow_text_of source_of
-  text_same =
-      let line : NamedSubject → List ℕ = λ s. flow_line s.name (closure_of (source_of r) s.name) in
+  pub lines_same : lines_text r.subjects sets ≡ flat_map (λ s. flow_line s.name (members s.name)) (source_of r).subjects
+  unfolding source_of
+  lines_same =
+      let line : NamedSubject → List ℕ = λ s. flow_line s.name (members s.name) in
       flat_agree (flow_line_at r.subjects sets) (λ x. line (subject_named r x.1)) (enumerate_from 0 r.subjects) (λ x i. line_same x (at_number r.subjects x i))
       ∙ sym (flat_numbered (λ s. line (subject_named r s)) 0 r.subjects)
       ∙ sym (flat_map-map line (subject_named r) r.subjects)
+
+pub text_same : (r : Resolution) (sets : List (List Bool)) → AreFlows (source_of r) sets → lines_text r.subjects sets ≡ flow_text_of (source_of r)
+unfolding flow_text_of
+text_same r sets flows = lines_same r sets (closure_of (source_of r)) flows

@@ -2,7 +2,7 @@
 use Rattle.std.specs.Prelude.{◌≡◌, ℕ, Bool, true, false, List, [], ◌∷◌, length, map}
 use Rattle.std.specs.List.{All, AllZip}
 use Rattle.policy_lawful.specs.source.Source.{Source}
-use Rattle.policy_flows.specs.Flows.{IsLeastClosed, closure_of}
+use Rattle.policy_flows.specs.Flows.{IsLeastClosed, closure_of, flows_to}
 use Rattle.proof_isolation.specs.TwoSystems.{DependOnMembersAlone}
 
 -- those elements whose index is marked
@@ -15,6 +15,10 @@ marked_elements (false ∷ bs) (x ∷ xs) = marked_elements bs xs
 -- the subjects, by name, of a set of indexes
 abbrev pub members_of : Source → List Bool → List (List ℕ)
 members_of p set = marked_elements set (map (λ s. s.name) p.subjects)
+
+-- for each subject the subjects to which it flows directly
+abbrev pub direct_flows_of : Source → List (List Bool)
+direct_flows_of p = map (λ u. map (flows_to p u) p.subjects) p.subjects
 
 -- for each subject the closed set
 abbrev pub AreFlows : Source → List (List Bool) → Type 0

@@ -5,5 +5,5 @@ mod contacts;
 mod sets;
 mod text;
 
-pub use sets::{FlowSets, flows};
-pub use text::flow_text;
+pub use sets::{FlowSets, direct_flows, flows, marks_after};
+pub use text::{flow_text, marks_at, put_lines};

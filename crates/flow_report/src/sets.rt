@@ -3,7 +3,7 @@ ghost use Rattle.std.specs.Prelude.{◌≡◌, map, IfOk};
 ghost use Rattle.policy_lawful.specs.Resolution.{source_of};
 ghost use Rattle.flow_report.specs.ByIndex.{flows_between, rows_of};
 ghost use Rattle.flow_report.specs.Marks.{after_rounds, alone_marked, round, sets_after, have_common_mark};
-ghost use Rattle.flow_report.specs.Sets.{AreApart, AreFlows, AreLeastClosed, HaveMarksOf};
+ghost use Rattle.flow_report.specs.Sets.{AreApart, AreFlows, AreLeastClosed, HaveMarksOf, direct_flows_of};
 
 use crate::contacts::{Contacts, all_contacts, flows_between};
 use muen_num::{NoMemory, Seq};
@@ -27,8 +27,15 @@ impl Model for FlowSets {
 }
 
 impl FlowSets {
+    /// The sets of these marks.
+    pub fn of(sets: Seq<Seq<bool>>) -> FlowSets
+        ensures { result ≡ sets }
+    {
+        FlowSets { sets }
+    }
+
     /// The sets of marks.
-    pub(crate) fn sets(&self) -> &[Seq<bool>]
+    pub fn sets(&self) -> &[Seq<bool>]
         ensures { result.now ≡ self.now }
     {
         self.sets.items()
@@ -87,18 +94,19 @@ fn alone_marked(
         .collect(alloc)
 }
 
-// The set of those that reach the subject at an index over so many flows at most.
+/// The marks after so many rounds: those of the start, and in each round those whose rows touch them.
+///
+/// Answers `NoMemory` where memory was refused.
 #[tactic(auto, using(crate::proofs::Rounds::by_rounds))]
-fn set_after(
+pub fn marks_after(
     alloc: Global,
-    all_contacts: &[Contacts],
     rows: &[Seq<bool>],
-    index: usize,
+    start: Vec<bool>,
     rounds: usize,
 ) -> Result<Vec<bool>, NoMemory>
-    ensures { IfOk result (λ v. v.items ≡ after_rounds rows.now (alone_marked all_contacts.now index) rounds) }
+    ensures { IfOk result (λ v. v.items ≡ after_rounds rows.now start.items rounds) }
 {
-    let mut marks = alone_marked(alloc, all_contacts, index)?;
+    let mut marks = start;
     for _ in 0..rounds {
         marks = round(alloc, rows, &marks)?;
     }
@@ -116,10 +124,21 @@ fn sets_after(
     let rows = rows(alloc, all_contacts)?;
     let mut sets = Seq::new(alloc);
     for contacts in all_contacts {
-        let set = set_after(alloc, all_contacts, &rows, contacts.index, rounds)?;
-        sets.push(Seq::of(set))?;
+        let alone = alone_marked(alloc, all_contacts, contacts.index)?;
+        sets.push(Seq::of(marks_after(alloc, &rows, alone, rounds)?))?;
     }
     Ok(sets)
+}
+
+/// For each subject, by index, the marks of those to which it flows directly.
+///
+/// Answers `NoMemory` where memory was refused.
+pub fn direct_flows(alloc: Global, policy: &Lawful) -> Result<Vec<Seq<bool>>, NoMemory>
+    ensures { IfOk result (λ v. v.items ≡ direct_flows_of (source_of policy.now)) }
+{
+    let all_contacts = all_contacts(alloc, policy.resolved())?;
+    let rows = rows(alloc, &all_contacts)?;
+    Ok(rows)
 }
 
 /// For each subject all that can reach it: itself, and the direct sources of those that do, by

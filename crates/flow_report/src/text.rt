@@ -24,8 +24,8 @@ fn is_marked(set: &[bool], index: usize) -> bool
     }
 }
 
-// The marks at an index; none where there is no such index.
-fn marks_at(sets: &[Seq<bool>], index: usize) -> &[bool]
+/// The marks at an index; none where there is no such index.
+pub fn marks_at(sets: &[Seq<bool>], index: usize) -> &[bool]
     ensures { result.now ≡ slice_index_or sets.now index [] }
 {
     match sets.get(index) {
@@ -132,8 +132,9 @@ fn put_line<S: Sink>(
     put_end(out)
 }
 
+/// Puts a line for each subject, `flow SUBJECT from S1 S2 ..`, with the subjects that its marks tell.
 #[tactic(auto, using(crate::proofs::NumberedTexts::numbered))]
-fn put_lines<S: Sink>(
+pub fn put_lines<S: Sink>(
     subjects: &[Subject],
     sets: &[Seq<bool>],
     out: &mut BufferedSink<'_, S>,

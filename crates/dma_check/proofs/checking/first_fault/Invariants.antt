@@ -1,5 +1,6 @@
 use Rattle.std.proofs.Common.{◌≡◌, ◌*◌, ◌^◌, None}
 use Rattle.std.specs.Prelude.{vec_len}
+use Rattle.dma_check.specs.Again.{AreEarlier}
 use Rattle.dma_check.specs.Faults.{fault_at}
 use Rattle.dma_check.specs.Marked.{Marked, seen_in}
 use Rattle.dma_check.specs.Verdict.{OverImages}
@@ -16,5 +17,6 @@ invariant-loop-source l =
     record {
       none : OverImages l.spans (λ i. first_from (fault_at (view_of (source_of l.policy) i l.file)) 0 (2 ^ 48 * l.source) ≡ None);
       long : vec_len l.ways ≡ page_count_of l.file;
+      earlier : AreEarlier l.file l.source l.earlier.items;
       known : OverImages l.spans (λ i. Marked (view_of (source_of l.policy) i l.file) (seen_in (root_page l.file) l.ways.items) (6 * (2 ^ 48 * l.source)));
     }

@@ -7,10 +7,10 @@ use Rattle.dma_top.specs.Answers.{flows_plan}
 use Rattle.dma_top.specs.Refusals.{devices}
 use Rattle.dma_top.proofs.policies.flows.Goals as goal
 
-pub returns-in-Ok : goal.returns-in-Ok
-returns-in-Ok g c =
+pub returns-in-Ok-clause-came : goal.returns-in-Ok-clause-came
+returns-in-Ok-clause-came g c =
     printed devices (flows_plan c.args.policy.now) _ _ _ _ c.read_policy.ensures.held _ _ (device_flow_text_of (source_of c.in-Ok.policy)) (c.in-Ok.ensures.ok (λ p. answers (prints (device_flow_text_of p)))) _ c.put_flows.ensures
 
-pub returns-in-Err : goal.returns-in-Err
-returns-in-Err g c =
+pub returns-in-Err-clause-came : goal.returns-in-Err-clause-came
+returns-in-Err-clause-came g c =
     stopped devices (flows_plan c.args.policy.now) _ _ _ _ c.read_policy.ensures.held _ _ refl c.in-Err.error (c.in-Err.ensures.err (λ p. answers (prints (device_flow_text_of p))))
