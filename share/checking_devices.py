@@ -71,9 +71,8 @@ VERDICTS = (
 
 # what is changed, the lines `dma` of a record behind their ticks, and what is told of each
 LINES = (
-    ("nothing", lambda t: None, ("nic 4104 0700", "nic 8191 0707", "nic 281474976710656 07", "nic 8190 0707"),
-     ("0000000000001008 2 0000000000107008 2 buf", "0000000000001fff 2 dropped at 0000000000002000: not present", "0001000000000000 1 dropped at 0001000000000000: too high",
-      "0000000000001ffe 2 0000000000107ffe 2 buf")),
+    ("nothing", lambda t: None, ("nic 4104 0700", "nic 8191 0707", "nic 8190 0707"),
+     ("0000000000001008 2 0000000000107008 2 buf", "0000000000001fff 2 dropped at 0000000000002000: not present", "0000000000001ffe 2 0000000000107ffe 2 buf")),
     ("two pages", lambda t: t.put(LOWEST, 2, BUF | 3), ("nic 8191 0707",), ("0000000000001fff 2 0000000000107fff 1 buf 0000000000107000 1 buf",)),
     ("the right to read alone", lambda t: t.put(LOWEST, 1, BUF | 1), ("nic 4096 07",), ("0000000000001000 1 dropped at 0000000000001000: no right",)),
     ("a bit that isn't defined", lambda t: t.put(LOWEST, 1, BUF | 3 | 1 << 7), ("nic 4096 07",), ("0000000000001000 1 dropped at 0000000000001000: bad entry",)),
@@ -93,7 +92,7 @@ class Devices(Case):
         cls.holder = tempfile.TemporaryDirectory()
         cls.addClassCleanup(cls.holder.cleanup)
         cls.folder = pathlib.Path(cls.holder.name)
-        for name in ("device_domains", "packet_ring"):
+        for name in ("device_domains", "descriptor_ring"):
             done = call([PROGRAM, "build", EXAMPLES / f"{name}.json", cls.folder / f"{name}.image", cls.folder / f"{name}.dma"])
             want((done.returncode, done.stderr), (0, b""), f"build of {name}")
         cls.image, cls.dma = cls.folder / "device_domains.image", cls.folder / "device_domains.dma"
@@ -140,15 +139,25 @@ class Devices(Case):
 
     def test_other_policy(self):
         """Of another policy the list tells the first device, before any table is walked; its own are sound."""
-        ring, dma = self.folder / "packet_ring.image", self.folder / "packet_ring.dma"
-        self.told(["verify", ring, EXAMPLES / "packet_ring.json", dma], 0, "sound\n")
-        done = call([DEVICES_PROGRAM, "verify", self.image, POLICY, dma])
-        self.want((done.returncode, done.stderr.decode().split(" ")[:4]), (9, ["muen_dma:", "not", "sound:", "device"]), "another policy's tables")
+        ring, dma = self.folder / "descriptor_ring.image", self.folder / "descriptor_ring.dma"
+        self.told(["verify", ring, EXAMPLES / "descriptor_ring.json", dma], 0, "sound\n")
+        self.told(["verify", self.image, POLICY, dma], 9, "", "not sound: device card")
+        self.told(["verify", ring, EXAMPLES / "descriptor_ring.json", self.dma], 9, "", "not sound: device nic")
 
     def test_map(self):
         """The windows of the example, and of a policy without domains."""
         self.told(["map", POLICY], 0, (TOP / "crates" / "muen_dma" / "stdout").read_text(encoding="ascii"))
         self.told(["map", EXAMPLES / "one_subject.json"], 0, "")
+
+    def test_flows(self):
+        """Of each example the sets hold those of muen flows, and are the same where there is no device."""
+        for policy in sorted(EXAMPLES.glob("*.json")):
+            with self.subTest(policy.name):
+                declared, through = (call([program, "flows", policy]).stdout.decode().splitlines() for program in (PROGRAM, DEVICES_PROGRAM))
+                if not json.loads(policy.read_text(encoding="utf-8")).get("devices"):
+                    want(through, declared, "flows without devices")
+                want([set(line.split(" ")) <= set(more.split(" ")) and line.split(" ")[:3] == more.split(" ")[:3] for line, more in zip(declared, through, strict=True)],
+                     [True] * len(declared), "sets that hold the declared ones")
 
     def test_statuses(self):
         """Each status, with its line."""
@@ -159,7 +168,7 @@ class Devices(Case):
         self.told(["map", "."], 4, "", "file fault")
         self.told(["verify", POLICY, POLICY, self.dma], 5, "", "image refused at 0: magic")
         self.told(["lines", self.image, POLICY, self.dma], 6, "", "record refused at line 1: word")
-        self.told(["verify", self.folder / "packet_ring.image", POLICY, "nothing"], 9, "", call([PROGRAM, "verify", self.folder / "packet_ring.image", POLICY]).stderr.decode()[6:-1])
+        self.told(["verify", self.folder / "descriptor_ring.image", POLICY, "nothing"], 9, "", call([PROGRAM, "verify", self.folder / "descriptor_ring.image", POLICY]).stderr.decode()[6:-1])
         self.told(["verify", self.image, POLICY, POLICY], 10, "", "dma refused at 0: magic")
         self.told(["verify", self.image, POLICY, "nothing"], 3, "", "missing file nothing")
         done = call(["bash", "-c", '"$0" map "$1" > /dev/full', DEVICES_PROGRAM, POLICY])
