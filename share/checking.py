@@ -14,11 +14,13 @@ TOP = pathlib.Path(__file__).resolve().parent.parent
 EXAMPLES = TOP / "examples"
 PROGRAM = TOP / "crates" / "muen" / "out" / "muen"
 ASSEMBLER_PROGRAM = TOP / "crates" / "muen_asm" / "out" / "muen_asm"
+DEVICES_PROGRAM = TOP / "crates" / "muen_dma" / "out" / "muen_dma"
 LOOK = TOP / "share" / "look"
 
 # what a test or a class of them may need, and the reason that is told where it isn't there
 with_program = unittest.skipUnless(PROGRAM.is_file(), "crates/muen/out/muen isn't there")
 with_assembler = unittest.skipUnless(ASSEMBLER_PROGRAM.is_file(), "crates/muen_asm/out/muen_asm isn't there")
+with_devices = unittest.skipUnless(DEVICES_PROGRAM.is_file(), "crates/muen_dma/out/muen_dma isn't there")
 NO_DOT = "graphviz's dot isn't there"
 
 

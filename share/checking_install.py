@@ -8,7 +8,7 @@ import tempfile
 import unittest
 
 import installing
-from checking import EXAMPLES, TOP, Case, call, want, with_assembler, with_program
+from checking import EXAMPLES, TOP, Case, call, want, with_assembler, with_devices, with_program
 
 SHARE = TOP / "share"
 # what a shell in a clean root has
@@ -23,6 +23,7 @@ def missing(*tools):
 
 @with_program
 @with_assembler
+@with_devices
 class Install(Case):
     """share/install, once for all tests."""
 
@@ -41,7 +42,7 @@ class Install(Case):
     def test_runs(self):
         """What is installed runs as in the clone, and says that it is."""
         self.want(sorted(file.name for file in (self.prefix / "bin").iterdir()), sorted(NAMES), "the tools")
-        for name, words in (("muen", ["map", "one_subject.json"]), ("muen_asm", ["hex", "one_subject/code.asm"]), ("muen-look", ["names", "gateway.json", "black"])):
+        for name, words in (("muen", ["map", "one_subject.json"]), ("muen_asm", ["hex", "one_subject/code.asm"]), ("muen_dma", ["map", "device_domains.json"]), ("muen-look", ["names", "gateway.json", "black"])):
             here = call([SHARE / name.removeprefix("muen-"), *words])
             done = self.installed(name, *words)
             self.want((done.returncode, done.stdout.replace(b"muen-look", b"share/look"), done.stderr), (0, here.stdout, b""), f"{name} {words}")
@@ -73,7 +74,7 @@ class Install(Case):
     def test_bash(self):
         """Completions for bash: commands, forms, and the options of a form."""
         file = self.prefix / "share/bash-completion/completions/muen-look"
-        for line, wanted in (("muen ver", "verify"), ("muen_asm li", "lines"), ("muen-look cov", "coverage"), ("muen-look trace --f", "--from"), ("muen-try --w", "--watch")):
+        for line, wanted in (("muen ver", "verify"), ("muen_asm li", "lines"), ("muen_dma li", "lines"), ("muen-look cov", "coverage"), ("muen-look trace --f", "--from"), ("muen-try --w", "--watch")):
             name, *words = line.split()
             script = f'. {file}; COMP_WORDS=({line}); COMP_CWORD={len(words)}; _muen {name}; echo "${{COMPREPLY[@]}}"'
             self.want(call(["bash", "-c", script], self.prefix / "bin").stdout.decode().split(), [wanted], line)
@@ -92,6 +93,7 @@ class Install(Case):
 
 @with_program
 @with_assembler
+@with_devices
 @unittest.skipIf(missing("dpkg", "dpkg-deb", "strip"), "dpkg-deb and strip aren't there")
 class Package(Case):
     """share/package."""

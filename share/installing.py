@@ -12,12 +12,12 @@ import running
 from looking.main import FORMS
 
 HERE = pathlib.Path(__file__).resolve().parent
-PROGRAMS = ("muen", "muen_asm")
+PROGRAMS = ("muen", "muen_asm", "muen_dma")
 TOOLS = ("answer", "look", "new", "try")
 # the files and folders of share/ that they need
 NEEDED = (*PROGRAMS, *TOOLS, "running.py", "trying.py", "answering.py", "looking", "template", "policy.schema.json")
 # of a tool in a clone its name where it is installed
-NAMED = re.compile(r"share/(muen_asm|muen|answer|look|new|try)\b(?![./])")
+NAMED = re.compile(r"share/(muen_asm|muen_dma|muen|answer|look|new|try)\b(?![./])")
 COMMAND = re.compile(r"(?m)^    ([a-z]+) [\[A-Z]")
 OPTION = re.compile(r"(?<![\w-])--[a-z][a-z-]*")
 # a line that stands as it is: an indented one, of more words than those of a paragraph
