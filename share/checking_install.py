@@ -75,7 +75,7 @@ class Install(Case):
     def test_bash(self):
         """Completions for bash: commands, forms, and the options of a form."""
         file = self.prefix / "share/bash-completion/completions/muen-look"
-        for line, wanted in (("muen ver", "verify"), ("muen_asm li", "lines"), ("muen-look cov", "coverage"), ("muen-look trace --f", "--from"), ("muen-try --w", "--watch")):
+        for line, wanted in (("muen ver", "verify"), ("muen_asm li", "lines"), ("muen_dma li", "lines"), ("muen-look cov", "coverage"), ("muen-look trace --f", "--from"), ("muen-try --w", "--watch")):
             name, *words = line.split()
             script = f'. {file}; COMP_WORDS=({line}); COMP_CWORD={len(words)}; _muen {name}; echo "${{COMPREPLY[@]}}"'
             self.want(call(["bash", "-c", script], self.prefix / "bin").stdout.decode().split(), [wanted], line)
