@@ -1,153 +1,258 @@
-"""The checks of the program muen_dma: the verdict on tables of devices, what lines of records did, and where devices reach memory."""
+"""The checks of muen_dma: verdicts on tables, each with what a search in Python finds; what is told of each line of a record; windows; statuses."""
 import json
 import pathlib
+import random
 import struct
-import tempfile
 
-from checking import DEVICES_PROGRAM, EXAMPLES, PROGRAM, TOP, Case, call, each, want, with_devices, with_program
+from calling import Calls
+from checking import DEVICES_PROGRAM, EXAMPLES, PROGRAM, call, each, want, with_devices, with_program
+from looking.dma_file import read_dma
+from looking.document import document_in_shape
+from looking.image_file import read_image
+from looking.policy import Policy
+from looking.tables_verdict import verdict
 
-POLICY = EXAMPLES / "device_domains.json"
-# docs/dma.md has these six pages, byte by byte: root, context, and four levels; buf lies at 0x107000
-PAGE = 4096
-ROOT, CONTEXT, HIGHEST, SECOND, THIRD, LOWEST = range(6)
-BUF = 0x107000
-NIC = 3 * 8
-FRONT = 24
 USAGE = "usage: verify IMAGE POLICY DMA, lines IMAGE RECORD DMA, map POLICY, flows POLICY"
+NIC, RING = "device_domains", "descriptor_ring"
+WINDOWS = {NIC: "window nic 0000000000001000 0000000000107000 0000000000001000 rw buf\n",
+           RING: "window card 0000000000001000 0000000000107000 0000000000001000 rw ring\n"}
+# the seeds of random systems; a verdict that all is sound takes a second or more
+RANDOM = range(3)
+# where the pages begin in the file of tables of one device
+PAGES = 24 + 68
+# words of the tables of device_domains (docs/dma.md, "An example") by page and place, and the verdict: a leaf elsewhere, in the code and behind
+# all memory; one without the right to write, and one that isn't there; one more; a context entry of a function, and a root entry of a bus,
+# that no device has; a page used twice, which its bus's root entry, a level's entry and another function share; an entry to its own table;
+# and tables that aren't in the file
+SPOILED = [
+    ([(5, 8, 0x106003)], "leak 00:03.0 0000000000001000"),
+    ([(5, 8, 0x40000003)], "outside 00:03.0 0000000000001000"),
+    ([(5, 8, 0x107001)], "lacks 00:03.0 0000000000001000"),
+    ([(5, 8, 0x107002)], "lacks 00:03.0 0000000000001000"),
+    ([(5, 8, 0)], "lacks 00:03.0 0000000000001000"),
+    ([(5, 8, 0x107007)], "lacks 00:03.0 0000000000001000"),
+    ([(5, 16, 0x106001)], "leak 00:03.0 0000000000002000"),
+    ([(5, 16, 0x107002)], "leak 00:03.0 0000000000002000"),
+    ([(5, 4088, 0x40000001)], "outside 00:03.0 00000000001ff000"),
+    ([(1, 16 * 25, 0x2001), (1, 16 * 25 + 8, 0x102)], "leak 00:03.1 0000000000001000"),
+    ([(1, 16 * 2, 0x2001), (1, 16 * 2 + 8, 0x102)], "leak 00:00.2 0000000000001000"),
+    ([(1, 16 * 25, 0x3001), (1, 16 * 25 + 8, 0x202)], "twice 00:03.1 0000000000000000"),
+    ([(0, 16 * 7, 0x1001)], "twice 07:00.0 0000000000000000"),
+    ([(0, 0, 0x1)], "twice 00:00.0 0000000000000000"),
+    ([(0, 16 * 255, 0x9001)], "outside ff:00.0 0000000000000000"),
+    ([(2, 8, 0x3003)], "twice 00:03.0 0000008000000000"),
+    ([(2, 8, 0x2003)], "twice 00:03.0 0000008000000000"),
+    ([(4, 8, 0x5001)], "twice 00:03.0 0000000000200000"),
+    ([(4, 8, 0x6001)], "outside 00:03.0 0000000000200000"),
+    ([(1, 16 * 24, 0x2003)], "lacks 00:03.0 0000000000001000"),
+    ([(0, 0, 0)], "lacks 00:03.0 0000000000001000"),
+    ([(1, 16 * 24 + 8, 0x502)], None),
+    ([(4, 8, 0x5004)], None),
+]
+# a record's lines, words of the tables that are changed, and what is told
+LINES = [
+    ("0 nic 4104 0700", [], "0 nic 0000000000001008 2 0000000000107008 2 buf"),
+    ("0 nic 4096 " + 64 * "07", [], "0 nic 0000000000001000 64 0000000000107000 64 buf"),
+    ("0 nic 8191 0707", [(5, 16, 0x106003)], "0 nic 0000000000001fff 2 0000000000107fff 1 buf 0000000000106000 1 code"),
+    ("0 nic 8191 0707", [], "0 nic 0000000000001fff 2 dropped at 0000000000002000: not present"),
+    ("0 nic 4095 0707", [], "0 nic 0000000000000fff 2 dropped at 0000000000000fff: not present"),
+    ("0 nic 8191 0707", [(5, 16, 0x106001)], "0 nic 0000000000001fff 2 dropped at 0000000000002000: no right"),
+    ("0 nic 8191 0707", [(5, 16, 0x40000003)], "0 nic 0000000000001fff 2 dropped at 0000000000002000: outside"),
+    ("0 nic 4104 07", [(5, 8, 0x107007)], "0 nic 0000000000001008 1 dropped at 0000000000001008: bad entry"),
+    ("0 nic 4104 07", [(0, 0, 0x1003)], "0 nic 0000000000001008 1 dropped at 0000000000001008: bad entry"),
+    ("0 nic 4104 07", [(1, 16 * 24 + 8, 0x103)], "0 nic 0000000000001008 1 dropped at 0000000000001008: bad entry"),
+    ("0 nic 4104 07", [(0, 0, 0)], "0 nic 0000000000001008 1 dropped at 0000000000001008: no table"),
+    ("0 nic 4104 07", [(1, 16 * 24, 0)], "0 nic 0000000000001008 1 dropped at 0000000000001008: no table"),
+    ("0 nic 4104 07", [(3, 0, 0x9003)], "0 nic 0000000000001008 1 dropped at 0000000000001008: no table"),
+    ("1 nic 281474976710655 0707", [(2, 4088, 0x3003), (3, 4088, 0x4003), (4, 4088, 0x5003), (5, 4088, 0x107003)],
+     "1 nic 0000ffffffffffff 2 dropped at 0001000000000000: too high"),
+]
 
 
-class Tables:
-    """The example's file of tables, to be changed."""
-
-    def __init__(self, content):
-        self.content = bytearray(content)
-        self.base = struct.unpack_from("<Q", content, 8)[0]
-
-    def at(self, page, index):
-        """Where the word with this index of a page stands."""
-        return len(self.content) - 6 * PAGE + page * PAGE + 8 * index
-
-    def put(self, page, index, word):
-        """Another word."""
-        struct.pack_into("<Q", self.content, self.at(page, index), word)
-
-    def refer(self, page, index, to, rights=3):
-        """An entry that refers to a page of the tables."""
-        self.put(page, index, self.base + to * PAGE | rights)
-
-    def context(self, source, bus_table=CONTEXT):
-        """A context entry that leads this device and function as nic is led."""
-        self.refer(bus_table, 2 * source, HIGHEST, 1)
-        self.put(bus_table, 2 * source + 1, 2)
-
-    def named(self, old, new):
-        """Another device in the list."""
-        self.content[:] = self.content.replace(old, new, 1)
+def spoiled(tables, words, begin=PAGES):
+    """The file with these words of eight bytes, by page and place."""
+    tables = bytearray(tables)
+    for page, place, word in words:
+        struct.pack_into("<Q", tables, begin + 4096 * page + place, word)
+    return bytes(tables)
 
 
-# what is changed in the tables of the example, and the fault that is told then; None where there is none. The walk of docs/dma.md by hand
-VERDICTS = (
-    ("nothing", lambda t: None, None),
-    ("the window leads to the page below buf", lambda t: t.put(LOWEST, 1, BUF - PAGE | 3), "leak 00:03.0 0000000000001000"),
-    ("one page more is mapped", lambda t: t.put(LOWEST, 2, BUF | 3), "leak 00:03.0 0000000000002000"),
-    ("the window leads out of the image's memory", lambda t: t.put(LOWEST, 1, 0x8000_0000 | 3), "outside 00:03.0 0000000000001000"),
-    ("nothing is mapped", lambda t: t.put(LOWEST, 1, 0), "lacks 00:03.0 0000000000001000"),
-    ("reads get nowhere", lambda t: t.put(LOWEST, 1, BUF | 2), "lacks 00:03.0 0000000000001000"),
-    ("writes get nowhere", lambda t: t.put(LOWEST, 1, BUF | 1), "lacks 00:03.0 0000000000001000"),
-    ("a bit is set that isn't defined", lambda t: t.put(LOWEST, 1, BUF | 3 | 1 << 7), "lacks 00:03.0 0000000000001000"),
-    ("the device has no context entry", lambda t: t.put(CONTEXT, 2 * NIC, 0), "lacks 00:03.0 0000000000001000"),
-    ("the bus has no context table", lambda t: t.put(ROOT, 0, 0), "lacks 00:03.0 0000000000001000"),
-    ("a device that the policy hasn't", lambda t: t.context(0), "leak 00:00.0 0000000000001000"),
-    ("another function of the device", lambda t: t.context(NIC + 1), "leak 00:03.1 0000000000001000"),
-    ("the last function of the last device", lambda t: t.context(255), "leak 00:1f.7 0000000000001000"),
-    ("another bus has the same context table", lambda t: t.refer(ROOT, 2, CONTEXT, 1), "twice 01:00.0 0000000000000000"),
-    ("a table is met on two paths", lambda t: t.refer(HIGHEST, 1, SECOND), "twice 00:03.0 0000008000000000"),
-    ("a table refers to itself", lambda t: t.refer(LOWEST - 1, 1, THIRD), "twice 00:03.0 0000000000200000"),
-    ("a table refers to the root table", lambda t: t.refer(SECOND, 511, ROOT), "twice 00:03.0 0000007fc0000000"),
-    ("a table refers to a page behind the file", lambda t: t.refer(HIGHEST, 511, 6), "outside 00:03.0 0000ff8000000000"),
-    ("the list has another name", lambda t: t.named(b"nic", b"nik"), "device nik"),
-    ("the list has another function", lambda t: t.named(bytes([0, NIC]), bytes([0, NIC + 1])), "device nic"),
-)
+def random_system(draw):
+    """A policy with one to five devices, of which some stand in domains with small windows anywhere and at edges of tables."""
+    sources = sorted(draw.sample(range(65536), draw.randrange(1, 6)))
+    if draw.random() < 0.5:
+        sources = sorted({source & 0x3ff for source in sources})
+    devices = [{"name": f"d{at}", "bdf": {"bus": source >> 8, "device": source >> 3 & 31, "function": source & 7}} for at, source in enumerate(sources)]
+    names, regions, domains = [device["name"] for device in devices], [], []
+    draw.shuffle(names)
+    while names:
+        owners, names = names[:draw.randrange(1, 3)], names[draw.randrange(1, 4):]
+        names = [name for name in names if name not in owners]
+        windows, address = [], 0
+        for _ in range(draw.randrange(1, 4)):
+            size = 4096 * draw.choice([1, 1, 2, 3])
+            address += draw.choice([0, 4096, (1 << 21) - 4096, 1 << 30, (1 << 39) - 8192])
+            region = f"r{len(regions)}"
+            regions.append({"name": region, "size": size})
+            windows.append({"region": region, "virtualAddress": address, "rights": draw.choice(["r", "rw"])})
+            address += size
+        domains.append({"name": f"g{len(domains)}", "devices": owners, "memory": windows})
+    return {"processor": {"logicalCpus": 1}, "memoryBlocks": [{"name": "ram", "physicalAddress": draw.choice([1 << 20, 0, 1 << 32]), "size": 1 << 20}],
+            "devices": devices, "memory": [{"name": "code", "size": 4096, "content": {"hex": "1700000000000000"}}, *regions],
+            "subjects": [{"name": "one", "cpu": 0, "entry": 1 << 22, "memory": [{"region": "code", "virtualAddress": 1 << 22, "rights": "rx"}]}],
+            "scheduling": {"groups": [{"name": "g", "cpu": 0, "subjects": ["one"]}], "majorFrames": [{"cpus": [{"cpu": 0, "minorFrames": [{"group": "g", "ticks": 10}]}]}]},
+            "deviceDomains": domains}
 
-# what is changed, the lines `dma` of a record behind their ticks, and what is told of each
-LINES = (
-    ("nothing", lambda t: None, ("nic 4104 0700", "nic 8191 0707", "nic 8190 0707"),
-     ("0000000000001008 2 0000000000107008 2 buf", "0000000000001fff 2 dropped at 0000000000002000: not present", "0000000000001ffe 2 0000000000107ffe 2 buf")),
-    ("two pages", lambda t: t.put(LOWEST, 2, BUF | 3), ("nic 8191 0707",), ("0000000000001fff 2 0000000000107fff 1 buf 0000000000107000 1 buf",)),
-    ("the right to read alone", lambda t: t.put(LOWEST, 1, BUF | 1), ("nic 4096 07",), ("0000000000001000 1 dropped at 0000000000001000: no right",)),
-    ("a bit that isn't defined", lambda t: t.put(LOWEST, 1, BUF | 3 | 1 << 7), ("nic 4096 07",), ("0000000000001000 1 dropped at 0000000000001000: bad entry",)),
-    ("no context table", lambda t: t.put(ROOT, 0, 0), ("nic 4096 07",), ("0000000000001000 1 dropped at 0000000000001000: no table",)),
-    ("out of the image's memory", lambda t: t.put(LOWEST, 1, 0x8000_0000 | 3), ("nic 4097 07",), ("0000000000001001 1 dropped at 0000000000001001: outside",)),
-    ("another device in the list", lambda t: t.named(b"nic", b"nik"), ("nic 4096 07",), ("0000000000001000 1 dropped at 0000000000001000: no device",)),
-)
+
+def damaged(draw, tables, devices):
+    """The file with another word: an entry that is there or its neighbour is changed, or refers elsewhere."""
+    begin = 24 + 68 * devices
+    words = list(struct.unpack_from(f"<{(len(tables) - begin) // 8}Q", tables, begin))
+    at = draw.choice([at for at, word in enumerate(words) if word])
+    base, = struct.unpack_from("<Q", tables, 8)
+    other = base + 4096 * draw.randrange(len(words) // 512 + 1)
+    value = draw.choice([0, words[at] ^ 1, words[at] ^ 2, words[at] ^ 1 << draw.randrange(64), words[at] & 4095 | other, words[at] & 4095 | draw.randrange(1 << 28) << 12])
+    words[draw.choice([at, at, min(at + draw.choice([1, 2, 300]), len(words) - 1)])] = value
+    return tables[:begin] + struct.pack(f"<{len(words)}Q", *words)
+
+
+class Devices(Calls):
+    """Calls of muen_dma in a folder that is each test's own."""
+
+    def dma(self, words, status, out, line=""):
+        """A call ends with this status, output and line of errors: a sub-case."""
+        with self.subTest(words):
+            want(self.asked(words), (status, out, f"muen_dma: {line}\n" if line else ""), words)
+
+    def asked(self, words):
+        """The status and the streams of a call."""
+        done = call([DEVICES_PROGRAM, *words.split()], self.folder)
+        return done.returncode, done.stdout.decode(), done.stderr.decode()
+
+    def built(self, policy):
+        """What `build` writes of a document: the tables."""
+        self.file("p").write_text(policy, encoding="utf-8")
+        want(call([PROGRAM, "build", "p", "i", "t"], self.folder).stderr, b"", "build")
+        return self.file("t").read_bytes()
+
+    def file(self, name):
+        """A file of the folder."""
+        return pathlib.Path(self.folder, name)
+
+    def searched(self):
+        """The verdict that the search comes to."""
+        return verdict(Policy(document_in_shape(str(self.file("p")))), read_image(str(self.file("i"))), read_dma(str(self.file("t"))))
+
+    def judged(self, wanted, why):
+        """The program comes to this verdict, and so does the search."""
+        with self.subTest(why):
+            want(self.searched(), wanted, "the search's verdict")
+            want(self.asked("verify i p t"), (0, "sound\n", "") if wanted == "sound" else (9, "", f"muen_dma: {wanted}\n"), "the program's")
+
+
+def example(name):
+    """The text of an example's policy."""
+    return (EXAMPLES / f"{name}.json").read_text(encoding="utf-8")
 
 
 @with_program
 @with_devices
-class Devices(Case):
-    """On the example whose pages docs/dma.md has."""
+class Verdicts(Devices):
+    """`verify`."""
 
-    @classmethod
-    def setUpClass(cls):
-        cls.holder = tempfile.TemporaryDirectory()
-        cls.addClassCleanup(cls.holder.cleanup)
-        cls.folder = pathlib.Path(cls.holder.name)
-        for name in ("device_domains", "descriptor_ring"):
-            done = call([PROGRAM, "build", EXAMPLES / f"{name}.json", cls.folder / f"{name}.image", cls.folder / f"{name}.dma"])
-            want((done.returncode, done.stderr), (0, b""), f"build of {name}")
-        cls.image, cls.dma = cls.folder / "device_domains.image", cls.folder / "device_domains.dma"
+    @each((f"muen_dma on the tables of {name}", name) for name in (NIC, RING))
+    def test_example(self, name):
+        """What `build` writes is sound, and its windows are these; the tables of the other example aren't."""
+        self.built(example(name))
+        self.judged("sound", "its own tables")
+        self.dma("map p", 0, WINDOWS[name])
+        other = RING if name == NIC else NIC
+        tables = self.file("t").read_bytes()
+        self.built(example(other))
+        self.file("t").write_bytes(tables)
+        self.judged(f"not sound: device {'nic' if name == NIC else 'card'}", "tables of another policy")
 
-    def told(self, words, status, out, line=""):
-        """A call, with its status, its output, and its line on standard error."""
-        done = call([DEVICES_PROGRAM, *words])
-        self.want((done.returncode, done.stdout.decode(), done.stderr.decode()), (status, out, f"muen_dma: {line}\n" if line else ""), f"{words}")
+    def test_spoiled(self):
+        """Words of tables that are changed."""
+        tables = self.built(example(NIC))
+        for words, line in SPOILED:
+            self.file("t").write_bytes(spoiled(tables, words))
+            self.judged("sound" if line is None else f"not sound: {line}", str(words))
 
-    def changed(self, change):
-        """The example's tables with a change."""
-        tables = Tables(self.dma.read_bytes())
-        change(tables)
-        file = self.folder / "changed.dma"
-        file.write_bytes(tables.content)
-        return file
-
-    @each((f"the verdict where {title}", change, fault) for title, change, fault in VERDICTS)
-    def test_verdict(self, change, fault):
-        """The first fault of tables that were changed by hand."""
-        words = ["verify", self.image, POLICY, self.changed(change)]
-        if fault is None:
-            self.told(words, 0, "sound\n")
-        else:
-            self.told(words, 9, "", f"not sound: {fault}")
-
-    @each((f"lines where there is {title}", change, lines, outcomes) for title, change, lines, outcomes in LINES)
-    def test_lines(self, change, lines, outcomes):
-        """What each line of a record did."""
-        record = self.folder / "lines.record"
-        record.write_text("".join(f"dma {tick} {line}\n" for tick, line in enumerate(lines)) + f"end {len(lines)}\n", encoding="ascii")
-        self.told(["lines", self.image, record, self.changed(change)], 0, "".join(f"{tick} nic {outcome}\n" for tick, outcome in enumerate(outcomes)))
-
-    def test_other_rights(self):
-        """Tables of a policy whose window has another right: one more is a leak, one less is missing."""
-        policy, image, dma = (self.folder / f"reads.{kind}" for kind in ("json", "image", "dma"))
-        document = json.loads(POLICY.read_text(encoding="utf-8"))
-        document["deviceDomains"][0]["memory"][0]["rights"] = "r"
-        policy.write_text(json.dumps(document), encoding="utf-8")
-        self.want(call([PROGRAM, "build", policy, image, dma]).returncode, 0, "build")
-        self.told(["verify", image, policy, dma], 0, "sound\n")
-        self.told(["verify", image, policy, self.dma], 9, "", "not sound: leak 00:03.0 0000000000001000")
-        self.told(["verify", self.image, POLICY, dma], 9, "", "not sound: lacks 00:03.0 0000000000001000")
+    def test_listing(self):
+        """A list of devices that lacks one, that has another name, another place, or one more."""
+        tables = self.built(example(NIC))
+        name = tables[24:92]
+        for count, entries, line in ((0, b"", "device nic"), (1, name.replace(b"nic", b"nib"), "device nib"),
+                                     (1, name[:64] + b"\0\x19\0\0", "device nic"), (2, name + name.replace(b"nic", b"two"), "device two")):
+            self.file("t").write_bytes(tables[:20] + bytes([count, 0, 0, 0]) + entries + tables[92:])
+            self.judged(f"not sound: {line}", line)
 
     def test_other_policy(self):
-        """Of another policy the list tells the first device, before any table is walked; its own are sound."""
-        ring, dma = self.folder / "descriptor_ring.image", self.folder / "descriptor_ring.dma"
-        self.told(["verify", ring, EXAMPLES / "descriptor_ring.json", dma], 0, "sound\n")
-        self.told(["verify", self.image, POLICY, dma], 9, "", "not sound: device card")
-        self.told(["verify", ring, EXAMPLES / "descriptor_ring.json", self.dma], 9, "", "not sound: device nic")
+        """Tables of the same device with a window that lies elsewhere, is longer, or may be written."""
+        for old, new, line in (('"16#1000#","rights":"rw"}]}]}', '"16#2000#","rights":"rw"}]}]}', "lacks 00:03.0 0000000000001000"),
+                               ('"16#1000#","rights":"rw"}]}]}', '"16#1000#","rights":"r"}]}]}', "lacks 00:03.0 0000000000001000"),
+                               ('"device":3', '"device":4', "device nic")):
+            text = example(NIC)
+            want(text.count(old), 1, old)
+            tables = self.built(text.replace(old, new))
+            self.built(text)
+            self.file("t").write_bytes(tables)
+            self.judged(f"not sound: {line}", new)
 
-    def test_map(self):
-        """The windows of the example, and of a policy without domains."""
-        self.told(["map", POLICY], 0, (TOP / "crates" / "muen_dma" / "stdout").read_text(encoding="ascii"))
-        self.told(["map", EXAMPLES / "one_subject.json"], 0, "")
+    @each((f"muen_dma on random system {seed}", seed) for seed in RANDOM)
+    def test_random(self, seed):
+        """What is built of a random system is sound, and of a damaged file the verdict is the search's."""
+        draw = random.Random(seed)
+        tables = self.built(json.dumps(random_system(draw)))
+        self.judged("sound", f"system {seed}")
+        self.file("t").write_bytes(damaged(draw, tables, tables[20]))
+        self.judged(self.searched(), f"system {seed}, damaged")
+
+
+@with_program
+@with_devices
+class Lines(Devices):
+    """`lines`, and what all commands answer."""
+
+    def test_lines(self):
+        """Where a line writes, and each reason for which one is dropped."""
+        document = json.loads(example(NIC))
+        document["devices"].append({"name": "card"})
+        tables = self.built(json.dumps(document))
+        for number, (line, words, told) in enumerate(LINES):
+            self.file("r").write_text(f"dma {line}\nend 3\n", encoding="ascii")
+            self.file("t").write_bytes(spoiled(tables, words))
+            with self.subTest(f"line {number}"):
+                want(self.asked("lines i r t"), (0, f"{told}\n", ""), line)
+        self.file("t").write_bytes(tables)
+        self.file("r").write_text("dma 0 card 4104 07\ndma 2 nic 4104 07\nend 3\n", encoding="ascii")
+        self.dma("lines i r t", 0, "0 card 0000000000001008 1 dropped at 0000000000001008: no device\n2 nic 0000000000001008 1 0000000000107008 1 buf\n")
+
+    def test_statuses(self):
+        """Each status with its line."""
+        tables = self.built(example(NIC))
+        self.file("none").write_text("end 3\n", encoding="ascii")
+        self.file("bad").write_text("irq 0 nic rx\nend 3\n", encoding="ascii")
+        self.file("odd").write_bytes(spoiled(tables, [(5, 8, 0)]))
+        with self.file("large").open("wb") as large:
+            large.truncate((64 << 20) + 1)
+        image = self.file("i").read_bytes()
+        self.file("other").write_text(example(NIC).replace('"entry":"16#0040_0000#"', '"entry":"16#0040_0008#"'), encoding="utf-8")
+        self.file("cut").write_bytes(image[:-1])
+        for words in ("", "verify i p", "lines i r", "map", "maps p", "map p p", "flows", "verify i p t t"):
+            self.dma(words, 1, "", USAGE)
+        for words, status, line in (
+                ("map i", 2, "not JSON"), ("flows i", 2, "not JSON"), ("verify i i t", 2, "not JSON"), ("map nothing", 3, "missing file nothing"), ("verify nothing p t", 3, "missing file nothing"),
+                ("verify i nothing t", 3, "missing file nothing"), ("verify i p nothing", 3, "missing file nothing"), ("lines i none nothing", 3, "missing file nothing"),
+                ("lines i nothing t", 3, "missing file nothing"), ("verify i p large", 3, "file large has 67108865 bytes"), ("lines i none large", 3, "file large has 67108865 bytes"),
+                ("verify p p t", 5, "image refused at 0: magic"), ("lines p none t", 5, "image refused at 0: magic"), ("lines i bad t", 6, "record refused at line 1: unknown"),
+                ("verify i other t", 9, "not sound: section f one"), ("verify i p odd", 9, "not sound: lacks 00:03.0 0000000000001000"),
+                ("verify i p p", 10, "dma refused at 0: magic"), ("lines i none p", 10, "dma refused at 0: magic"), ("lines i nothing p", 10, "dma refused at 0: magic"),
+                ("verify cut p t", 5, f"image refused at {len(image) - 1}: short"), ("verify i other p", 9, "not sound: section f one")):
+            self.dma(words, status, "", line)
+        self.dma("lines i none t", 0, "")
+        self.dma("verify i p t", 0, "sound\n")
 
     def test_flows(self):
         """Of each example the sets hold those of muen flows, and are the same where there is no device."""
@@ -158,19 +263,3 @@ class Devices(Case):
                     want(through, declared, "flows without devices")
                 want([set(line.split(" ")) <= set(more.split(" ")) and line.split(" ")[:3] == more.split(" ")[:3] for line, more in zip(declared, through, strict=True)],
                      [True] * len(declared), "sets that hold the declared ones")
-
-    def test_statuses(self):
-        """Each status, with its line."""
-        for words in ([], ["verify", self.image, POLICY], ["lines", self.image, POLICY], ["map"], ["maps", POLICY]):
-            self.told(words, 1, "", USAGE)
-        self.told(["map", EXAMPLES / "device_domains.record"], 2, "", "not JSON")
-        self.told(["map", "nothing.json"], 3, "", "missing file nothing.json")
-        self.told(["map", "."], 4, "", "file fault")
-        self.told(["verify", POLICY, POLICY, self.dma], 5, "", "image refused at 0: magic")
-        self.told(["lines", self.image, POLICY, self.dma], 6, "", "record refused at line 1: word")
-        self.told(["verify", self.folder / "descriptor_ring.image", POLICY, "nothing"], 9, "", call([PROGRAM, "verify", self.folder / "descriptor_ring.image", POLICY]).stderr.decode()[6:-1])
-        self.told(["verify", self.image, POLICY, POLICY], 10, "", "dma refused at 0: magic")
-        self.told(["verify", self.image, POLICY, "nothing"], 3, "", "missing file nothing")
-        done = call(["bash", "-c", '"$0" map "$1" > /dev/full', DEVICES_PROGRAM, POLICY])
-        self.want((done.returncode, done.stderr), (7, b"muen_dma: output fault\n"), "an output that fails")
-
