@@ -1,15 +1,20 @@
-"""The checks of what share/look lint tells: faults, and warnings by their names, those that are silenced, and of programs."""
+"""The checks of what share/look lint tells: refusals, also of policies changed by chance; warnings by their names, those that are silenced, and of programs."""
 import contextlib
+import copy
 import json
+import os
 import pathlib
+import random
 import re
 import tempfile
+from concurrent.futures import ProcessPoolExecutor
 
-from checking import EXAMPLES, TOP, Case, each, looked, said, want, with_linter
-from checking_examples import REFUSED, RUNNING
+from checking import EXAMPLES, PROGRAM, TOP, Case, call, each, looked, said, want, with_linter, with_program
+from checking_examples import REFUSED, RUNNING, values
 from checking_look import offsets, spread, told_by_look
 from checking_ring import CODE, word
 from checking_rules import POLICY, changed
+from looking.refused import refusals
 
 # a subject more in the policy of docs/rules.md, whose group has no ticks
 IDLE = [
@@ -195,3 +200,61 @@ class Lint(Case):
         named = {one for row in re.findall(r"(?m)^\| (`.*?) \|", section) for one in re.findall(r"`([a-z-]+)`", row)}
         code = "".join((TOP / "share" / "looking" / f"{file}.py").read_text(encoding="utf-8") for file in ("hints", "hints_code"))
         self.want(set(re.findall(r'Hint\("([a-z-]+)"', code)), named, "the names")
+
+
+# ---- policies changed by chance
+
+SEEDS, NUMBERS, OTHERS = 2000, (0, 1, 2, 31, 33, 64, 4096, 4097, 2**21, 2**40, 2**48), ("", "r", "rwx", "16#1000#", "0x10", None, [], {}, -1, 2**64)
+SMALL = [POLICY, *(text for name in RUNNING if len(text := (EXAMPLES / name).read_text(encoding="utf-8")) < 20_000)]
+
+
+def change(document, chance):
+    """Changes a document at one place, mostly to what the schema lets stand there."""
+    places = [(above, step) for above in values(document) if isinstance(above, (dict, list)) for step in (above if isinstance(above, dict) else range(len(above)))]
+    above, step = chance.choice(places)
+    like = [other[at] for other, at in places if at == step and isinstance(other[at], type(above[step]))]
+    way = chance.randrange(20)
+    if way == 19:
+        del above[step]
+    elif way == 18:
+        above[step] = chance.choice(OTHERS)
+    elif way > 12 and isinstance(above, list):
+        above.insert(step, copy.deepcopy(above[step]))
+    elif way > 8 and isinstance(above[step], int):
+        above[step] = chance.choice(NUMBERS)
+    else:
+        above[step] = copy.deepcopy(chance.choice(like))
+
+
+def mutated(seed):
+    """A policy with up to three changes, now and then without one of its characters."""
+    chance = random.Random(seed)
+    document = json.loads(chance.choice(SMALL))
+    for _ in range(chance.randint(1, 3)):
+        change(document, chance)
+    text = json.dumps(document)
+    cut = chance.randrange(len(text)) if chance.random() < 0.05 else len(text)
+    return text[:cut] + text[cut + 1:]
+
+
+def answers(seed):
+    """Of a policy the status of `build`, its line, the first line of muen_lint, and how many refusals there are."""
+    with tempfile.TemporaryDirectory() as folder:
+        file = pathlib.Path(folder, "policy.json")
+        file.write_text(mutated(seed), encoding="utf-8")
+        done, (_, found) = call([PROGRAM, "build", file, "/dev/null"], folder), refusals(str(file))
+    return done.returncode, done.stderr.decode().rstrip("\n"), f"muen: {found[0].line}" if found else "", len(found)
+
+
+@with_program
+@with_linter
+class Mutated(Case):
+    """What muen_lint tells of policies changed by chance, and where and why by share/look."""
+
+    def test_first(self):
+        """The first line is that of `build`, none where an image is written; a place and a cause are found for each."""
+        with ProcessPoolExecutor(os.cpu_count()) as pool:
+            found = list(pool.map(answers, range(SEEDS), chunksize=50))
+        for seed, (status, line, first, count) in enumerate(found):
+            want((status in (0, 2, 3), status == 0, line), (True, count == 0, first), f"policy {seed}")
+        self.want(min(sum(count == least for *_, count in found) for least in (0, 1, 2)) > 50, True, "how many are refused for so much")
