@@ -249,7 +249,7 @@ class Lines(Devices):
                 ("verify p p t", 5, "image refused at 0: magic"), ("lines p none t", 5, "image refused at 0: magic"), ("lines i bad t", 6, "record refused at line 1: unknown"),
                 ("verify i other t", 9, "not sound: section f one"), ("verify i p odd", 9, "not sound: lacks 00:03.0 0000000000001000"),
                 ("verify i p p", 10, "dma refused at 0: magic"), ("lines i none p", 10, "dma refused at 0: magic"), ("lines i nothing p", 10, "dma refused at 0: magic"),
-                ("verify cut p t", 5, f"image refused at {len(image) - 1}: short"), ("verify i other p", 9, "not sound: section f one")):
+                ("verify cut p t", 5, f"image refused at {len(image) - 4096}: short"), ("verify i other p", 9, "not sound: section f one")):
             self.dma(words, status, "", line)
         self.dma("lines i none t", 0, "")
         self.dma("verify i p t", 0, "sound\n")
