@@ -1,6 +1,6 @@
 //! Tables for direct memory access whose verdict has no fault fit.
 //!
-//! The function here carries this law; no command calls it yet.
+//! The function here carries this law, by which `muen_dma_twice` of `dma_top` goes.
 #![tactic(auto)]
 
 ghost use Rattle.proof_dma.specs.Laws.{FaultlessTablesFit};
